@@ -1,0 +1,20 @@
+-- The Debug text of credentials, which depends on neither the secret nor the session token.
+use Rattle.std.specs.Prelude.{ℕ, List, [], ◌++◌, Option, Some, None, codes}
+use Rattle.std.specs.Str.{encode_utf8_all}
+use Rattle.std.specs.Fmt.{decimal, signed_decimal}
+use Rattle.cfg_types.specs.Moment.{Moment}
+
+-- when they expire
+abbrev pub shown_expiry : Option Moment → List ℕ
+shown_expiry None = codes "never"
+shown_expiry (Some end) = signed_decimal end.seconds ++ (codes " s " ++ (decimal end.nanos ++ codes " ns"))
+
+-- the account, where it is known
+abbrev pub shown_account : Option (List ℕ) → List ℕ
+shown_account None = []
+shown_account (Some id) = codes ", account_id: \"" ++ (encode_utf8_all id ++ codes "\"")
+
+abbrev pub shown_credentials : List ℕ → List ℕ → Option Moment → Option (List ℕ) → List ℕ
+shown_credentials provider id expiry account =
+    codes "Credentials { provider_name: \"" ++ (encode_utf8_all provider ++ (codes "\", access_key_id: \"" ++ (encode_utf8_all id
+    ++ (codes "\", secret_access_key: \"** redacted **\", expires_after: " ++ (shown_expiry expiry ++ (shown_account account ++ codes " }"))))))

@@ -1,0 +1,353 @@
+// Credentials and how they are put together.
+ghost use Rattle.std.specs.Prelude.{◌≡◌, IfOk, Some, None, [], Option, option_map};
+ghost use Rattle.std.specs.Str.{encode_utf8_all};
+ghost use Rattle.cfg_types.specs.Text.{characters};
+
+use crate::copies::{TryCopy, copy_option};
+use crate::instant::Instant;
+use crate::memory::OutOfMemory;
+use crate::seq::Seq;
+use crate::text::Text;
+use std::alloc::Global;
+use std::fmt;
+use std::marker::Model;
+
+/// The id of an account. Any text is one. Contracts see its characters.
+#[derive(Debug, PartialEq, Eq, Drop)]
+pub struct AccountId {
+    id: Text,
+}
+
+impl Model for AccountId {
+    ghost use Rattle.std.specs.Prelude.{List, ℕ};
+
+    ghost Value = { List ℕ };
+
+    ghost view = { λ a. a.id };
+
+    ghost inverse = { λ id. record { id = id } };
+}
+
+impl AccountId {
+    /// The account of this id.
+    pub fn new(alloc: Global, text: &str) -> Result<AccountId, OutOfMemory>
+        ensures { IfOk result (λ account. account ≡ characters text.now) }
+    {
+        Ok(AccountId {
+            id: Text::of(alloc, text)?,
+        })
+    }
+
+    /// The id, lent.
+    pub fn as_str(&self) -> &str
+        ensures chars { characters result.now ≡ self.now }
+        ensures bytes { result.now ≡ encode_utf8_all self.now }
+    {
+        self.id.as_str()
+    }
+}
+
+impl TryCopy for AccountId {
+    fn copy(&self, alloc: Global) -> Result<AccountId, OutOfMemory> {
+        Ok(AccountId {
+            id: self.id.copy(alloc)?,
+        })
+    }
+}
+
+/// Where credentials came from, as the SDK counts it in its user agent.
+#[derive(Clone, Copy, Debug, PartialEq, Eq)]
+pub enum AwsCredentialFeature {
+    CredentialsEnvVars,
+    CredentialsProcess,
+    CredentialsHttp,
+    CredentialsProfileStsWebIdToken,
+    CredentialsImds,
+    CredentialsSso,
+    CredentialsProfileLogin,
+    CredentialsProfile,
+    CredentialsStsAssumeRole,
+}
+
+impl TryCopy for AwsCredentialFeature {
+    fn copy(&self, _: Global) -> Result<AwsCredentialFeature, OutOfMemory> {
+        Ok(*self)
+    }
+}
+
+/// Keys that sign requests, with what is known of them.
+#[derive(PartialEq, Eq)]
+pub struct Credentials {
+    access_key_id: Text,
+    secret_access_key: Text,
+    session_token: Option<Text>,
+    expiry: Option<Instant>,
+    account_id: Option<AccountId>,
+    provider_name: Text,
+    features: Seq<AwsCredentialFeature>,
+}
+
+impl Model for Credentials {
+    ghost use Rattle.cfg_types.specs.Keys.{Keys};
+
+    ghost Value = { Keys };
+
+    ghost view = { λ c. record {
+      access_key_id = c.access_key_id;
+      secret_access_key = c.secret_access_key;
+      session_token = c.session_token;
+      expiry = c.expiry;
+      account_id = c.account_id;
+      provider_name = c.provider_name;
+      features = c.features;
+    } };
+
+    ghost inverse = { λ k. record {
+      access_key_id = k.access_key_id;
+      secret_access_key = k.secret_access_key;
+      session_token = k.session_token;
+      expiry = k.expiry;
+      account_id = k.account_id;
+      provider_name = k.provider_name;
+      features = k.features;
+    } };
+}
+
+// A call, and not the cases of its fields, where a caller lets credentials go.
+impl Drop for Credentials {
+    fn drop(self) {
+        let Credentials {
+            access_key_id: _,
+            secret_access_key: _,
+            session_token: _,
+            expiry: _,
+            account_id: _,
+            provider_name: _,
+            features: _,
+        } = self;
+    }
+}
+
+impl Credentials {
+    /// The id of the access key.
+    pub fn access_key_id(&self) -> &str
+        ensures { characters result.now ≡ self.now.access_key_id }
+    {
+        self.access_key_id.as_str()
+    }
+
+    /// The secret of the access key.
+    pub fn secret_access_key(&self) -> &str
+        ensures { characters result.now ≡ self.now.secret_access_key }
+    {
+        self.secret_access_key.as_str()
+    }
+
+    /// The session token, where there is one.
+    pub fn session_token(&self) -> Option<&str>
+        ensures { option_map (λ t. characters t.now) result ≡ self.now.session_token }
+    {
+        match &self.session_token {
+            None => None,
+            Some(token) => Some(token.as_str()),
+        }
+    }
+
+    /// When the credentials expire, where they do.
+    pub fn expiry(&self) -> Option<Instant>
+        ensures { result ≡ self.now.expiry }
+    {
+        self.expiry
+    }
+
+    /// The account that they belong to, where it is known.
+    pub fn account_id(&self) -> Option<&AccountId>
+        ensures { option_map (λ a. a.now) result ≡ self.now.account_id }
+    {
+        self.account_id.as_ref()
+    }
+
+    /// The name of the provider that gave them.
+    pub fn provider_name(&self) -> &str
+        ensures { characters result.now ≡ self.now.provider_name }
+    {
+        self.provider_name.as_str()
+    }
+
+    /// Where they came from.
+    pub fn features(&self) -> &[AwsCredentialFeature]
+        ensures { result.now ≡ self.now.features }
+    {
+        self.features.as_slice()
+    }
+}
+
+// The text depends on neither the secret nor the session token.
+impl fmt::Debug for Credentials {
+    ghost use Rattle.std.specs.Prelude.{Some};
+    ghost use Rattle.cfg_types.specs.Shown.{shown_credentials};
+
+    ghost debug_output = { λ c. Some (shown_credentials c.provider_name c.access_key_id c.expiry c.account_id) };
+
+    fn fmt<W: fmt::Write>(&self, f: &mut fmt::Formatter<W>) -> fmt::Result {
+        let provider = self.provider_name.as_str();
+        let id = self.access_key_id.as_str();
+        let end = ShownExpiry(self.expiry);
+        let account = ShownAccount(&self.account_id);
+        write!(
+            f,
+            "Credentials {{ provider_name: \"{provider}\", access_key_id: \"{id}\", secret_access_key: \"** redacted **\", expires_after: {end}{account} }}"
+        )
+    }
+}
+
+#[derive(Drop)]
+struct ShownExpiry(Option<Instant>);
+
+impl fmt::Display for ShownExpiry {
+    ghost use Rattle.std.specs.Prelude.{Some};
+    ghost use Rattle.cfg_types.specs.Shown.{shown_expiry};
+
+    ghost output = { λ e. Some (shown_expiry e.0) };
+
+    fn fmt<W: fmt::Write>(&self, f: &mut fmt::Formatter<W>) -> fmt::Result {
+        match self.0 {
+            None => write!(f, "never"),
+            Some(end) => {
+                let seconds = end.seconds();
+                let nanos = end.nanos();
+                write!(f, "{seconds} s {nanos} ns")
+            }
+        }
+    }
+}
+
+#[derive(Drop)]
+struct ShownAccount<'a>(&'a Option<AccountId>);
+
+impl fmt::Display for ShownAccount<'_> {
+    ghost use Rattle.std.specs.Prelude.{Some};
+    ghost use Rattle.cfg_types.specs.Shown.{shown_account};
+
+    ghost output = { λ a. Some (shown_account a.0.now) };
+
+    fn fmt<W: fmt::Write>(&self, f: &mut fmt::Formatter<W>) -> fmt::Result {
+        match self.0 {
+            None => Ok(()),
+            Some(account) => {
+                let id = account.as_str();
+                write!(f, ", account_id: \"{id}\"")
+            }
+        }
+    }
+}
+
+impl TryCopy for Credentials {
+    fn copy(&self, alloc: Global) -> Result<Credentials, OutOfMemory> {
+        let access_key_id = self.access_key_id.copy(alloc)?;
+        let secret_access_key = self.secret_access_key.copy(alloc)?;
+        let session_token = copy_option(alloc, &self.session_token)?;
+        let account_id = copy_option(alloc, &self.account_id)?;
+        let provider_name = self.provider_name.copy(alloc)?;
+        let features = self.features.copy(alloc)?;
+        Ok(Credentials {
+            access_key_id,
+            secret_access_key,
+            session_token,
+            expiry: self.expiry,
+            account_id,
+            provider_name,
+            features,
+        })
+    }
+}
+
+/// Puts credentials together. Each call changes what it is named for, and nothing else. A call that
+/// runs out of memory gives the builder up.
+#[derive(Drop)]
+pub struct CredentialsBuilder {
+    alloc: Global,
+    built: Credentials,
+}
+
+impl Model for CredentialsBuilder {
+    ghost use Rattle.cfg_types.specs.Keys.{Keys};
+
+    ghost Value = { Keys };
+
+    ghost view = { λ b. b.built };
+}
+
+impl CredentialsBuilder {
+    ghost use Rattle.cfg_types.specs.Keys.{bare_keys};
+
+    /// Credentials of these keys, from the provider of this name, and nothing more.
+    pub fn new(
+        alloc: Global,
+        access_key_id: &str,
+        secret_access_key: &str,
+        provider_name: &str,
+    ) -> Result<CredentialsBuilder, OutOfMemory>
+        ensures { IfOk result (λ b. b ≡ bare_keys (characters access_key_id.now) (characters secret_access_key.now) (characters provider_name.now)) }
+    {
+        let access_key_id = Text::of(alloc, access_key_id)?;
+        let secret_access_key = Text::of(alloc, secret_access_key)?;
+        let provider_name = Text::of(alloc, provider_name)?;
+        Ok(CredentialsBuilder {
+            alloc,
+            built: Credentials {
+                access_key_id,
+                secret_access_key,
+                session_token: None,
+                expiry: None,
+                account_id: None,
+                provider_name,
+                features: Seq::of(Vec::new(alloc)),
+            },
+        })
+    }
+
+    /// With this session token.
+    pub fn session_token(self, token: &str) -> Result<CredentialsBuilder, OutOfMemory>
+        ensures { IfOk result (λ b. b ≡ record self { session_token = Some (characters token.now) }) }
+    {
+        let CredentialsBuilder { alloc, mut built } = self;
+        built.session_token = Some(Text::of(alloc, token)?);
+        Ok(CredentialsBuilder { alloc, built })
+    }
+
+    /// With this end.
+    pub fn expiry(self, expiry: Instant) -> CredentialsBuilder
+        ensures { result ≡ record self { expiry = Some expiry } }
+    {
+        let CredentialsBuilder { alloc, mut built } = self;
+        built.expiry = Some(expiry);
+        CredentialsBuilder { alloc, built }
+    }
+
+    /// With this account.
+    pub fn account_id(self, account_id: AccountId) -> CredentialsBuilder
+        ensures { result ≡ record self { account_id = Some account_id } }
+    {
+        let CredentialsBuilder { alloc, mut built } = self;
+        built.account_id = Some(account_id);
+        CredentialsBuilder { alloc, built }
+    }
+
+    /// With these features, in place of those that it had.
+    pub fn features(self, features: Seq<AwsCredentialFeature>) -> CredentialsBuilder
+        ensures { result ≡ record self { features = features } }
+    {
+        let CredentialsBuilder { alloc, mut built } = self;
+        built.features = features;
+        CredentialsBuilder { alloc, built }
+    }
+
+    /// The credentials.
+    pub fn build(self) -> Credentials
+        ensures { result ≡ self }
+    {
+        let CredentialsBuilder { alloc: _, built } = self;
+        built
+    }
+}

@@ -1,0 +1,132 @@
+// Errors of the resolver, each with its cause.
+ghost use Rattle.std.specs.Prelude.{◌≡◌, IfOk};
+ghost use Rattle.cfg_types.specs.declared.errors.CredentialsError.TheVariants as error;
+
+use crate::boxed::Boxed;
+use crate::memory::OutOfMemory;
+use crate::reply::{FailKind, Refusal};
+use crate::seq::Seq;
+use crate::text::Text;
+
+/// What one member of a chain answered.
+#[derive(Drop, Debug, PartialEq, Eq)]
+pub struct ProviderAttempt<E> {
+    name: Text,
+    error: E,
+}
+
+/// What the members of a chain answered, in their order, when none of them was loaded.
+#[derive(Drop, Debug, PartialEq, Eq)]
+pub struct ProviderChainError<E> {
+    attempts: Seq<ProviderAttempt<E>>,
+}
+
+impl<E> ProviderAttempt<E> {
+    /// The attempt of the member of this name.
+    pub fn new(name: Text, error: E) -> ProviderAttempt<E>
+        ensures { result ≡ record { name = name; error = error } }
+    {
+        ProviderAttempt { name, error }
+    }
+
+    /// The member's name.
+    pub fn name(&self) -> &Text
+        ensures { result.now ≡ self.now.name }
+    {
+        &self.name
+    }
+
+    /// What the member answered.
+    pub fn error(&self) -> &E
+        ensures { result.now ≡ self.now.error }
+    {
+        &self.error
+    }
+}
+
+impl<E> ProviderChainError<E> {
+    /// The attempts of a chain.
+    pub fn new(attempts: Seq<ProviderAttempt<E>>) -> ProviderChainError<E>
+        ensures { result ≡ record { attempts = attempts } }
+    {
+        ProviderChainError { attempts }
+    }
+
+    /// The attempts, in the members' order.
+    pub fn attempts(&self) -> &[ProviderAttempt<E>]
+        ensures { result.now ≡ self.now.attempts }
+    {
+        self.attempts.as_slice()
+    }
+}
+
+/// Why a profile gives no credentials.
+#[derive(Drop, Debug, PartialEq, Eq)]
+pub enum ProfileFileError {
+    NoProfilesDefined,
+    ProfileDidNotContainCredentials { profile: Text },
+    InvalidCredentialSource { profile: Text, message: Text },
+    MissingProfile { profile: Text, message: Text },
+    OutOfMemory,
+}
+
+/// Why a provider was not loaded. A chain goes on after such an answer.
+#[cycle(credentials_error)]
+#[derive(Drop, Debug, PartialEq, Eq)]
+pub enum NotLoadedCause {
+    /// The variable of this name is not set, or blank.
+    NotSet(Text),
+    Profile(ProfileFileError),
+    /// No member of a chain was loaded.
+    Chain(ProviderChainError<CredentialsError>),
+}
+
+/// What is wrong with the configuration.
+#[derive(Drop, Debug, PartialEq, Eq)]
+pub enum ConfigCause {
+    Profile(ProfileFileError),
+}
+
+/// What a provider failed at.
+#[cycle(credentials_error)]
+#[derive(Drop, Debug, PartialEq, Eq)]
+pub enum ProviderCause {
+    /// The base of a profile gave no credentials.
+    Base(Boxed<CredentialsError>),
+    /// A role of a profile could not be assumed.
+    Role(Boxed<CredentialsError>),
+    /// A request was not answered.
+    Sent(FailKind),
+    /// A request was refused.
+    Refused(Refusal),
+}
+
+/// What no rule allows for.
+#[derive(Drop, Debug, PartialEq, Eq)]
+pub enum UnhandledCause {
+    /// The variable of this name is not Unicode.
+    NotUnicode(Text),
+    /// A reply of the Security Token Service has no credentials.
+    StsNoCredentials,
+    /// This ARN, of such a reply, names no account.
+    StsArn(Text),
+}
+
+/// Why there are no credentials.
+#[cycle(credentials_error)]
+#[derive(Drop, Debug, PartialEq, Eq)]
+pub enum CredentialsError {
+    CredentialsNotLoaded(NotLoadedCause),
+    InvalidConfiguration(ConfigCause),
+    ProviderError(ProviderCause),
+    Unhandled(UnhandledCause),
+    OutOfMemory,
+}
+
+impl From<OutOfMemory> for CredentialsError {
+    ghost from_gives = { λ _ e. e ≡ error.OutOfMemory };
+
+    fn from(_: OutOfMemory) -> CredentialsError {
+        CredentialsError::OutOfMemory
+    }
+}

@@ -1,0 +1,37 @@
+//! Plain data of the credential resolver: texts, moments, the environment, credentials, requests,
+//! replies and every error. It stands on the standard library alone. The layers above may use every
+//! type here as a value: contracts see texts and sequences as lists, and a moment as a number.
+#![tactic(auto)]
+
+pub mod boxed;
+pub mod bytes;
+pub mod copies;
+pub mod credentials;
+pub mod environment;
+pub mod errors;
+pub mod instant;
+pub mod memory;
+pub mod region;
+pub mod reply;
+pub mod request;
+pub mod seq;
+pub mod settings;
+pub mod text;
+
+pub use boxed::Boxed;
+pub use bytes::Bytes;
+pub use copies::{TryCopy, copy_option};
+pub use credentials::{AccountId, AwsCredentialFeature, Credentials, CredentialsBuilder};
+pub use environment::{Env, EnvText, VarError};
+pub use errors::{
+    ConfigCause, CredentialsError, NotLoadedCause, ProfileFileError, ProviderAttempt,
+    ProviderCause, ProviderChainError, UnhandledCause,
+};
+pub use instant::Instant;
+pub use memory::OutOfMemory;
+pub use region::Region;
+pub use reply::{FailKind, Refusal, RefusalKind, Reply, StsCredentials, StsReply};
+pub use request::{AssumeRole, Request, Tag};
+pub use seq::Seq;
+pub use settings::{CallSettings, Timeouts};
+pub use text::Text;

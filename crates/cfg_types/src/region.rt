@@ -1,0 +1,51 @@
+// Names of regions.
+ghost use Rattle.std.specs.Prelude.{◌≡◌, IfOk};
+ghost use Rattle.cfg_types.specs.Text.{characters};
+
+use crate::copies::TryCopy;
+use crate::memory::OutOfMemory;
+use crate::text::Text;
+use std::alloc::Global;
+use std::marker::Model;
+
+/// The name of a region, such as `eu-west-1`. Any text is one. Contracts see its characters.
+#[derive(Debug, PartialEq, Eq, Drop)]
+pub struct Region {
+    name: Text,
+}
+
+impl Model for Region {
+    ghost use Rattle.std.specs.Prelude.{List, ℕ};
+
+    ghost Value = { List ℕ };
+
+    ghost view = { λ r. r.name };
+
+    ghost inverse = { λ name. record { name = name } };
+}
+
+impl Region {
+    /// A region of this name.
+    pub fn new(alloc: Global, text: &str) -> Result<Region, OutOfMemory>
+        ensures { IfOk result (λ region. region ≡ characters text.now) }
+    {
+        Ok(Region {
+            name: Text::of(alloc, text)?,
+        })
+    }
+
+    /// The name, lent.
+    pub fn as_str(&self) -> &str
+        ensures { characters result.now ≡ self.now }
+    {
+        self.name.as_str()
+    }
+}
+
+impl TryCopy for Region {
+    fn copy(&self, alloc: Global) -> Result<Region, OutOfMemory> {
+        Ok(Region {
+            name: self.name.copy(alloc)?,
+        })
+    }
+}

@@ -1,0 +1,114 @@
+// Replies of a transport.
+ghost use Rattle.std.specs.Prelude.{◌≡◌, IfOk};
+
+use crate::copies::{TryCopy, copy_option};
+use crate::instant::Instant;
+use crate::memory::OutOfMemory;
+use crate::text::Text;
+use std::alloc::Global;
+
+/// Why a device failed: a request could not be sent, had no reply in time, had a broken one; or
+/// anything else (files, commands and look-ups fail with `Io` alone).
+#[derive(Clone, Copy, Debug, PartialEq, Eq)]
+pub enum FailKind {
+    Dispatch,
+    Timeout,
+    Broken,
+    Io,
+}
+
+/// What a service refused a call for, as far as the resolver tells refusals apart.
+#[derive(Clone, Copy, Debug, PartialEq, Eq)]
+pub enum RefusalKind {
+    RegionDisabled,
+    MalformedPolicyDocument,
+    InsufficientPermissions,
+    TokenExpired,
+    UserCredentialsChanged,
+    Other,
+}
+
+/// A service's refusal of a call.
+#[derive(Debug, PartialEq, Eq, Drop)]
+pub struct Refusal {
+    pub kind: RefusalKind,
+    pub message: Text,
+}
+
+impl TryCopy for Refusal {
+    fn copy(&self, alloc: Global) -> Result<Refusal, OutOfMemory> {
+        Ok(Refusal {
+            kind: self.kind,
+            message: self.message.copy(alloc)?,
+        })
+    }
+}
+
+/// The credentials of a reply of the Security Token Service.
+#[derive(PartialEq, Eq, Drop)]
+pub struct StsCredentials {
+    pub access_key_id: Text,
+    pub secret_access_key: Text,
+    pub session_token: Text,
+    pub expiration: Instant,
+}
+
+impl TryCopy for StsCredentials {
+    fn copy(&self, alloc: Global) -> Result<StsCredentials, OutOfMemory> {
+        Ok(StsCredentials {
+            access_key_id: self.access_key_id.copy(alloc)?,
+            secret_access_key: self.secret_access_key.copy(alloc)?,
+            session_token: self.session_token.copy(alloc)?,
+            expiration: self.expiration,
+        })
+    }
+}
+
+/// A reply of the Security Token Service.
+#[derive(PartialEq, Eq, Drop)]
+pub struct StsReply {
+    pub credentials: Option<StsCredentials>,
+    /// The ARN of the role's session.
+    pub arn: Option<Text>,
+}
+
+impl TryCopy for StsReply {
+    fn copy(&self, alloc: Global) -> Result<StsReply, OutOfMemory> {
+        Ok(StsReply {
+            credentials: copy_option(alloc, &self.credentials)?,
+            arn: copy_option(alloc, &self.arn)?,
+        })
+    }
+}
+
+/// What a transport gave back for a request.
+#[derive(PartialEq, Eq)]
+pub enum Reply {
+    Sts(StsReply),
+    Refused(Refusal),
+}
+
+// A call, and not the cases, where a caller lets a reply go.
+impl Drop for Reply {
+    fn drop(self) {
+        match self {
+            Reply::Sts(_) => {}
+            Reply::Refused(_) => {}
+        }
+    }
+}
+
+impl TryCopy for Reply {
+    fn copy(&self, alloc: Global) -> Result<Reply, OutOfMemory> {
+        match self {
+            Reply::Sts(reply) => {
+                let reply = reply.copy(alloc)?;
+                Ok(Reply::Sts(reply))
+            }
+            Reply::Refused(refusal) => {
+                let refusal = refusal.copy(alloc)?;
+                Ok(Reply::Refused(refusal))
+            }
+        }
+    }
+}

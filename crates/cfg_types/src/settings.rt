@@ -1,0 +1,39 @@
+// Settings of the calls that are sent.
+ghost use Rattle.std.specs.Prelude.{◌≡◌, IfOk};
+
+use crate::copies::{TryCopy, copy_option};
+use crate::memory::OutOfMemory;
+use crate::region::Region;
+use std::alloc::Global;
+
+/// Limits of time, in milliseconds. None leaves the limit to the transport.
+#[derive(Clone, Copy, Debug, PartialEq, Eq)]
+pub struct Timeouts {
+    pub connect_ms: Option<u64>,
+    pub read_ms: Option<u64>,
+    pub operation_ms: Option<u64>,
+    pub attempt_ms: Option<u64>,
+}
+
+/// How a service is called.
+#[derive(Debug, PartialEq, Eq, Drop)]
+pub struct CallSettings {
+    pub region: Option<Region>,
+    pub use_fips: Option<bool>,
+    pub use_dual_stack: Option<bool>,
+    /// How often a call may be tried in all.
+    pub max_attempts: u32,
+    pub timeouts: Timeouts,
+}
+
+impl TryCopy for CallSettings {
+    fn copy(&self, alloc: Global) -> Result<CallSettings, OutOfMemory> {
+        Ok(CallSettings {
+            region: copy_option(alloc, &self.region)?,
+            use_fips: self.use_fips,
+            use_dual_stack: self.use_dual_stack,
+            max_attempts: self.max_attempts,
+            timeouts: self.timeouts,
+        })
+    }
+}
