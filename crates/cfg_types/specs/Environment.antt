@@ -1,6 +1,6 @@
 -- The environment as a map, and what reading a variable gives.
-use Rattle.std.specs.Prelude.{ℕ, List, [], ◌∷◌, Option, Some, None, Result, Ok, Err, fold, reverse}
-use Rattle.std.specs.FinMap.{get, empty, insert, from_entries}
+use Rattle.std.specs.Prelude.{ℕ, List, Option, Some, None, Result, Ok, Err, fold}
+use Rattle.std.specs.FinMap.{get, empty, insert}
 use Rattle.cfg_types.specs.declared.environment.EnvText.{EnvText}
 use Rattle.cfg_types.specs.declared.environment.EnvText.TheVariants as value
 use Rattle.cfg_types.specs.declared.environment.VarError.{VarError}

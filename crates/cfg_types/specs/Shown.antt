@@ -6,15 +6,18 @@ use Rattle.cfg_types.specs.Moment.{Moment}
 
 -- when they expire
 abbrev pub shown_expiry : Option Moment → List ℕ
-shown_expiry None = codes "never"
-shown_expiry (Some end) = signed_decimal end.seconds ++ (codes " s " ++ (decimal end.nanos ++ codes " ns"))
+shown_expiry None = codes "expires_after: never"
+shown_expiry (Some end) = codes "expires_after: " ++ (signed_decimal end.seconds ++ (codes " s " ++ (decimal end.nanos ++ codes " ns")))
 
 -- the account, where it is known
 abbrev pub shown_account : Option (List ℕ) → List ℕ
 shown_account None = []
 shown_account (Some id) = codes ", account_id: \"" ++ (encode_utf8_all id ++ codes "\"")
 
+-- the provider and the id of the key
+abbrev pub shown_key : List ℕ → List ℕ → List ℕ
+shown_key provider id =
+    codes "provider_name: \"" ++ (encode_utf8_all provider ++ (codes "\", access_key_id: \"" ++ (encode_utf8_all id ++ codes "\", secret_access_key: \"** redacted **\", ")))
+
 abbrev pub shown_credentials : List ℕ → List ℕ → Option Moment → Option (List ℕ) → List ℕ
-shown_credentials provider id expiry account =
-    codes "Credentials { provider_name: \"" ++ (encode_utf8_all provider ++ (codes "\", access_key_id: \"" ++ (encode_utf8_all id
-    ++ (codes "\", secret_access_key: \"** redacted **\", expires_after: " ++ (shown_expiry expiry ++ (shown_account account ++ codes " }"))))))
+shown_credentials provider id expiry account = codes "Credentials { " ++ (shown_key provider id ++ (shown_expiry expiry ++ (shown_account account ++ codes " }")))

@@ -190,13 +190,34 @@ impl fmt::Debug for Credentials {
     ghost debug_output = { λ c. Some (shown_credentials c.provider_name c.access_key_id c.expiry c.account_id) };
 
     fn fmt<W: fmt::Write>(&self, f: &mut fmt::Formatter<W>) -> fmt::Result {
-        let provider = self.provider_name.as_str();
-        let id = self.access_key_id.as_str();
+        let keys = ShownKey {
+            provider: &self.provider_name,
+            id: &self.access_key_id,
+        };
         let end = ShownExpiry(self.expiry);
         let account = ShownAccount(&self.account_id);
+        write!(f, "Credentials {{ {keys}{end}{account} }}")
+    }
+}
+
+#[derive(Drop)]
+struct ShownKey<'a> {
+    provider: &'a Text,
+    id: &'a Text,
+}
+
+impl fmt::Display for ShownKey<'_> {
+    ghost use Rattle.std.specs.Prelude.{Some};
+    ghost use Rattle.cfg_types.specs.Shown.{shown_key};
+
+    ghost output = { λ k. Some (shown_key k.provider.now k.id.now) };
+
+    fn fmt<W: fmt::Write>(&self, f: &mut fmt::Formatter<W>) -> fmt::Result {
+        let provider = self.provider.as_str();
+        let id = self.id.as_str();
         write!(
             f,
-            "Credentials {{ provider_name: \"{provider}\", access_key_id: \"{id}\", secret_access_key: \"** redacted **\", expires_after: {end}{account} }}"
+            "provider_name: \"{provider}\", access_key_id: \"{id}\", secret_access_key: \"** redacted **\", "
         )
     }
 }
@@ -212,11 +233,11 @@ impl fmt::Display for ShownExpiry {
 
     fn fmt<W: fmt::Write>(&self, f: &mut fmt::Formatter<W>) -> fmt::Result {
         match self.0 {
-            None => write!(f, "never"),
+            None => write!(f, "expires_after: never"),
             Some(end) => {
                 let seconds = end.seconds();
                 let nanos = end.nanos();
-                write!(f, "{seconds} s {nanos} ns")
+                write!(f, "expires_after: {seconds} s {nanos} ns")
             }
         }
     }

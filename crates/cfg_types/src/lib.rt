@@ -10,6 +10,7 @@ pub mod credentials;
 pub mod environment;
 pub mod errors;
 pub mod instant;
+pub mod laws;
 pub mod memory;
 pub mod region;
 pub mod reply;

@@ -1,7 +1,6 @@
 -- What the tree has at the name is what the map has there.
-use Rattle.std.proofs.Common.{◌≡◌, ℕ, List, Option, Some, None, Ok, sym, ap, ◌∙◌}
+use Rattle.std.proofs.Common.{Some, Ok, sym, ap, ◌∙◌}
 use Rattle.std.specs.FinMap.{get}
-use Rattle.cfg_types.specs.declared.environment.EnvText.{EnvText}
 use Rattle.cfg_types.specs.Environment.{read_value}
 use Rattle.cfg_types.proofs.VariableLookups.{get-variables_of}
 use Rattle.cfg_types.proofs.environment.Env.get.Goals as goal
