@@ -1,3 +1,3 @@
 pub mod TextLemmas
-pub mod VariableLookups
+pub mod MapLookups
 pub mod InstantOrder

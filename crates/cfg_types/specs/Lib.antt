@@ -1,7 +1,8 @@
 pub mod Text
 pub mod Moment
 pub mod Instant
-pub mod Variables
+pub mod TextMap
+pub mod Entries
 pub mod Environment
 pub mod Keys
 pub mod Shown

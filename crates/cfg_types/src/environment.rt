@@ -1,14 +1,14 @@
 // Environment variables that are handed in.
-ghost use Rattle.std.specs.Prelude.{◌≡◌, IfOk, OnOk, MatchResult, Ok, Err, map, string_bytes};
-ghost use Rattle.std.specs.FinMap.{insert};
+ghost use Rattle.std.specs.Prelude.{◌≡◌, IfOk, MatchResult, Ok, Err, map};
 ghost use Rattle.cfg_types.specs.Text.{characters};
-ghost use Rattle.cfg_types.specs.Variables.{variables_of};
-ghost use Rattle.cfg_types.specs.Environment.{environment_of, named, variable};
+ghost use Rattle.cfg_types.specs.TextMap.{named};
+ghost use Rattle.cfg_types.specs.Entries.{each_set};
+ghost use Rattle.cfg_types.specs.Environment.{variable};
 
 use crate::memory::OutOfMemory;
 use crate::text::Text;
+use crate::text_map::TextMap;
 use std::alloc::Global;
-use std::collections::BTreeMap;
 use std::marker::Model;
 
 /// What a variable is set to. A value that is not Unicode is known to be there, and no more.
@@ -28,28 +28,30 @@ pub enum VarError {
 /// Environment variables. Contracts see the finite map from the names' bytes to what they are set to.
 #[derive(Drop)]
 pub struct Env {
-    variables: BTreeMap<String, EnvText>,
+    variables: TextMap<EnvText>,
 }
 
 impl Model for Env {
-    ghost use Rattle.std.specs.FinMap as finite;
-    ghost use Rattle.cfg_types.specs.Variables.{Variables, variables_code, variables_of};
+    ghost use Rattle.std.specs.Coded.{coded_list};
+    ghost use Rattle.cfg_types.specs.TextMap.{Named, named_code};
+    ghost use Rattle.cfg_types.specs.declared.environment.EnvText.{EnvText};
+    ghost use Rattle.cfg_types.specs.contracts.environment.EnvText.{the_row};
 
-    ghost Value = { Variables };
+    ghost Value = { Named EnvText };
 
-    ghost coded = { variables_code };
+    ghost coded = { named_code the_row.coded };
 
-    ghost view = { λ e. variables_of e.variables.entries };
+    ghost view = { λ e. e.variables };
 }
 
 impl Env {
     /// The variables of a list of names and values. Of two equal names the later counts.
     pub fn new(alloc: Global, vars: Vec<(String, EnvText)>) -> Result<Env, OutOfMemory>
-        ensures { IfOk result (λ env. env ≡ environment_of (map named vars.items)) }
+        ensures { IfOk result (λ env. env ≡ each_set (map named vars.items)) }
     {
-        let mut variables = BTreeMap::new(alloc);
+        let mut variables = TextMap::new(alloc);
         for (name, value) in vars {
-            set(&mut variables, name, value)?;
+            variables.set(name, value)?;
         }
         Ok(Env { variables })
     }
@@ -65,16 +67,4 @@ impl Env {
             Some(EnvText::Text(text)) => Ok(text.as_str()),
         }
     }
-}
-
-// Sets one variable, in place of what the name was set to before.
-fn set(
-    variables: &mut BTreeMap<String, EnvText>,
-    name: String,
-    value: EnvText,
-) -> Result<(), OutOfMemory>
-    ensures { OnOk result (variables_of variables.new.entries ≡ insert (variables_of variables.old.entries) (string_bytes name) value) }
-{
-    let _before = variables.insert(name, value)?;
-    Ok(())
 }

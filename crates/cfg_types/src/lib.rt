@@ -18,6 +18,7 @@ pub mod request;
 pub mod seq;
 pub mod settings;
 pub mod text;
+pub mod text_map;
 
 pub use boxed::Boxed;
 pub use bytes::Bytes;
@@ -36,3 +37,4 @@ pub use request::{AssumeRole, Request, Tag};
 pub use seq::Seq;
 pub use settings::{CallSettings, Timeouts};
 pub use text::Text;
+pub use text_map::TextMap;

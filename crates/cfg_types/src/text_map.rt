@@ -1,0 +1,53 @@
+// Values by name.
+ghost use Rattle.std.specs.Prelude.{◌≡◌, ◌↔◌, IsTrue, OnOk, OnErr, string_bytes};
+ghost use Rattle.std.specs.Option.{option_copied};
+ghost use Rattle.std.specs.FinMap.{get, insert, empty};
+
+use crate::memory::OutOfMemory;
+use std::alloc::Global;
+use std::collections::BTreeMap;
+use std::marker::Model;
+
+/// Values by name. Contracts see the finite map from the names' bytes to the values.
+#[derive(Drop)]
+pub struct TextMap<V> {
+    tree: BTreeMap<String, V>,
+}
+
+impl<V> Model for TextMap<V> {
+    ghost use Rattle.cfg_types.specs.TextMap.{Named, named_code, map_of};
+
+    ghost Value = { Named V };
+
+    ghost coded = { named_code V.code };
+
+    ghost view = { λ m. map_of m.tree.entries };
+}
+
+impl<V: Drop> TextMap<V> {
+    /// A map of nothing.
+    pub fn new(alloc: Global) -> TextMap<V>
+        ensures { result ≡ empty }
+    {
+        TextMap {
+            tree: BTreeMap::new(alloc),
+        }
+    }
+
+    /// Sets the value of a name, in place of the one that it had. Where memory runs out the map
+    /// stays as it was, and name and value are given up.
+    pub fn set(&mut self, name: String, value: V) -> Result<(), OutOfMemory>
+        ensures ok { OnOk result (self.new ≡ insert self.old (string_bytes name) value) }
+        ensures err { OnErr result (self.new ≡ self.old) }
+    {
+        let _before = self.tree.insert(name, value)?;
+        Ok(())
+    }
+
+    /// The value of a name, lent. Names are compared exactly.
+    pub fn get(&self, name: &str) -> Option<&V>
+        ensures { option_copied result ≡ get self.now name.now }
+    {
+        self.tree.get(name)
+    }
+}
