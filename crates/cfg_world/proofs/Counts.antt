@@ -1,0 +1,34 @@
+-- Faults of one stretch after another.
+use Rattle.std.proofs.Common.{◌≡◌, ℕ, ◌+◌, ◌≤◌, List, [], ◌∷◌, ◌++◌, refl, sym, ap, ◌∙◌, subst, arith}
+use Rattle.std.specs.Prelude.{min}
+use Rattle.cfg_world.specs.Fits.{Pair}
+use Rattle.cfg_world.specs.Faults.{Faults, Rises, Counted, full_count, transport_failures, transport_failures_in}
+use Rattle.cfg_world.specs.Asked.{Same}
+
+pub Same-refl : (a : List Pair → Type 0) → Same a a
+Same-refl a = record { to = λ l h. h; from = λ l h. h }
+
+pub Same-trans : {a b c : List Pair → Type 0} → Same a b → Same b c → Same a c
+Same-trans p q = record { to = λ l h. q.to l (p.to l h); from = λ l h. p.from l (q.from l h) }
+
+-- a full count is a count of 64 bits
+still : (n : ℕ) → Rises 0 n n
+still n = record { later = omega arith; counted = omega arith }
+
+pub Rises-trans : (m n a b c : ℕ) → Rises m a b → Rises n b c → Rises (m + n) a c
+Rises-trans m n a b c p q = record { later = omega arith; counted = omega (arith, p.counted, q.counted, q.later) }
+
+pub transport_failures_in-append : (p q : List Pair) → transport_failures_in (p ++ q) ≡ transport_failures_in p + transport_failures_in q
+transport_failures_in-append [] q = omega arith
+transport_failures_in-append (e ∷ p) q = omega (arith, transport_failures_in-append p q)
+
+pub Counted-none : (f : Faults) → Counted [] f f
+Counted-none f = record { files = still f.files; transport = still f.transport; commands = still f.commands; lookups = still f.lookups }
+
+pub Counted-then : {p q : List Pair} {a b c : Faults} → Counted p a b → Counted q b c → Counted (p ++ q) a c
+Counted-then {p} {q} {a} {b} {c} x y = record {
+  files = Rises-trans 0 0 a.files b.files c.files x.files y.files;
+  transport = subst (λ n. Rises n a.transport c.transport) (sym (transport_failures_in-append p q)) (Rises-trans (transport_failures_in p) (transport_failures_in q) a.transport b.transport c.transport x.transport y.transport);
+  commands = Rises-trans 0 0 a.commands b.commands c.commands x.commands y.commands;
+  lookups = Rises-trans 0 0 a.lookups b.lookups c.lookups x.lookups y.lookups;
+}

@@ -1,0 +1,45 @@
+-- What one question to the devices keeps, and what it adds.
+use Rattle.std.specs.Prelude.{◌≡◌, List, [], ◌∷◌, ◌++◌, Option, Some, None, IfSome, Result, Ok, Err}
+use Rattle.cfg_world.specs.declared.ask.Question.{Question}
+use Rattle.cfg_world.specs.declared.ask.Answer.{Answer}
+use Rattle.cfg_world.specs.declared.ask.Answer.TheVariants as answer
+use Rattle.cfg_world.specs.declared.devices.Fault.{Fault}
+use Rattle.cfg_world.specs.declared.devices.Fault.TheVariants.{Failed, OutOfMemory}
+use Rattle.cfg_world.specs.Fits.{Fits, Pair}
+use Rattle.cfg_world.specs.Faults.{Faults, Counted}
+
+-- the same lists are allowed
+pub record Same (old new : List Pair → Type 0) : Type 0 where
+  pub to : (entries : List Pair) → old entries → new entries
+  pub from : (entries : List Pair) → new entries → old entries
+
+-- the entry of a question that was answered
+abbrev pub entered : Question → Option Answer → List Pair
+entered asked None = []
+entered asked (Some answer) = (asked, answer) ∷ []
+
+-- One question was put to the devices. Without an answer they lacked memory.
+pub record Asked (old_faults new_faults : Faults) (old_allows new_allows old_stands new_stands : List Pair → Type 0) (asked : Question) (given : Option Answer) : Type 0 where
+  -- no call changes which lists are allowed
+  pub same : Same old_allows new_allows
+  -- a failure is counted
+  pub counted : Counted (entered asked given) old_faults new_faults
+  -- the answer fits the question
+  pub fits : IfSome given (λ a. Fits asked a)
+  -- devices that stood for a list stand for it with this entry behind it
+  pub stands : IfSome given (λ a. (entries : List Pair) → old_stands entries → new_stands (entries ++ (asked, a) ∷ []))
+
+-- the answer of a device that failed, if it has one
+abbrev pub failure_of : Fault → Option Answer
+failure_of (Failed kind) = Some (answer.Failed kind)
+failure_of OutOfMemory = None
+
+-- the answer of a call
+abbrev pub answer_of : {T : Type 0} → (T → Answer) → Result T Fault → Option Answer
+answer_of of (Ok x) = Some (of x)
+answer_of of (Err fault) = failure_of fault
+
+-- the answer, where there was memory
+abbrev pub given : {E : Type 0} → Result Answer E → Option Answer
+given (Ok a) = Some a
+given (Err e) = None

@@ -1,0 +1,9 @@
+pub mod Fits
+pub mod Faults
+pub mod Asked
+pub mod Held
+pub mod Grows
+pub mod Put
+pub mod Inquiry
+pub mod Follows
+pub mod Leaves

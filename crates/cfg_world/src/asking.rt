@@ -1,0 +1,115 @@
+// Where a body puts its questions.
+ghost use Rattle.std.specs.Prelude.{◌≡◌, ◌≢◌, ◌++◌, ◌∷◌, [], List, Option, IfOk, OnErr, IfErr, Some, Err};
+ghost use Rattle.cfg_world.specs.declared.ask.Question.{Question as QuestionAsked};
+ghost use Rattle.cfg_world.specs.Fits.{Fits, Pair};
+ghost use Rattle.cfg_world.specs.Faults.{Faults, Counted};
+ghost use Rattle.cfg_world.specs.Asked.{Same};
+ghost use Rattle.cfg_world.specs.Put.{put_entry};
+
+use crate::ask::Question;
+use crate::devices::Devices;
+use crate::entry::Receipt;
+use crate::world::World;
+use cfg_types::OutOfMemory;
+
+/// Why a question has no answer.
+#[derive(Clone, Copy, Debug, PartialEq, Eq)]
+pub enum Stop {
+    OutOfMemory,
+    /// The answer is not known yet. The question is kept as the open one.
+    Open,
+}
+
+impl From<OutOfMemory> for Stop {
+    ghost use Rattle.cfg_world.specs.declared.asking.Stop.TheVariants.{OutOfMemory as memory};
+
+    ghost from_gives = { λ _ stop. stop ≡ memory };
+
+    fn from(_: OutOfMemory) -> Stop {
+        Stop::OutOfMemory
+    }
+}
+
+/// Why a body gave no value: it was stopped, or it refused by its rule.
+#[derive(Debug, Drop)]
+pub enum Halt<E> {
+    Stopped(Stop),
+    Refused(E),
+}
+
+impl<E> From<Stop> for Halt<E> {
+    ghost use Rattle.cfg_world.specs.declared.asking.Halt.TheVariants.{Stopped};
+
+    ghost from_gives = { λ stop halt. halt ≡ Stopped stop };
+
+    fn from(stop: Stop) -> Halt<E> {
+        Halt::Stopped(stop)
+    }
+}
+
+impl<E> From<OutOfMemory> for Halt<E> {
+    ghost use Rattle.cfg_world.specs.declared.asking.Halt.TheVariants.{Stopped};
+    ghost use Rattle.cfg_world.specs.declared.asking.Stop.TheVariants.{OutOfMemory as memory};
+
+    ghost from_gives = { λ _ halt. halt ≡ Stopped memory };
+
+    fn from(_: OutOfMemory) -> Halt<E> {
+        Halt::Stopped(Stop::OutOfMemory)
+    }
+}
+
+/// Where questions are put, and answers handed out.
+pub trait Asking {
+    /// What was handed out.
+    ghost journal: { Self → List Pair };
+
+    /// The question that was left open, or none.
+    ghost open_question: { Self → Option QuestionAsked };
+
+    /// How often each kind of device has failed.
+    ghost faults: { Self → Faults };
+
+    /// The lists of entries that may be handed out, from the start.
+    ghost allows: { Self → List Pair → Type 0 };
+
+    /// The lists that are allowed and may have been handed out so far.
+    ghost stands: { Self → List Pair → Type 0 };
+
+    /// Puts a question. The receipt is the new entry of the journal. After a stop the journal is as
+    /// it was, and after `Open` the open question is this one.
+    fn put(&mut self, question: Question) -> Result<Receipt, Stop>
+        ensures asked { IfOk result (λ e. (e.0 ≡ question) × Fits e.0 e.1) }
+        ensures grows { journal self.new ≡ journal self.old ++ put_entry result }
+        ensures open { result ≡ Err Stop.Open → open_question self.new ≡ Some question }
+        ensures counted { Counted (put_entry result) (faults self.old) (faults self.new) }
+        ensures same { Same (allows self.old) (allows self.new) }
+        ensures stands { result ≢ Err Stop.OutOfMemory → stands self.old (journal self.old) → stands self.new (journal self.new) };
+}
+
+/// A world answers every question, and so leaves none open.
+impl<D: Devices> Asking for World<D> {
+    ghost use Rattle.std.specs.Prelude.{None};
+
+    ghost journal = { λ w. w.journal };
+
+    ghost open_question = { λ w. None };
+
+    ghost faults = { λ w. D.faults w.devices };
+
+    ghost allows = { λ w. D.allows w.devices };
+
+    ghost stands = { λ w. D.stands w.devices };
+
+    fn put(&mut self, question: Question) -> Result<Receipt, Stop>
+        ensures asked { IfOk result (λ e. (e.0 ≡ question) × Fits e.0 e.1) }
+        ensures grows { self.new.journal ≡ self.old.journal ++ put_entry result }
+        ensures open { result ≡ Err Stop.Open → None ≡ Some question }
+        ensures counted { Counted (put_entry result) (D.faults self.old.devices) (D.faults self.new.devices) }
+        ensures same { Same (D.allows self.old.devices) (D.allows self.new.devices) }
+        ensures stands { result ≢ Err Stop.OutOfMemory → D.stands self.old.devices self.old.journal → D.stands self.new.devices self.new.journal }
+        ensures never_open { result ≢ Err Stop.Open }
+    {
+        let receipt = self.ask(question)?;
+        Ok(receipt)
+    }
+}

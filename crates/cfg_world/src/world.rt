@@ -1,0 +1,110 @@
+// Devices, with a journal of what they were asked.
+ghost use Rattle.std.specs.Prelude.{◌≡◌, [], ◌∷◌, IfOk, OnErr};
+ghost use Rattle.cfg_world.specs.Fits.{Fits};
+ghost use Rattle.cfg_world.specs.Faults.{Rose, count_of};
+ghost use Rattle.cfg_world.specs.Asked.{Asked, given, failure_of};
+ghost use Rattle.cfg_world.specs.Held.{Held};
+ghost use Rattle.cfg_world.specs.Grows.{Grows, Stays};
+
+use crate::ask::{Answer, Question};
+use crate::devices::{Devices, Fault};
+use crate::entry::{Entry, Receipt};
+use cfg_types::{OutOfMemory, TryCopy};
+use std::alloc::Global;
+use std::marker::Model;
+
+/// Devices, and the journal of what they were asked and answered.
+#[derive(Drop)]
+pub struct World<D: Devices> {
+    alloc: Global,
+    devices: D,
+    journal: Vec<Entry>,
+}
+
+impl<D: Devices> Model for World<D> {
+    ghost use Rattle.cfg_world.specs.Held.{Held};
+
+    ghost Value = { Held D };
+
+    ghost view = { λ w. record { devices = w.devices; journal = w.journal.items } };
+}
+
+impl<D: Devices> World<D> {
+    /// A world over these devices, with an empty journal.
+    pub fn new(alloc: Global, devices: D) -> World<D>
+        ensures { result ≡ record { devices = devices; journal = [] } }
+    {
+        World {
+            alloc,
+            devices,
+            journal: Vec::new(alloc),
+        }
+    }
+
+    /// Puts a question to the devices, and enters it with its answer at the end of the journal. A
+    /// device that fails gives the answer `Failed`. Where memory runs out the journal stays as it
+    /// was, though the devices may have been asked.
+    pub fn ask(&mut self, question: Question) -> Result<Receipt, OutOfMemory>
+        ensures asked { IfOk result (λ e. e.0 ≡ question) }
+        ensures fits { IfOk result (λ e. Fits e.0 e.1) }
+        ensures grows { IfOk result (λ e. Grows ⟦<D as Devices>⟧ (e ∷ []) self.old self.new) }
+
+        // A failure is entered only where the count of its kind rose.
+        ensures cause { IfOk result (λ e. (kind : _) → e.1 ≡ Answer.Failed kind → Rose (count_of question (D.faults self.old.devices)) (count_of question (D.faults self.new.devices))) }
+        ensures stays { OnErr result (Stays ⟦<D as Devices>⟧ [] self.old self.new) }
+    {
+        let answer = put(&mut self.devices, &question)?;
+        let entry = Entry::of(question, answer);
+        let receipt = Receipt::of(entry.copy(self.alloc)?);
+        self.journal.push(entry)?;
+        Ok(receipt)
+    }
+
+    /// What was asked and answered, in order.
+    pub fn journal(&self) -> &[Entry]
+        ensures { result.now ≡ self.now.journal }
+    {
+        self.journal.as_slice()
+    }
+
+    /// Empties the journal. The devices stay as they are.
+    pub fn clear_journal(&mut self)
+        ensures { self.new ≡ record self.old { journal = [] } }
+    {
+        self.journal.clear();
+    }
+
+    /// The devices. The journal is given up.
+    pub fn into_devices(self) -> D
+        ensures { result ≡ self.devices }
+    {
+        let World {
+            alloc: _,
+            devices,
+            journal: _,
+        } = self;
+        devices
+    }
+}
+
+// The answer to a question. Without one there is no memory.
+fn put<D: Devices>(devices: &mut D, question: &Question) -> Result<Answer, OutOfMemory>
+    ensures { Asked (D.faults devices.old) (D.faults devices.new) (D.allows devices.old) (D.allows devices.new) (D.stands devices.old) (D.stands devices.new) question.now (given result) }
+{
+    match question {
+        Question::Now => Ok(Answer::Moment(devices.now())),
+        Question::Send(request) => match devices.send(request) {
+            Ok(reply) => Ok(Answer::Replied(reply)),
+            Err(fault) => failed(fault),
+        },
+    }
+}
+
+fn failed(fault: Fault) -> Result<Answer, OutOfMemory>
+    ensures { given result ≡ failure_of fault }
+{
+    match fault {
+        Fault::Failed(kind) => Ok(Answer::Failed(kind)),
+        Fault::OutOfMemory => Err(OutOfMemory),
+    }
+}
