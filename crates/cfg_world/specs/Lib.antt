@@ -7,3 +7,5 @@ pub mod Put
 pub mod Inquiry
 pub mod Follows
 pub mod Leaves
+pub mod Script
+pub mod Memory

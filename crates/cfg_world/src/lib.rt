@@ -9,6 +9,8 @@ pub mod asking;
 pub mod devices;
 pub mod entry;
 pub mod leaves;
+pub mod script;
+pub mod streams;
 pub mod world;
 
 pub use ask::{Answer, Question};
@@ -20,4 +22,6 @@ pub use cfg_types::{
 pub use devices::{Devices, Fault};
 pub use entry::{Entry, Receipt};
 pub use leaves::{read_clock, send};
+pub use script::{DeviceLists, ScriptDevices};
+pub use streams::{MemorySink, MemorySource, ReaderSource, Sink, Source, StreamFault, WriterSink};
 pub use world::World;

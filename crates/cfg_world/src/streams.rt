@@ -1,0 +1,53 @@
+// Where bytes come from and go to.
+ghost use Rattle.std.specs.Prelude.{◌≡◌, ℕ, ◌<◌, ◌≤◌, List, Option, length, IfOk, Err};
+ghost use Rattle.std.specs.Io.KnownBytes.{ReadConsumes, WriteAppends};
+ghost use Rattle.cfg_world.specs.Faults.{Rose};
+
+mod adapters;
+mod memory;
+
+pub use adapters::{ReaderSource, WriterSink};
+pub use memory::{MemorySink, MemorySource};
+
+/// Why a source gave nothing, or a sink took nothing.
+#[derive(Clone, Copy, Debug, PartialEq, Eq)]
+pub enum StreamFault {
+    /// The stream failed, and its count of faults rose.
+    Failed,
+    OutOfMemory,
+}
+
+/// Where bytes come from.
+pub trait Source {
+    /// The bytes that are left, where the source tells them.
+    ghost left: { Self → Option (List ℕ) };
+
+    /// How often it has failed. A count that is full stands still.
+    ghost faults: { Self → ℕ };
+
+    /// The next bytes, at most as many as there is room for, and how many they are. None into room
+    /// that is there is the end of the input. After an error the bytes that are left are as before.
+    fn read(&mut self, into: &mut [u8]) -> Result<usize, StreamFault>
+        ensures within { IfOk result (λ n. n ≤ length into.old) }
+        ensures bytes { ReadConsumes (left self.old) (left self.new) result into.new }
+        ensures counted { faults self.old ≤ faults self.new }
+        ensures failed { result ≡ Err StreamFault.Failed → Rose (faults self.old) (faults self.new) };
+}
+
+/// Where bytes go to.
+pub trait Sink {
+    /// The bytes that were written, where the sink tells them.
+    ghost written: { Self → Option (List ℕ) };
+
+    /// How often it has failed. A count that is full stands still.
+    ghost faults: { Self → ℕ };
+
+    /// Takes a front of the bytes, and says how many they are: at least one, where there is one.
+    /// After an error the bytes that were written are as before.
+    fn write(&mut self, bytes: &[u8]) -> Result<usize, StreamFault>
+        ensures within { IfOk result (λ n. n ≤ length bytes.now) }
+        ensures some { IfOk result (λ n. 0 < length bytes.now → 0 < n) }
+        ensures bytes { WriteAppends (written self.old) (written self.new) result bytes.now }
+        ensures counted { faults self.old ≤ faults self.new }
+        ensures failed { result ≡ Err StreamFault.Failed → Rose (faults self.old) (faults self.new) };
+}

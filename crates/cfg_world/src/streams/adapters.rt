@@ -1,0 +1,76 @@
+// The standard library's readers and writers as sources and sinks.
+ghost use Rattle.std.specs.Prelude.{◌≡◌, ◌≤◌};
+ghost use Rattle.cfg_world.specs.Faults.{Rose};
+
+use crate::streams::{Sink, Source, StreamFault};
+use std::io::{Read, Write};
+
+/// A reader as a source. Each error of the reader is a fault.
+#[derive(Drop)]
+pub struct ReaderSource<R: Read + Drop> {
+    reader: R,
+    faults: u64,
+}
+
+impl<R: Read + Drop> ReaderSource<R> {
+    /// A source over this reader, without faults so far.
+    pub fn new(reader: R) -> ReaderSource<R>
+        ensures { result ≡ record { reader = reader; faults = 0 } }
+    {
+        ReaderSource { reader, faults: 0 }
+    }
+}
+
+impl<R: Read + Drop> Source for ReaderSource<R> {
+    ghost left = { λ s. R.remaining s.reader };
+
+    ghost faults = { λ s. s.faults };
+
+    fn read(&mut self, into: &mut [u8]) -> Result<usize, StreamFault> {
+        match self.reader.read(into) {
+            Ok(n) => Ok(n),
+            Err(_) => Err(count(&mut self.faults)),
+        }
+    }
+}
+
+/// A writer as a sink. Each error of the writer is a fault, and so is each write that takes nothing
+/// of something.
+#[derive(Drop)]
+pub struct WriterSink<W: Write + Drop> {
+    writer: W,
+    faults: u64,
+}
+
+impl<W: Write + Drop> WriterSink<W> {
+    /// A sink over this writer, without faults so far.
+    pub fn new(writer: W) -> WriterSink<W>
+        ensures { result ≡ record { writer = writer; faults = 0 } }
+    {
+        WriterSink { writer, faults: 0 }
+    }
+}
+
+impl<W: Write + Drop> Sink for WriterSink<W> {
+    ghost written = { λ s. W.contents s.writer };
+
+    ghost faults = { λ s. s.faults };
+
+    fn write(&mut self, bytes: &[u8]) -> Result<usize, StreamFault> {
+        match self.writer.write(bytes) {
+            Ok(n) if n > 0 || bytes.is_empty() => Ok(n),
+            Ok(_) => Err(count(&mut self.faults)),
+            Err(_) => Err(count(&mut self.faults)),
+        }
+    }
+}
+
+// One more fault.
+pub(crate) fn count(faults: &mut u64) -> StreamFault
+    ensures failed { result ≡ StreamFault.Failed }
+    ensures later { faults.old ≤ faults.new }
+    ensures rose { Rose faults.old faults.new }
+{
+    *faults = faults.saturating_add(1);
+    StreamFault::Failed
+}
