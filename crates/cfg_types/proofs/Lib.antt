@@ -1,3 +1,4 @@
 pub mod TextLemmas
 pub mod MapLookups
 pub mod InstantOrder
+pub mod Trimming

@@ -6,4 +6,5 @@ pub mod Entries
 pub mod Environment
 pub mod Keys
 pub mod Shown
+pub mod WhiteSpace
 pub mod formers

@@ -19,6 +19,7 @@ pub mod seq;
 pub mod settings;
 pub mod text;
 pub mod text_map;
+pub mod white_space;
 
 pub use boxed::Boxed;
 pub use bytes::Bytes;
@@ -38,3 +39,4 @@ pub use seq::Seq;
 pub use settings::{CallSettings, Timeouts};
 pub use text::Text;
 pub use text_map::TextMap;
+pub use white_space::{is_blank, trimmed};

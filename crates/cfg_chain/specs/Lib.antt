@@ -1,0 +1,3 @@
+pub mod SectionParts
+pub mod Sections
+pub mod SectionSets

@@ -1,0 +1,10 @@
+//! Chains of credentials providers. It stands on cfg_types and cfg_world. The layers above may use
+//! that a call's journal is the parts of the members up to the one that answered, in order, and that
+//! every earlier one was not loaded.
+#![tactic(auto)]
+
+pub mod kept;
+pub mod profile;
+
+pub use kept::{Found, Kept};
+pub use profile::{ProfileSet, ProfileSource, Section};
