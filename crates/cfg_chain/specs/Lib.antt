@@ -1,3 +1,6 @@
 pub mod SectionParts
 pub mod Sections
 pub mod SectionSets
+pub mod Configuration
+pub mod Gives
+pub mod EnvironmentKeys

@@ -3,8 +3,11 @@
 //! every earlier one was not loaded.
 #![tactic(auto)]
 
+mod environment;
 pub mod kept;
 pub mod profile;
+pub mod provider_config;
 
 pub use kept::{Found, Kept};
 pub use profile::{ProfileSet, ProfileSource, Section};
+pub use provider_config::ProviderConfig;

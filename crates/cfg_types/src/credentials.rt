@@ -337,6 +337,27 @@ impl CredentialsBuilder {
         Ok(CredentialsBuilder { alloc, built })
     }
 
+    /// Sets the session token, or none.
+    pub fn set_session_token(&mut self, token: Option<Text>)
+        ensures { self.new ≡ record self.old { session_token = token } }
+    {
+        self.built.session_token = token;
+    }
+
+    /// Sets the end, or none.
+    pub fn set_expiry(&mut self, expiry: Option<Instant>)
+        ensures { self.new ≡ record self.old { expiry = expiry } }
+    {
+        self.built.expiry = expiry;
+    }
+
+    /// Sets the account, or none.
+    pub fn set_account_id(&mut self, account_id: Option<AccountId>)
+        ensures { self.new ≡ record self.old { account_id = account_id } }
+    {
+        self.built.account_id = account_id;
+    }
+
     /// With this end.
     pub fn expiry(self, expiry: Instant) -> CredentialsBuilder
         ensures { result ≡ record self { expiry = Some expiry } }

@@ -47,6 +47,17 @@ impl<T> Seq<T> {
     }
 }
 
+impl<T: Copy> Seq<T> {
+    /// A copy of the items.
+    pub fn of_slice(alloc: Global, items: &[T]) -> Result<Seq<T>, OutOfMemory>
+        ensures { IfOk result (λ it. it ≡ items.now) }
+    {
+        Ok(Seq {
+            inner: Vec::from_slice(alloc, items)?,
+        })
+    }
+}
+
 impl<T: TryCopy> TryCopy for Seq<T> {
     fn copy(&self, alloc: Global) -> Result<Seq<T>, OutOfMemory> {
         let mut items = Vec::with_capacity(alloc, self.inner.len())?;
