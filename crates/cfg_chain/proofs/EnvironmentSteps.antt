@@ -6,10 +6,11 @@ use Rattle.cfg_types.specs.declared.credentials.AwsCredentialFeature.{AwsCredent
 use Rattle.cfg_types.specs.declared.credentials.AwsCredentialFeature.TheVariants.{CredentialsEnvVars}
 use Rattle.cfg_types.specs.declared.errors.CredentialsError.{CredentialsError}
 use Rattle.cfg_types.specs.Environment.{Variables, variable}
+use Rattle.cfg_world.specs.declared.asking.Halt.{Halt}
 use Rattle.cfg_chain.specs.Gives.{◌>>=◌, Gives}
 use Rattle.cfg_chain.specs.EnvironmentKeys.{access_key_id, secret, secret_or, optional, environment}
 
-pub said_so : {X Y : Type 0} (view : X → Y) (r : Result X CredentialsError) (x y : Result Y CredentialsError) → x ≡ y → Gives view r x → Gives view r y
+pub said_so : {X Y : Type 0} (view : X → Y) (r : Result X (Halt CredentialsError)) (x y : Result Y CredentialsError) → x ≡ y → Gives view r x → Gives view r y
 said_so view r x y e g = subst (λ said. Gives view r said) e g
 
 -- all of them

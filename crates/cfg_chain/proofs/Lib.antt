@@ -1,1 +1,6 @@
 pub mod EnvironmentSteps
+pub mod QuietSteps
+pub mod ChainSteps
+pub mod Parts
+pub mod Providing
+pub mod CauseCases

@@ -1,5 +1,5 @@
 -- Credentials in environment variables, as the AWS SDKs and tools read them.
-use Rattle.std.specs.Prelude.{ℕ, List, [], ◌∷◌, Option, Some, None, Result, Ok, Err, option_map, codes, if◌then◌else◌}
+use Rattle.std.specs.Prelude.{ℕ, List, [], ◌∷◌, Bool, true, false, Option, Some, None, Result, Ok, Err, option_map, codes, if◌then◌else◌}
 use Rattle.cfg_types.specs.declared.environment.VarError.{VarError}
 use Rattle.cfg_types.specs.declared.environment.VarError.TheVariants as variable_error
 use Rattle.cfg_types.specs.declared.errors.CredentialsError.{CredentialsError}
@@ -15,22 +15,30 @@ use Rattle.cfg_chain.specs.Gives.{◌>>=◌}
 abbrev pub not_set : List ℕ → CredentialsError
 not_set name = CredentialsNotLoaded (NotSet name)
 
+-- a variable's text, where it can be read and is not blank
+abbrev pub usable : Result (List ℕ) VarError → Option (List ℕ)
+usable (Ok text) = if is_blank text then None else Some text
+usable (Err e) = None
+
+abbrev pub is_not_unicode : Result (List ℕ) VarError → Bool
+is_not_unicode (Ok text) = false
+is_not_unicode (Err variable_error.NotPresent) = false
+is_not_unicode (Err variable_error.NotUnicode) = true
+
+abbrev pub required_by : List ℕ → Option (List ℕ) → Bool → Result (List ℕ) CredentialsError
+required_by name (Some text) unreadable = Ok text
+required_by name None true = Err (Unhandled (NotUnicode name))
+required_by name None false = Err (not_set name)
+
 -- A variable that has to be there, and not blank. It is not trimmed.
 abbrev pub required : List ℕ → Result (List ℕ) VarError → Result (List ℕ) CredentialsError
-required name (Ok text) = if is_blank text then Err (not_set name) else Ok text
-required name (Err variable_error.NotPresent) = Err (not_set name)
-required name (Err variable_error.NotUnicode) = Err (Unhandled (NotUnicode name))
+required name value = required_by name (usable value) (is_not_unicode value)
 
 abbrev pub access_key_id : Variables → Result (List ℕ) CredentialsError
 access_key_id env = required (codes "AWS_ACCESS_KEY_ID") (variable env (codes "AWS_ACCESS_KEY_ID"))
 
 abbrev pub older_secret : Variables → Result (List ℕ) CredentialsError
 older_secret env = required (codes "SECRET_ACCESS_KEY") (variable env (codes "SECRET_ACCESS_KEY"))
-
--- a variable's text, where it can be read and is not blank
-abbrev pub usable : Result (List ℕ) VarError → Option (List ℕ)
-usable (Ok text) = if is_blank text then None else Some text
-usable (Err e) = None
 
 abbrev pub secret_or : Option (List ℕ) → Result (List ℕ) CredentialsError → Result (List ℕ) CredentialsError
 secret_or (Some text) older = Ok text

@@ -4,3 +4,8 @@ pub mod SectionSets
 pub mod Configuration
 pub mod Gives
 pub mod EnvironmentKeys
+pub mod Members
+pub mod Chains
+pub mod Resolves
+pub mod Causes
+pub mod Regions

@@ -9,13 +9,17 @@ use cfg_types::{
     AccountId, AwsCredentialFeature, Credentials, CredentialsBuilder, CredentialsError, Env,
     NotLoadedCause, OutOfMemory, Seq, Text, UnhandledCause, VarError, is_blank, trimmed,
 };
+use cfg_world::Halt;
 use std::alloc::Global;
 
 /// The keys that the variables of the AWS SDKs and tools hold: `AWS_ACCESS_KEY_ID`,
 /// `AWS_SECRET_ACCESS_KEY` with its older name `SECRET_ACCESS_KEY`, `AWS_SESSION_TOKEN` and
 /// `AWS_ACCOUNT_ID`.
 #[tactic(auto, unfolding(crate::specs::EnvironmentKeys::environment))]
-pub fn environment_credentials(alloc: Global, env: &Env) -> Result<Credentials, CredentialsError>
+pub fn environment_credentials(
+    alloc: Global,
+    env: &Env,
+) -> Result<Credentials, Halt<CredentialsError>>
     ensures { Gives (λ c. c) result (environment env.now) }
 {
     let id = required_variable(alloc, env, "AWS_ACCESS_KEY_ID")?;
@@ -44,22 +48,26 @@ fn required_variable<'a>(
     alloc: Global,
     env: &'a Env,
     name: &str,
-) -> Result<&'a str, CredentialsError>
+) -> Result<&'a str, Halt<CredentialsError>>
     ensures { Gives (λ t. characters t.now) result (required (characters name.now) (variable env.now name.now)) }
 {
     match env.get(name) {
         Ok(text) if !is_blank(text) => Ok(text),
-        Err(VarError::NotUnicode) => Err(CredentialsError::Unhandled(UnhandledCause::NotUnicode(
-            Text::of(alloc, name)?,
-        ))),
-        _ => Err(CredentialsError::CredentialsNotLoaded(NotLoadedCause::NotSet(Text::of(
-            alloc, name,
-        )?))),
+        Err(VarError::NotUnicode) => {
+            let name = Text::of(alloc, name)?;
+            let cause = UnhandledCause::NotUnicode(name);
+            Err(Halt::Refused(CredentialsError::Unhandled(cause)))
+        }
+        _ => {
+            let name = Text::of(alloc, name)?;
+            let cause = NotLoadedCause::NotSet(name);
+            Err(Halt::Refused(CredentialsError::CredentialsNotLoaded(cause)))
+        }
     }
 }
 
 // The secret. An older name stands in where the first one cannot be used.
-fn secret_key<'a>(alloc: Global, env: &'a Env) -> Result<&'a str, CredentialsError>
+fn secret_key<'a>(alloc: Global, env: &'a Env) -> Result<&'a str, Halt<CredentialsError>>
     ensures { Gives (λ t. characters t.now) result (secret_of env.now) }
 {
     match usable_variable(env, "AWS_SECRET_ACCESS_KEY") {

@@ -3,11 +3,16 @@
 //! every earlier one was not loaded.
 #![tactic(auto)]
 
+mod chain;
+pub mod default_provider;
 mod environment;
 pub mod kept;
+pub mod laws;
+mod member;
 pub mod profile;
 pub mod provider_config;
 
+pub use default_provider::credentials::{DefaultCredentialsChain, RegionSource};
 pub use kept::{Found, Kept};
 pub use profile::{ProfileSet, ProfileSource, Section};
 pub use provider_config::ProviderConfig;

@@ -142,3 +142,19 @@ module _ {W : Type 0} {w : Ghosts W} where
   breaks_left a b = a.breaks _ b
 
 pub ruleset loop_steps = (leads_start, ends_left, waits_left, breaks_left, asking_steps)
+
+-- The parts of one inquiry after another.
+pub record Split {A B : Type 0} (p : Inquiry A) (f : A → Inquiry B) (journal : List Pair) (out : B) : Type 0 where
+  pub middle : A
+  pub part : List Pair
+  pub rest : List Pair
+  pub parts : journal ≡ part ++ rest
+  pub first : Reads p part middle
+  pub then : Reads (f middle) rest out
+
+pub split_after : {A B : Type 0} (p : Inquiry A) (f : A → Inquiry B) (journal : List Pair) (out : B) → Reads (after p f) journal out → Split p f journal out
+split_after (Done x) f journal out h = record { middle = x; part = []; rest = journal; parts = refl; first = refl; then = h }
+split_after (Ask q next) f [] out h = absurd h
+split_after (Ask q next) f (e ∷ journal) out h =
+    let s = split_after (next e.1) f journal out h.1 in
+    record { middle = s.middle; part = e ∷ s.part; rest = s.rest; parts = ap (λ x. e ∷ x) s.parts; first = (h.0, s.first); then = s.then }

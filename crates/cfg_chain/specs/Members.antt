@@ -1,0 +1,43 @@
+-- What each member of the default chain asks and reads.
+use Rattle.std.specs.Prelude.{ℕ, List, Bool, true, false, Result, Ok, Err, codes, if◌then◌else◌}
+use Rattle.cfg_types.specs.Keys.{Keys}
+use Rattle.cfg_types.specs.declared.errors.CredentialsError.{CredentialsError, out-CredentialsError}
+use Rattle.cfg_types.specs.declared.errors.CredentialsError.TheOpen.{CredentialsError-F}
+use Rattle.cfg_types.specs.declared.errors.NotLoadedCause.{NotLoadedCause}
+use Rattle.cfg_types.specs.declared.errors.ProviderCause.{ProviderCause}
+use Rattle.cfg_types.specs.declared.errors.ProviderAttempt.{ProviderAttempt}
+use Rattle.cfg_world.specs.Inquiry.{Inquiry, Done}
+use Rattle.cfg_chain.specs.declared.member.Member.{Member}
+use Rattle.cfg_chain.specs.declared.member.Member.TheVariants.{Environment}
+use Rattle.cfg_chain.specs.declared.member.Turn.{Turn}
+use Rattle.cfg_chain.specs.declared.member.Turn.TheVariants.{PassedOver, Answers}
+use Rattle.cfg_chain.specs.Configuration.{Configuration}
+use Rattle.cfg_chain.specs.EnvironmentKeys.{environment}
+
+-- the name under which the chain tells of a member
+abbrev pub name_of : Member → List ℕ
+name_of Environment = codes "Environment"
+
+-- A member's questions and, over their answers, its outcome. The environment asks nothing.
+unfoldable pub reading : Configuration → Member → Inquiry (Result Keys CredentialsError)
+reading conf Environment = Done (environment conf.environment)
+
+abbrev pub is_not_loaded_level : CredentialsError-F CredentialsError NotLoadedCause ProviderCause → Bool
+is_not_loaded_level (CredentialsError-F.CredentialsNotLoaded cause) = true
+is_not_loaded_level (CredentialsError-F.InvalidConfiguration cause) = false
+is_not_loaded_level (CredentialsError-F.ProviderError cause) = false
+is_not_loaded_level (CredentialsError-F.Unhandled cause) = false
+is_not_loaded_level CredentialsError-F.OutOfMemory = false
+
+-- the answer of a provider that was not loaded
+abbrev pub is_not_loaded : CredentialsError → Bool
+is_not_loaded e = is_not_loaded_level (out-CredentialsError e)
+
+-- a member that was not loaded is passed over; any other answer is the chain's
+abbrev pub turn : Result Keys CredentialsError → Turn
+turn (Ok keys) = Answers (Ok keys)
+turn (Err e) = if is_not_loaded e then PassedOver e else Answers (Err e)
+
+-- what is told of a member that was passed over
+abbrev pub attempt : Member → CredentialsError → ProviderAttempt CredentialsError
+attempt member e = record { name = name_of member; error = e }

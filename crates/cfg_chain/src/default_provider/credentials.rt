@@ -1,0 +1,130 @@
+//! The default chain of credentials providers.
+ghost use Rattle.std.specs.Prelude.{◌≡◌, IfOk, None, true, false};
+ghost use Rattle.cfg_world.specs.Grows.{Stopped};
+ghost use Rattle.cfg_chain.specs.Resolves.{Provides};
+ghost use Rattle.cfg_chain.specs.Causes.{HasCause, is_memory};
+ghost use Rattle.cfg_chain.specs.Configuration.{nothing_configured};
+ghost use Rattle.cfg_chain.specs.Regions.{region_given};
+
+use crate::chain::follow_chain;
+use crate::kept::Kept;
+use crate::member::Member;
+use crate::provider_config::ProviderConfig;
+use cfg_types::{Credentials, CredentialsError, OutOfMemory, Region};
+use cfg_world::{Devices, World};
+use std::alloc::Global;
+use std::marker::Model;
+
+/// Where a region comes from.
+#[derive(Debug, Drop)]
+pub enum RegionSource {
+    /// This region, or none.
+    Fixed(Option<Region>),
+}
+
+/// Sets up the default chain.
+#[derive(Drop)]
+pub struct Builder {
+    alloc: Global,
+    config: ProviderConfig,
+    region: Option<RegionSource>,
+}
+
+impl Builder {
+    /// With this configuration, in place of the one that it had.
+    pub fn configure(mut self, config: ProviderConfig) -> Builder
+        ensures { result ≡ record self { config = config } }
+    {
+        self.config = config;
+        self
+    }
+
+    /// Sets the source of the region, or none.
+    pub fn set_region(&mut self, region: Option<RegionSource>) -> &mut Builder
+        ensures same { result.ghost_name ≡ self.entry.ghost_name }
+        ensures value { result.now ≡ record self.entry.now { region = region } }
+    {
+        self.region = region;
+        self
+    }
+
+    /// The chain. Its region is what the source gives where one was set, and else the
+    /// configuration's. Nothing is asked.
+    pub fn build<D: Devices>(
+        self,
+        _world: &mut World<D>,
+    ) -> Result<DefaultCredentialsChain, OutOfMemory>
+        ensures chain { IfOk result (λ chain. chain ≡ record self.config { region = region_given self.region self.config.region }) }
+        ensures world { _world.new ≡ _world.old }
+    {
+        let Builder {
+            alloc,
+            config,
+            region,
+        } = self;
+        let config = match region {
+            None => config,
+            Some(RegionSource::Fixed(region)) => config.with_region(region),
+        };
+        Ok(DefaultCredentialsChain { alloc, config })
+    }
+}
+
+/// The default chain. Its one member so far is the environment. Contracts see its configuration.
+#[derive(Drop)]
+pub struct DefaultCredentialsChain {
+    alloc: Global,
+    config: ProviderConfig,
+}
+
+impl Model for DefaultCredentialsChain {
+    ghost use Rattle.cfg_chain.specs.Configuration.{Configuration, configuration_code};
+
+    ghost Value = { Configuration };
+
+    ghost coded = { configuration_code };
+
+    ghost view = { λ c. c.config };
+}
+
+const MEMBERS: [Member; 1] = [Member::Environment];
+
+impl DefaultCredentialsChain {
+    /// A builder with no variables, no sections and no region.
+    pub fn builder(alloc: Global) -> Result<Builder, OutOfMemory>
+        ensures { IfOk result (λ b. (b.config ≡ nothing_configured true) × (b.region ≡ None)) }
+    {
+        Ok(Builder {
+            alloc,
+            config: ProviderConfig::without_region(alloc)?,
+            region: None,
+        })
+    }
+
+    /// What the chain keeps between calls, with nothing kept.
+    pub fn new_kept(&self) -> Result<Kept, OutOfMemory> {
+        Ok(Kept {})
+    }
+
+    /// Asks the members in order, and answers what the first one that was loaded gives. Members that
+    /// were not loaded are passed over, and any other error is the answer. Where no member was
+    /// loaded, the answer tells of each.
+    ///
+    /// The world's journal gains the members' parts and nothing else. Where memory runs out it has
+    /// gained the beginning of such a part, and what is kept stays as it was.
+    pub fn provide_credentials<D: Devices>(
+        &self,
+        kept: &mut Kept,
+        world: &mut World<D>,
+    ) -> Result<Credentials, CredentialsError>
+        ensures provides { is_memory result ≡ false → Provides ⟦<D as Devices>⟧ self.now kept.old world.old world.new result }
+        ensures cause { is_memory result ≡ false → HasCause self.now result }
+        ensures stays { is_memory result ≡ true → Stopped ⟦<D as Devices>⟧ world.old world.new }
+        ensures kept { kept.new ≡ kept.old }
+    {
+        match follow_chain(self.alloc, &self.config, &MEMBERS, world) {
+            Ok(outcome) => outcome,
+            Err(_) => Err(CredentialsError::OutOfMemory),
+        }
+    }
+}
