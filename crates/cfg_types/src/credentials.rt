@@ -131,14 +131,16 @@ impl Drop for Credentials {
 impl Credentials {
     /// The id of the access key.
     pub fn access_key_id(&self) -> &str
-        ensures { characters result.now ≡ self.now.access_key_id }
+        ensures chars { characters result.now ≡ self.now.access_key_id }
+        ensures bytes { result.now ≡ encode_utf8_all self.now.access_key_id }
     {
         self.access_key_id.as_str()
     }
 
     /// The secret of the access key.
     pub fn secret_access_key(&self) -> &str
-        ensures { characters result.now ≡ self.now.secret_access_key }
+        ensures chars { characters result.now ≡ self.now.secret_access_key }
+        ensures bytes { result.now ≡ encode_utf8_all self.now.secret_access_key }
     {
         self.secret_access_key.as_str()
     }
@@ -169,7 +171,8 @@ impl Credentials {
 
     /// The name of the provider that gave them.
     pub fn provider_name(&self) -> &str
-        ensures { characters result.now ≡ self.now.provider_name }
+        ensures chars { characters result.now ≡ self.now.provider_name }
+        ensures bytes { result.now ≡ encode_utf8_all self.now.provider_name }
     {
         self.provider_name.as_str()
     }

@@ -1,0 +1,190 @@
+// The line of a call.
+ghost use Rattle.std.specs.Prelude.{◌≡◌, ◌<◌, ◌++◌, ◌∷◌, [], OnOk, IfOk};
+ghost use Rattle.std.specs.List.{flat_map};
+ghost use Rattle.std.specs.Fmt.{signed_decimal};
+ghost use Rattle.cfg_program.specs.Lines.{hex_digit as hex_digit_of, escaped as escaped_byte, shown_text, three_digits as three_digits_of, nine_digits as nine_digits_of, shown_expiry, class as class_of, name_of_question, kind as kind_of, later_kind, kinds as kinds_of, shown_credentials, shown_outcome, shown};
+
+use cfg_types::{Credentials, CredentialsError, Instant};
+use cfg_world::{Answer, Entry, Question, Request};
+use std::alloc::{AllocError, Global};
+use std::string::ToString;
+
+/// The line of a call's outcome and of the questions that it asked: the kind of outcome, what it
+/// tells, and the kinds of the questions, each with `!` where it failed.
+#[tactic(auto, using(std::proofs::lemmas::Grind::common_steps), unfolding(crate::specs::Lines::shown))]
+pub fn line_of(
+    alloc: Global,
+    outcome: &Result<Credentials, CredentialsError>,
+    journal: &[Entry],
+) -> Result<Vec<u8>, AllocError>
+    ensures { IfOk result (λ line. line.items ≡ shown outcome.now journal.now) }
+{
+    let mut line = Vec::new(alloc);
+    write_outcome(&mut line, outcome)?;
+    line.push(b' ')?;
+    write_kinds(&mut line, journal)?;
+    line.push(b'\n')?;
+    Ok(line)
+}
+
+fn write_outcome(
+    line: &mut Vec<u8>,
+    outcome: &Result<Credentials, CredentialsError>,
+) -> Result<(), AllocError>
+    ensures { OnOk result (line.new.items ≡ line.old.items ++ shown_outcome outcome.now) }
+{
+    match outcome {
+        Ok(credentials) => write_credentials(line, credentials)?,
+        Err(error) => {
+            write_word(line, b"error ")?;
+            write_word(line, class(error))?;
+        }
+    }
+    Ok(())
+}
+
+fn write_credentials(line: &mut Vec<u8>, credentials: &Credentials) -> Result<(), AllocError>
+    ensures { OnOk result (line.new.items ≡ line.old.items ++ shown_credentials credentials.now) }
+{
+    write_word(line, b"credentials ")?;
+    write_text(line, credentials.access_key_id())?;
+    line.push(b' ')?;
+    write_text(line, credentials.provider_name())?;
+    line.push(b' ')?;
+    write_expiry(line, credentials.expiry())?;
+    Ok(())
+}
+
+// The name of an error's variant.
+fn class(error: &CredentialsError) -> &'static [u8]
+    ensures { result.now ≡ class_of error.now }
+{
+    match error {
+        CredentialsError::CredentialsNotLoaded(_) => b"CredentialsNotLoaded",
+        CredentialsError::InvalidConfiguration(_) => b"InvalidConfiguration",
+        CredentialsError::ProviderError(_) => b"ProviderError",
+        CredentialsError::Unhandled(_) => b"Unhandled",
+        CredentialsError::OutOfMemory => b"OutOfMemory",
+    }
+}
+
+fn write_kinds(line: &mut Vec<u8>, journal: &[Entry]) -> Result<(), AllocError>
+    ensures { OnOk result (line.new.items ≡ line.old.items ++ kinds_of journal.now) }
+{
+    match journal.split_first() {
+        None => line.push(b'-')?,
+        Some((first, others)) => {
+            write_kind(line, first)?;
+            write_later_kinds(line, others)?;
+        }
+    }
+    Ok(())
+}
+
+fn write_later_kinds(line: &mut Vec<u8>, journal: &[Entry]) -> Result<(), AllocError>
+    ensures { OnOk result (line.new.items ≡ line.old.items ++ flat_map later_kind journal.now) }
+{
+    for entry in journal {
+        line.push(b',')?;
+        write_kind(line, entry)?;
+    }
+    Ok(())
+}
+
+fn write_kind(line: &mut Vec<u8>, entry: &Entry) -> Result<(), AllocError>
+    ensures { OnOk result (line.new.items ≡ line.old.items ++ kind_of entry.now) }
+{
+    write_word(line, question_name(entry.question()))?;
+    if let Answer::Failed(_) = entry.answer() {
+        line.push(b'!')?;
+    }
+    Ok(())
+}
+
+fn question_name(question: &Question) -> &'static [u8]
+    ensures { result.now ≡ name_of_question question.now }
+{
+    match question {
+        Question::Now => b"now",
+        Question::Send(Request::AssumeRole(_)) => b"assume-role",
+    }
+}
+
+fn write_word(line: &mut Vec<u8>, word: &[u8]) -> Result<(), AllocError>
+    ensures { OnOk result (line.new.items ≡ line.old.items ++ word.now) }
+{
+    line.extend_from_slice(word)
+}
+
+// `=` and the bytes of the text, those outside 33 to 126 and `%` as `%` and two digits.
+fn write_text(line: &mut Vec<u8>, text: &str) -> Result<(), AllocError>
+    ensures { OnOk result (line.new.items ≡ line.old.items ++ shown_text text.now) }
+{
+    line.push(b'=')?;
+    for byte in text.as_bytes() {
+        write_escaped(line, *byte)?;
+    }
+    Ok(())
+}
+
+fn write_escaped(line: &mut Vec<u8>, byte: u8) -> Result<(), AllocError>
+    ensures { OnOk result (line.new.items ≡ line.old.items ++ escaped_byte byte) }
+{
+    if 33 <= byte && byte <= 126 && byte != b'%' {
+        line.push(byte)?;
+        return Ok(());
+    }
+    line.push(b'%')?;
+    line.push(hex_digit(byte / 16))?;
+    line.push(hex_digit(byte % 16))?;
+    Ok(())
+}
+
+fn hex_digit(digit: u8) -> u8
+    requires { digit < 16 }
+    ensures { result ≡ hex_digit_of digit }
+{
+    if digit < 10 { 48 + digit } else { 55 + digit }
+}
+
+// Seconds, `.` and nine digits, or `none`.
+fn write_expiry(line: &mut Vec<u8>, expiry: Option<Instant>) -> Result<(), AllocError>
+    ensures { OnOk result (line.new.items ≡ line.old.items ++ shown_expiry expiry) }
+{
+    let Some(moment) = expiry else {
+        write_word(line, b"none")?;
+        return Ok(());
+    };
+    write_signed(line, moment.seconds())?;
+    line.push(b'.')?;
+    write_nine_digits(line, moment.nanos())?;
+    Ok(())
+}
+
+fn write_signed(line: &mut Vec<u8>, number: i64) -> Result<(), AllocError>
+    ensures { OnOk result (line.new.items ≡ line.old.items ++ signed_decimal number) }
+{
+    let digits = number.to_string(*line.allocator())?;
+    write_word(line, digits.as_bytes())?;
+    Ok(())
+}
+
+fn write_nine_digits(line: &mut Vec<u8>, number: u32) -> Result<(), AllocError>
+    requires { number < 1000000000 }
+    ensures { OnOk result (line.new.items ≡ line.old.items ++ nine_digits_of number) }
+{
+    write_three_digits(line, number / 1_000_000)?;
+    write_three_digits(line, number / 1000 % 1000)?;
+    write_three_digits(line, number % 1000)?;
+    Ok(())
+}
+
+fn write_three_digits(line: &mut Vec<u8>, number: u32) -> Result<(), AllocError>
+    requires { number < 1000 }
+    ensures { OnOk result (line.new.items ≡ line.old.items ++ three_digits_of number) }
+{
+    line.push(48 + (number / 100) as u8)?;
+    line.push(48 + (number / 10 % 10) as u8)?;
+    line.push(48 + (number % 10) as u8)?;
+    Ok(())
+}

@@ -1,0 +1,10 @@
+//! The program.
+#![tactic(auto)]
+
+mod input;
+mod lines;
+mod output;
+mod status;
+mod words;
+
+fn main(_rt: HostRuntime) {}

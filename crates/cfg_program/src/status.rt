@@ -1,0 +1,44 @@
+// How the program ends.
+ghost use Rattle.std.specs.Prelude.{◌≡◌};
+ghost use Rattle.cfg_program.specs.Statuses.{number_of};
+
+/// How a run of the program ended, with the status that the process ends with.
+#[derive(Clone, Copy, Debug, PartialEq, Eq)]
+pub enum Status {
+    /// The last call gave credentials, or a text was told.
+    Done,
+    /// The last call answered an error.
+    Refused,
+    /// The words are none that are known.
+    Words,
+    /// The input is no script.
+    NoScript,
+    /// The input could not be read.
+    SourceFault,
+    /// The lines could not be written.
+    SinkFault,
+    OutOfMemory,
+    /// The input is longer than a script may be.
+    TooLong,
+    /// The script names what is not built yet.
+    NotBuilt,
+}
+
+impl Status {
+    /// The number of the status. 8 is left for a word that is not built yet.
+    pub fn number(self) -> u8
+        ensures { result ≡ number_of self }
+    {
+        match self {
+            Status::Done => 0,
+            Status::Refused => 1,
+            Status::Words => 2,
+            Status::NoScript => 3,
+            Status::SourceFault => 4,
+            Status::SinkFault => 5,
+            Status::OutOfMemory => 6,
+            Status::TooLong => 7,
+            Status::NotBuilt => 9,
+        }
+    }
+}

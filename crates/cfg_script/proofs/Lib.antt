@@ -1,0 +1,4 @@
+pub mod Bytes
+pub mod Loop
+pub mod Members
+pub mod Pairs

@@ -1,0 +1,9 @@
+pub mod Script
+pub mod Forms
+pub mod Names
+pub mod Moments
+pub mod Variables
+pub mod Replies
+pub mod Reading
+pub mod Gives
+pub mod Held

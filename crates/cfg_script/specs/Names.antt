@@ -1,0 +1,79 @@
+-- The names of members.
+use Rattle.std.specs.Prelude.{ℕ, List, Bool, true, false, ◌&&◌, ◌||◌, bytes_eq, codes, Option, Some, None}
+use Rattle.serde_json.specs.Data.{Data, null, boolean, number, string, array, object, Members, no_members, member}
+use Rattle.serde_json.specs.Find.{get_member}
+
+-- some member has such a name
+abbrev pub some_name : (List ℕ → Bool) → Members → Bool
+some_name test no_members = false
+some_name test (member name d ms) = test name || some_name test ms
+
+-- every member has such a name
+abbrev pub every_name : (List ℕ → Bool) → Members → Bool
+every_name test no_members = true
+every_name test (member name d ms) = test name && every_name test ms
+
+-- what is built of a script
+abbrev pub is_built : List ℕ → Bool
+is_built name =
+    bytes_eq name (codes "variables")
+    || (bytes_eq name (codes "profiles")
+    || (bytes_eq name (codes "selected")
+    || (bytes_eq name (codes "region")
+    || (bytes_eq name (codes "clock")
+    || bytes_eq name (codes "replies")))))
+
+-- what belongs to a script and is not built
+abbrev pub is_unbuilt : List ℕ → Bool
+is_unbuilt name =
+    bytes_eq name (codes "calls")
+    || (bytes_eq name (codes "sessions")
+    || (bytes_eq name (codes "refused")
+    || (bytes_eq name (codes "sleep")
+    || (bytes_eq name (codes "files")
+    || (bytes_eq name (codes "unwritable")
+    || (bytes_eq name (codes "jitter")
+    || (bytes_eq name (codes "commands")
+    || bytes_eq name (codes "lookups"))))))))
+
+-- what is built of the replies
+abbrev pub is_built_reply : List ℕ → Bool
+is_built_reply name = bytes_eq name (codes "assume-role")
+
+-- what belongs to the replies and is not built
+abbrev pub is_unbuilt_reply : List ℕ → Bool
+is_unbuilt_reply name =
+    bytes_eq name (codes "http")
+    || (bytes_eq name (codes "imds-token")
+    || (bytes_eq name (codes "imds-get")
+    || (bytes_eq name (codes "web-identity")
+    || (bytes_eq name (codes "role-credentials")
+    || (bytes_eq name (codes "create-token")
+    || bytes_eq name (codes "sign-in"))))))
+
+-- the members of a refusal
+abbrev pub is_of_refusal : List ℕ → Bool
+is_of_refusal name = bytes_eq name (codes "refused") || bytes_eq name (codes "message")
+
+-- the members of credentials
+abbrev pub is_of_credentials : List ℕ → Bool
+is_of_credentials name =
+    bytes_eq name (codes "id")
+    || (bytes_eq name (codes "secret")
+    || (bytes_eq name (codes "token")
+    || (bytes_eq name (codes "expires")
+    || bytes_eq name (codes "arn"))))
+
+-- replies that are an object have a name that is not built
+abbrev pub names_unbuilt_reply : Option Data → Bool
+names_unbuilt_reply None = false
+names_unbuilt_reply (Some null) = false
+names_unbuilt_reply (Some (boolean b)) = false
+names_unbuilt_reply (Some (number n)) = false
+names_unbuilt_reply (Some (string s)) = false
+names_unbuilt_reply (Some (array ds)) = false
+names_unbuilt_reply (Some (object ms)) = some_name is_unbuilt_reply ms
+
+-- a name that is not built stands at the top or in the replies
+abbrev pub names_unbuilt : Members → Bool
+names_unbuilt ms = some_name is_unbuilt ms || names_unbuilt_reply (get_member (codes "replies") ms)
