@@ -3,3 +3,6 @@ pub mod Words
 pub mod Streams
 pub mod Inputs
 pub mod Lines
+pub mod Calls
+pub mod Written
+pub mod Run

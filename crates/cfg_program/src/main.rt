@@ -1,10 +1,93 @@
-//! The program.
+//! The program `resolve`: it reads a script from standard input, resolves credentials as the script
+//! says, and writes one line per call. It stands on cfg_chain and on cfg_script. Its top call is
+//! `run`, over any source, sink and world.
 #![tactic(auto)]
 
 mod input;
 mod lines;
 mod output;
+mod resolve;
+mod run;
 mod status;
 mod words;
 
-fn main(_rt: HostRuntime) {}
+use crate::run::run;
+use crate::status::Status;
+use crate::words::USAGE;
+use cfg_types::{EnvText, OutOfMemory, Seq, Text};
+use cfg_world::{DeviceLists, ReaderSource, ScriptDevices, World, WriterSink};
+use std::alloc::Global;
+use std::env;
+use std::env::VarError;
+use std::process::ExitCode;
+use std::rt::Env;
+
+fn main(rt: HostRuntime) -> ExitCode {
+    let status = match words_of(&rt) {
+        Some(words) => {
+            let mut source = ReaderSource::new(rt.stdin());
+            let mut sink = WriterSink::new(rt.stdout());
+            let mut world = World::new(rt.alloc(), idle_devices(rt.alloc()));
+            match variables_of(&rt) {
+                Ok(vars) => run(
+                    rt.alloc(),
+                    words.as_slice(),
+                    &mut source,
+                    &mut sink,
+                    vars,
+                    &mut world,
+                ),
+                Err(OutOfMemory) => Status::OutOfMemory,
+            }
+        }
+        None => Status::Words,
+    };
+    if status == Status::Words {
+        let _ = rt.eprintln(USAGE);
+    }
+    ExitCode::from(status.number())
+}
+
+// The words after the program's name, where they are texts.
+fn words_of(rt: &(impl Env + AllocGlobal)) -> Option<Vec<String>> {
+    let mut words = Vec::new(rt.alloc());
+    for word in env::args(rt).ok()?.skip(1) {
+        words.push(word).ok()?;
+    }
+    Some(words)
+}
+
+// The names of the variables that providers ask for.
+const ASKED: [&str; 5] = [
+    "AWS_ACCESS_KEY_ID",
+    "AWS_SECRET_ACCESS_KEY",
+    "SECRET_ACCESS_KEY",
+    "AWS_SESSION_TOKEN",
+    "AWS_ACCOUNT_ID",
+];
+
+// The variables that are set, of those that providers ask for.
+fn variables_of(rt: &(impl Env + AllocGlobal)) -> Result<Vec<(String, EnvText)>, OutOfMemory> {
+    let mut vars = Vec::new(rt.alloc());
+    for name in ASKED {
+        let value = match env::var(rt, name) {
+            Ok(text) => EnvText::Text(Text::from_string(text)),
+            Err(VarError::NotUnicode) => EnvText::NotUnicode,
+            Err(VarError::NotPresent) => continue,
+            Err(VarError::OutOfMemory) => return Err(OutOfMemory),
+        };
+        vars.push((String::from_str(rt.alloc(), name)?, value))?;
+    }
+    Ok(vars)
+}
+
+// Devices that no word asks.
+fn idle_devices(alloc: Global) -> ScriptDevices {
+    ScriptDevices::new(
+        alloc,
+        DeviceLists {
+            clock: Seq::of(Vec::new(alloc)),
+            assume_role: Seq::of(Vec::new(alloc)),
+        },
+    )
+}

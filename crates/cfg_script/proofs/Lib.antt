@@ -2,3 +2,4 @@ pub mod Bytes
 pub mod Loop
 pub mod Members
 pub mod Pairs
+pub mod Fitting

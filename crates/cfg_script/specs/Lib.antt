@@ -7,3 +7,4 @@ pub mod Replies
 pub mod Reading
 pub mod Gives
 pub mod Held
+pub mod Devices

@@ -5,6 +5,8 @@ ghost use Rattle.cfg_script.specs.Gives.{Gives, Tells};
 ghost use Rattle.cfg_script.specs.Held.{script_parts};
 ghost use Rattle.cfg_script.specs.Reading.{script_parts_in, plain_of, plain_from, json_value, members_reading, reading};
 ghost use Rattle.cfg_script.specs.Script.{plain, NoScript, NotBuilt};
+ghost use Rattle.cfg_script.specs.Devices.{lists_of};
+ghost use Rattle.cfg_world.specs.Script.{AllFit};
 
 use crate::names::{Built, any_unbuilt, every_named};
 use crate::part::parts_under;
@@ -119,8 +121,10 @@ fn read(alloc: Global, bytes: &[u8]) -> Result<Script, Unread>
 
 /// What the bytes say as a script. Each error comes exactly where `reading` says so, but for want
 /// of memory, which may come in place of any answer.
+
 pub fn read_script(alloc: Global, bytes: &[u8]) -> Result<Script, Unread>
     ensures script { IfOk result (λ s. reading bytes.now ≡ Ok (plain s)) }
+    ensures fits { IfOk result (λ s. AllFit (lists_of (plain s))) }
     ensures no_script { result ≡ Err Unread.NoScript → reading bytes.now ≡ Err NoScript }
     ensures not_built { result ≡ Err Unread.NotBuilt → reading bytes.now ≡ Err NotBuilt }
 {

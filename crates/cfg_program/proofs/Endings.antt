@@ -1,0 +1,20 @@
+-- How a run ends whose script was read and whose call was made.
+use Rattle.std.proofs.Common.{◌≡◌, ℕ, List, Bool, true, false, subst, inr}
+use Rattle.cfg_script.specs.Script.{Plain}
+use Rattle.cfg_program.specs.declared.status.Status.{Status}
+use Rattle.cfg_program.specs.declared.status.Status.TheVariants as status
+use Rattle.cfg_program.specs.Calls.{Answers}
+use Rattle.cfg_program.specs.Written.{LineWritten}
+use Rattle.cfg_program.specs.Run.{Seen, IsScript, EndsResolving}
+
+pub line_ends : (seen : Seen) (p : Plain) (b : Bool) (line : List ℕ) (ended : Status) → IsScript seen p → Answers p b line
+    → LineWritten seen.written seen.written_after seen.sink_faults seen.sink_faults_after b line ended → EndsResolving seen ended
+line_ends seen p b line status.Done i a w = record { p = p; input = i; line = line; answers = subst (λ x. Answers p x line) w.0 a; written = w.1 }
+line_ends seen p b line status.Refused i a w = record { p = p; input = i; line = line; answers = subst (λ x. Answers p x line) w.0 a; written = w.1 }
+line_ends seen p b line status.Words i a w = w
+line_ends seen p b line status.NoScript i a w = absurd w
+line_ends seen p b line status.SourceFault i a w = absurd w
+line_ends seen p b line status.SinkFault i a w = (w.0, record { p = p; input = i; is_credentials = b; line = line; answers = a; written = w.1 })
+line_ends seen p b line status.OutOfMemory i a w = inr (record { p = p; input = i; is_credentials = b; line = line; answers = a; written = w })
+line_ends seen p b line status.TooLong i a w = absurd w
+line_ends seen p b line status.NotBuilt i a w = absurd w

@@ -1,0 +1,16 @@
+-- The script was read, its call was made, and its line was written, as far as the sink took it.
+use Rattle.std.proofs.Common.{ap, sym, ◌∙◌}
+use Rattle.cfg_script.specs.Script.{plain}
+use Rattle.cfg_script.specs.Reading.{reading}
+use Rattle.cfg_program.proofs.Endings.{line_ends}
+use Rattle.cfg_program.proofs.run.resolve_script.Goals as goal
+
+pub returns : goal.returns
+returns g c =
+    line_ends _ (plain c.in-Ok-read_script.script) c.in-Ok-resolve.answered.is_ok c.in-Ok-resolve.answered.line.items c.write_line.result
+    (record {
+      bytes = c.in-Ok.bytes.items;
+      read = record { all = c.in-Ok.ensures.all; short = c.in-Ok.ensures.short };
+      script = ap reading (sym c.as_slice.ensures.value) ∙ c.in-Ok-read_script.ensures.script;
+    })
+    c.in-Ok-resolve.ensures c.write_line.ensures

@@ -1,0 +1,58 @@
+-- What a call of a script answers.
+use Rattle.std.specs.Prelude.{◌≡◌, ℕ, List, [], Bool, true, Option, None, map, option_map, is_ok, Result, codes}
+use Rattle.std.specs.FinMap.{empty}
+use Rattle.cfg_types.specs.Text.{characters}
+use Rattle.cfg_types.specs.Keys.{Keys}
+use Rattle.cfg_types.specs.Entries.{each_set}
+use Rattle.cfg_types.specs.declared.environment.EnvText.{EnvText}
+use Rattle.cfg_types.specs.declared.errors.CredentialsError.{CredentialsError}
+use Rattle.cfg_world.specs.declared.script.DeviceLists.{DeviceLists}
+use Rattle.cfg_world.specs.Fits.{Pair}
+use Rattle.cfg_world.specs.Held.{Held}
+use Rattle.cfg_world.specs.Script as devices
+use Rattle.cfg_world.specs.Script.{Given, start, no_faults}
+use Rattle.cfg_chain.specs.declared.profile.ProfileSource.TheVariants.{Sections}
+use Rattle.cfg_chain.specs.SectionParts.{SectionParts}
+use Rattle.cfg_chain.specs.SectionSets.{sections_by_name}
+use Rattle.cfg_chain.specs.Configuration.{Configuration}
+use Rattle.cfg_chain.specs.Resolves.{Resolves}
+use Rattle.cfg_script.specs.Script.{Plain, Section}
+use Rattle.cfg_script.specs.Devices.{lists_of}
+use Rattle.cfg_program.specs.Lines.{shown}
+
+-- a section that a script says, as the chain sees it
+abbrev pub section_parts : Section → SectionParts
+section_parts s = record { name = s.0; properties = s.1 }
+
+-- these variables, sections and selected name
+abbrev pub configured : List (List ℕ × EnvText) → List Section → Option (List ℕ) → Configuration
+configured variables profiles selected = record {
+  environment = each_set variables;
+  profiles = Sections (record { profiles = sections_by_name (map section_parts profiles); sessions = empty; selected = codes "default" });
+  profile_name = selected;
+  region = None;
+  sleep = true;
+}
+
+-- what a script configures
+abbrev pub configuration_of : Plain → Configuration
+configuration_of p = record (configured p.variables p.profiles p.selected) { region = option_map characters p.region }
+
+-- scripted devices that nothing was asked of yet
+pub record IsFresh (w : Held devices.Script) : Type 0 where
+  pub journal : w.journal ≡ []
+  pub place : w.devices.place ≡ start
+
+-- There is a call of the default chain over this configuration, to which the answers are those that
+-- the lists give; it has this outcome, and this line.
+pub record AnswersOver (conf : Configuration) (lists : DeviceLists) (is_credentials : Bool) (line : List ℕ) : Type 0 where
+  pub journal : List Pair
+  pub out : Result Keys CredentialsError
+  pub resolves : Resolves conf [] journal out
+  pub agrees : Given lists start journal
+  pub credentials : is_credentials ≡ is_ok out
+  pub shows : line ≡ shown out journal
+
+-- the call of a script
+abbrev pub Answers : Plain → Bool → List ℕ → Type 0
+Answers p is_credentials line = AnswersOver (configuration_of p) (lists_of p) is_credentials line

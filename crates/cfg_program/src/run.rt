@@ -1,0 +1,100 @@
+// The top call.
+ghost use Rattle.std.specs.Prelude.{◌≡◌, map, string_bytes};
+ghost use Rattle.cfg_script.specs.Reading.{reading};
+ghost use Rattle.cfg_program.specs.Words.{word_named};
+ghost use Rattle.cfg_program.specs.Written.{TextWritten, LineWritten};
+ghost use Rattle.cfg_program.specs.Run.{Ends, EndsResolving};
+
+use crate::input::{Unread, read_all};
+use crate::output::write_all;
+use crate::resolve::{Answered, resolve};
+use crate::status::Status;
+use crate::words::{HELP, VERSION, Word, word_of};
+use cfg_script::{Unread as NoScript, read_script};
+use cfg_types::EnvText;
+use cfg_world::{Devices, Sink, Source, StreamFault, World};
+use std::alloc::Global;
+
+/// Does what the words ask for: tells a text, or reads a script from the source and writes the line
+/// of its call to the sink. The words are tested first. Nothing is written before the script was
+/// read to its end. The environment and the world that are handed in are for words that are not
+/// built yet: no word asks them anything.
+pub fn run<S: Source, K: Sink, D: Devices>(
+    alloc: Global,
+    words: &[String],
+    source: &mut S,
+    sink: &mut K,
+    _env: Vec<(String, EnvText)>,
+    world: &mut World<D>,
+) -> Status
+    ensures ends { Ends (record {
+      left = S.left source.old;
+      written = K.written sink.old;
+      written_after = K.written sink.new;
+      source_faults = S.faults source.old;
+      source_faults_after = S.faults source.new;
+      sink_faults = K.faults sink.old;
+      sink_faults_after = K.faults sink.new;
+    }) (word_named (map (λ w. string_bytes w) words.now)) result }
+    ensures world { world.new ≡ world.old }
+{
+    match word_of(words) {
+        None => Status::Words,
+        Some(Word::Help) => tell(sink, HELP),
+        Some(Word::Version) => tell(sink, VERSION),
+        Some(Word::Resolve) => resolve_script(alloc, source, sink),
+    }
+}
+
+// Tells a text.
+fn tell<K: Sink>(sink: &mut K, text: &str) -> Status
+    ensures { TextWritten (K.written sink.old) (K.written sink.new) (K.faults sink.old) (K.faults sink.new) text.now result }
+{
+    match write_all(sink, text.as_bytes()) {
+        Ok(()) => Status::Done,
+        Err(StreamFault::Failed) => Status::SinkFault,
+        Err(StreamFault::OutOfMemory) => Status::OutOfMemory,
+    }
+}
+
+// Reads a script, makes its call, and writes the line.
+fn resolve_script<S: Source, K: Sink>(alloc: Global, source: &mut S, sink: &mut K) -> Status
+    ensures { EndsResolving (record {
+      left = S.left source.old;
+      written = K.written sink.old;
+      written_after = K.written sink.new;
+      source_faults = S.faults source.old;
+      source_faults_after = S.faults source.new;
+      sink_faults = K.faults sink.old;
+      sink_faults_after = K.faults sink.new;
+    }) result }
+{
+    let bytes = match read_all(alloc, source) {
+        Ok(bytes) => bytes,
+        Err(Unread::Fault) => return Status::SourceFault,
+        Err(Unread::OutOfMemory) => return Status::OutOfMemory,
+        Err(Unread::TooLong) => return Status::TooLong,
+    };
+    let script = match read_script(alloc, bytes.as_slice()) {
+        Ok(script) => script,
+        Err(NoScript::NoScript) => return Status::NoScript,
+        Err(NoScript::NotBuilt) => return Status::NotBuilt,
+        Err(NoScript::OutOfMemory) => return Status::OutOfMemory,
+    };
+    let Ok(answered) = resolve(alloc, script) else {
+        return Status::OutOfMemory;
+    };
+    write_line(sink, &answered)
+}
+
+// Writes the line of a call.
+fn write_line<K: Sink>(sink: &mut K, answered: &Answered) -> Status
+    ensures { LineWritten (K.written sink.old) (K.written sink.new) (K.faults sink.old) (K.faults sink.new) answered.now.is_ok answered.now.line.items result }
+{
+    match write_all(sink, answered.line.as_slice()) {
+        Ok(()) if answered.is_ok => Status::Done,
+        Ok(()) => Status::Refused,
+        Err(StreamFault::Failed) => Status::SinkFault,
+        Err(StreamFault::OutOfMemory) => Status::OutOfMemory,
+    }
+}
