@@ -1,6 +1,6 @@
 -- Which answer comes where, by the readings of the variables.
-use Rattle.std.proofs.Common.{◌≡◌, ℕ, List, [], ◌∷◌, Bool, true, false, cond, Option, Some, None, Result, Ok, Err, inl, inr, refl, sym, ap, ◌∙◌, subst}
-use Rattle.std.specs.Prelude.{not, ◌&&◌, ◌||◌, is_some, is_none, is_ok, codes, if◌then◌else◌}
+use Rattle.std.proofs.Common.{◌≡◌, ℕ, List, [], ◌∷◌, ◌++◌, append-nil, Bool, true, false, cond, Option, Some, None, Result, Ok, Err, inl, inr, refl, sym, ap, ◌∙◌, subst}
+use Rattle.std.specs.Prelude.{not, ◌&&◌, ◌||◌, IfSome, is_some, is_none, is_ok, codes, if◌then◌else◌}
 use Rattle.std.specs.List.{list_all}
 use Rattle.cfg_types.specs.Keys.{Keys}
 use Rattle.cfg_types.specs.declared.errors.CredentialsError.{CredentialsError}
@@ -9,17 +9,27 @@ use denote.Hole.Carrier as carrier
 use Rattle.cfg_types.specs.declared.credentials.AwsCredentialFeature.TheVariants.{CredentialsEnvVars}
 use Rattle.cfg_types.specs.Environment.{Variables, variable}
 use Rattle.cfg_world.specs.Fits.{Pair}
-use Rattle.cfg_world.specs.Inquiry.{Done, Reads}
+use Rattle.cfg_types.specs.declared.errors.NotLoadedCause.{NotLoadedCause}
+use Rattle.cfg_types.specs.declared.errors.ProviderCause.{ProviderCause}
+use Rattle.cfg_types.specs.declared.errors.ProfileFileError.{ProfileFileError}
+use Rattle.cfg_types.specs.declared.errors.ProfileFileError.TheVariants as plan_error
+use Rattle.cfg_world.specs.Inquiry.{Done, Reads, if_ok}
+use Rattle.cfg_world.proofs.Inquiries.{split_after}
+use Rattle.cfg_chain.specs.declared.profile_chain.ProfileChain.{ProfileChain}
+use Rattle.cfg_chain.specs.Plans.{plan}
+use Rattle.cfg_chain.specs.Derivation.{in_role, derives}
+use Rattle.cfg_chain.specs.Profiles.{refusal, by_profile, follows_plan, profile}
 use Rattle.cfg_chain.specs.declared.kept.Found.{Found}
-use Rattle.cfg_chain.specs.declared.member.Member.TheVariants.{Environment}
+use Rattle.cfg_chain.specs.declared.member.Member.TheVariants.{Environment, Profile}
 use Rattle.cfg_chain.specs.declared.member.Turn.TheVariants.{PassedOver, Answers}
 use Rattle.cfg_chain.specs.Configuration.{Configuration}
 use Rattle.cfg_chain.specs.Gives.{◌>>=◌}
 use Rattle.cfg_chain.specs.EnvironmentKeys.{required_by, secret_or, optional, usable, is_not_unicode, environment}
-use Rattle.cfg_chain.specs.Members.{reading, is_not_loaded, turn, attempt}
-use Rattle.cfg_chain.specs.Chains.{none_loaded}
+use Rattle.cfg_chain.specs.Members.{reading, is_not_loaded, is_not_loaded_level, turn, attempt}
+use Rattle.cfg_chain.specs.Chains.{Attempts, none_loaded}
 use Rattle.cfg_chain.specs.Resolves.{Resolves, AreParts, default_members}
-use Rattle.cfg_chain.specs.Causes.{HasCause, is_passed_over, environment_is_passed_over, unreadable_variable, named_variable, is_not_loaded_answer}
+use Rattle.cfg_chain.specs.Causes.{HasCause, is_passed_over, environment_is_passed_over, unreadable_variable, plan_is_passed_over, fault_of_plan, fault, first_failure, named_variable, is_not_loaded_answer, told_fault, fault_in_level, tells_role, is_role_level, is_memory, is_memory_level}
+use Rattle.cfg_chain.proofs.DerivationCauses.{Derived, derived}
 
 abbrev id_name : List ℕ
 id_name = codes "AWS_ACCESS_KEY_ID"
@@ -48,21 +58,28 @@ abbrev stopped_by : Option (List ℕ) → Bool → Option (List ℕ) → Option 
 stopped_by id id_unreadable secret older older_unreadable =
     if is_none id && id_unreadable then Some id_name else (if (is_some id && is_none secret) && (is_none older && older_unreadable) then Some older_name else None)
 
-record Told (out : Result Keys CredentialsError) (passed : Bool) (stopped : Option (List ℕ)) : Type 0 where
+-- what an answer tells: not loaded, a variable, a fault of the profile, a failure of a role, or credentials
+record Tells (out : Result Keys CredentialsError) (passed : Bool) (stopped : Option (List ℕ)) (wrong : Option ProfileFileError) (failed : Option CredentialsError) : Type 0 where
   not_loaded : is_not_loaded_answer out ≡ passed
   named : named_variable out ≡ stopped
-  loaded : is_ok out ≡ (not passed && is_none stopped)
+  fault : told_fault out ≡ wrong
+  is_role : tells_role out ≡ is_some failed
+  role : IfSome failed (λ e. out ≡ in_role (Err e))
+  loaded : is_ok out ≡ (not passed && (is_none stopped && (is_none wrong && is_none failed)))
+
+record Told (out : Result Keys CredentialsError) (passed : Bool) (stopped : Option (List ℕ)) : Type 0 where
+  tells : Tells out passed stopped None None
   apart : passed ≡ true → stopped ≡ None
 
 told : (id : Option (List ℕ)) (id_unreadable : Bool) (secret older : Option (List ℕ)) (older_unreadable : Bool) (token account : Option (List ℕ)) →
     Told (keys_by id id_unreadable secret older older_unreadable token account) (passed_by id id_unreadable secret older older_unreadable) (stopped_by id id_unreadable secret older older_unreadable)
 unfolding errors.out-CredentialsError carrier.out
-told None true secret older v token account = record { not_loaded = refl; named = refl; loaded = refl; apart = λ h. cc }
-told None false secret older v token account = record { not_loaded = refl; named = refl; loaded = refl; apart = λ h. refl }
-told (Some i) u (Some s) older v token account = record { not_loaded = refl; named = refl; loaded = refl; apart = λ h. cc }
-told (Some i) u None (Some s) v token account = record { not_loaded = refl; named = refl; loaded = refl; apart = λ h. cc }
-told (Some i) u None None true token account = record { not_loaded = refl; named = refl; loaded = refl; apart = λ h. cc }
-told (Some i) u None None false token account = record { not_loaded = refl; named = refl; loaded = refl; apart = λ h. refl }
+told None true secret older v token account = record { tells = record { not_loaded = refl; named = refl; fault = refl; is_role = refl; role = tt; loaded = refl }; apart = λ h. cc }
+told None false secret older v token account = record { tells = record { not_loaded = refl; named = refl; fault = refl; is_role = refl; role = tt; loaded = refl }; apart = λ h. refl }
+told (Some i) u (Some s) older v token account = record { tells = record { not_loaded = refl; named = refl; fault = refl; is_role = refl; role = tt; loaded = refl }; apart = λ h. cc }
+told (Some i) u None (Some s) v token account = record { tells = record { not_loaded = refl; named = refl; fault = refl; is_role = refl; role = tt; loaded = refl }; apart = λ h. cc }
+told (Some i) u None None true token account = record { tells = record { not_loaded = refl; named = refl; fault = refl; is_role = refl; role = tt; loaded = refl }; apart = λ h. cc }
+told (Some i) u None None false token account = record { tells = record { not_loaded = refl; named = refl; fault = refl; is_role = refl; role = tt; loaded = refl }; apart = λ h. refl }
 
 told_of : (env : Variables) → Told (environment env) (environment_is_passed_over env) (unreadable_variable env)
 unfolding environment
@@ -71,37 +88,162 @@ told_of env =
     (usable (variable env older_name)) (is_not_unicode (variable env older_name))
     (optional (variable env (codes "AWS_SESSION_TOKEN"))) (optional (variable env (codes "AWS_ACCOUNT_ID")))
 
+-- what the environment reads; it asks nothing
+record Quiet (conf : Configuration) (journal : List Pair) (out : Result Keys CredentialsError) : Type 0 where
+  is : environment conf.environment ≡ out
+  empty : journal ≡ []
+
+quiet : (conf : Configuration) (journal : List Pair) (out : Result Keys CredentialsError) → Reads (reading conf Environment) journal out → Quiet conf journal out
+unfolding reading
+quiet conf [] out h = record { is = h; empty = refl }
+quiet conf (e ∷ journal) out h = absurd h
+
+-- what the profile tells
+refused : (e : ProfileFileError) → is_memory (Err (refusal e)) ≡ false → Tells (Err (refusal e)) (plan_is_passed_over (Err e)) None (fault_of_plan (Err e)) None
+unfolding errors.out-CredentialsError carrier.out
+refused (plan_error.InvalidProfile reason) h = record { not_loaded = refl; named = refl; fault = refl; is_role = refl; role = tt; loaded = refl }
+refused plan_error.NoProfilesDefined h = record { not_loaded = refl; named = refl; fault = refl; is_role = refl; role = tt; loaded = refl }
+refused (plan_error.ProfileDidNotContainCredentials name) h = record { not_loaded = refl; named = refl; fault = refl; is_role = refl; role = tt; loaded = refl }
+refused (plan_error.InvalidCredentialSource name message) h = record { not_loaded = refl; named = refl; fault = refl; is_role = refl; role = tt; loaded = refl }
+refused (plan_error.MissingProfile name message) h = record { not_loaded = refl; named = refl; fault = refl; is_role = refl; role = tt; loaded = refl }
+refused (plan_error.FeatureNotEnabled feature message) h = record { not_loaded = refl; named = refl; fault = refl; is_role = refl; role = tt; loaded = refl }
+refused plan_error.OutOfMemory h = cc
+
+none_if : {T : Type 0} (P : T → Type 0) (o : Option T) → true ≡ is_none o → IfSome o P
+none_if P None h = tt
+none_if P (Some x) h = cc
+
+-- the credentials of a derivation, marked; its errors stay
+marked : (journal part rest : List Pair) (middle out : Result Keys CredentialsError) → journal ≡ part ++ rest → Derived part middle →
+    Reads (if_ok (λ keys. Done (Ok (by_profile keys))) middle) rest out → Tells out false None None (first_failure journal)
+unfolding errors.out-CredentialsError carrier.out
+marked journal part [] (Ok keys) out parts d h =
+    let same : first_failure part ≡ first_failure journal = ap first_failure (sym (parts ∙ append-nil part)) in
+    subst (λ o. Tells o false None None (first_failure journal)) h (record {
+      not_loaded = refl;
+      named = refl;
+      fault = refl;
+      is_role = d.is_role ∙ ap is_some same;
+      role = none_if _ (first_failure journal) (d.loaded ∙ ap is_none same);
+      loaded = d.loaded ∙ ap is_none same;
+    })
+marked journal part [] (Err e) out parts d h =
+    let same : first_failure part ≡ first_failure journal = ap first_failure (sym (parts ∙ append-nil part)) in
+    subst (λ o. Tells o false None None (first_failure journal)) h (record {
+      not_loaded = d.not_loaded;
+      named = d.named;
+      fault = d.fault;
+      is_role = d.is_role ∙ ap is_some same;
+      role = subst (λ f. IfSome f (λ x. Err e ≡ in_role (Err x))) same d.role;
+      loaded = d.loaded ∙ ap is_none same;
+    })
+marked journal part (x ∷ rest) (Ok keys) out parts d h = absurd h
+marked journal part (x ∷ rest) (Err e) out parts d h = absurd h
+
+by_plan : (conf : Configuration) (p : Result ProfileChain ProfileFileError) (journal : List Pair) (out : Result Keys CredentialsError) → is_memory out ≡ false →
+    Reads (follows_plan conf p) journal out → Tells out (plan_is_passed_over p) None (fault_of_plan p) (first_failure journal)
+by_plan conf (Err e) [] out m h = subst (λ o. Tells o (plan_is_passed_over (Err e)) None (fault_of_plan (Err e)) None) h (refused e (ap is_memory h ∙ m))
+by_plan conf (Err e) (x ∷ journal) out m h = absurd h
+by_plan conf (Ok p) journal out m h =
+    let s = split_after (derives conf p.roles p.base) (if_ok (λ keys. Done (Ok (by_profile keys)))) journal out h in
+    marked journal s.part s.rest s.middle out s.parts (derived conf p.roles p.base s.part s.middle s.first) s.then
+
+profiled : (conf : Configuration) (journal : List Pair) (out : Result Keys CredentialsError) → is_memory out ≡ false →
+    Reads (reading conf Profile) journal out → Tells out (plan_is_passed_over (plan conf)) None (fault_of_plan (plan conf)) (first_failure journal)
+unfolding reading profile
+profiled conf journal out m h = by_plan conf (plan conf) journal out m h
+
+-- an error of a provider that was not loaded tells nothing else
+record Silent (e : CredentialsError) : Type 0 where
+  memory : is_memory (Err e) ≡ false
+  fault : told_fault (Err e) ≡ None
+  role : tells_role (Err e) ≡ false
+
+silent_level : (l : errors.TheOpen.CredentialsError-F CredentialsError NotLoadedCause ProviderCause) → is_not_loaded_level l ≡ true → (is_memory_level l ≡ false) × (fault_in_level l ≡ None) × (is_role_level l ≡ false)
+silent_level (errors.TheOpen.CredentialsError-F.CredentialsNotLoaded cause) h = (refl, refl, refl)
+silent_level (errors.TheOpen.CredentialsError-F.InvalidConfiguration cause) h = cc
+silent_level (errors.TheOpen.CredentialsError-F.ProviderError cause) h = cc
+silent_level (errors.TheOpen.CredentialsError-F.Unhandled cause) h = cc
+silent_level errors.TheOpen.CredentialsError-F.OutOfMemory h = cc
+
+silent : (e : CredentialsError) → is_not_loaded e ≡ true → Silent e
+silent e h = let s = silent_level (errors.out-CredentialsError e) h in record { memory = s.0; fault = s.1; role = s.2 }
+
+chosen_answers : (b : Bool) (e : CredentialsError) → cond b (PassedOver e) (Answers (Err e)) ≡ Answers (Err e) → b ≡ false
+chosen_answers true e h = cc
+chosen_answers false e h = refl
+
+decides : (out : Result Keys CredentialsError) → turn out ≡ Answers out → is_not_loaded_answer out ≡ false
+decides (Ok keys) h = refl
+decides (Err e) h = chosen_answers (is_not_loaded e) e h
+
 and_true : (b : Bool) → b ≡ (b && true)
 and_true true = refl
 and_true false = refl
 
--- what the one member reads
-quiet : (conf : Configuration) (journal : List Pair) (out : Result Keys CredentialsError) → Reads (reading conf Environment) journal out → environment conf.environment ≡ out
-unfolding reading
-quiet conf [] out h = h
-quiet conf (e ∷ journal) out h = absurd h
+-- what the answer of the chain tells, where the environment is passed over and where it is not
+abbrev Whole : Configuration → List Pair → Result Keys CredentialsError → Bool → Option (List ℕ) → Type 0
+Whole conf journal out passed stopped =
+    Tells out (passed && (plan_is_passed_over (plan conf) && true)) stopped (if passed then fault_of_plan (plan conf) else None) (first_failure journal)
 
-passed_cause : (conf : Configuration) (e : CredentialsError) (out : Result Keys CredentialsError) → environment conf.environment ≡ Err e → is_not_loaded e ≡ true → out ≡ none_loaded (attempt Environment e ∷ []) → HasCause conf out
+whole_cause : (conf : Configuration) (journal : List Pair) (out : Result Keys CredentialsError) → Whole conf journal out (environment_is_passed_over conf.environment) (unreadable_variable conf.environment) → HasCause conf journal out
+whole_cause conf journal out t = record { not_loaded = t.not_loaded; not_unicode = t.named; invalid = t.fault; is_role = t.is_role; role = t.role; loaded = t.loaded }
+
+-- the environment decides
+environment_decides : (conf : Configuration) (journal : List Pair) (out : Result Keys CredentialsError) → Quiet conf journal out → turn out ≡ Answers out → HasCause conf journal out
+environment_decides conf journal out q answers =
+    let t = told_of conf.environment in
+    let loaded : environment_is_passed_over conf.environment ≡ false = sym t.tells.not_loaded ∙ ap is_not_loaded_answer q.is ∙ decides out answers in
+    let tells : Tells out false (unreadable_variable conf.environment) None None =
+          subst (λ o. Tells o false (unreadable_variable conf.environment) None None) q.is
+          (subst (λ b. Tells (environment conf.environment) b (unreadable_variable conf.environment) None None) loaded t.tells) in
+    whole_cause conf journal out
+    (subst (λ b. Whole conf journal out b (unreadable_variable conf.environment)) (sym loaded)
+    (subst (λ j. Tells out false (unreadable_variable conf.environment) None (first_failure j)) (sym q.empty) tells))
+
+-- the environment is passed over, and the others tell this
+after_environment : (conf : Configuration) (part rest journal : List Pair) (e : CredentialsError) (out : Result Keys CredentialsError) →
+    Quiet conf part (Err e) → is_not_loaded e ≡ true → journal ≡ part ++ rest → Whole conf rest out true None → HasCause conf journal out
+after_environment conf part rest journal e out q not_loaded parts t =
+    let env = told_of conf.environment in
+    let passed : environment_is_passed_over conf.environment ≡ true = sym env.tells.not_loaded ∙ ap is_not_loaded_answer q.is ∙ not_loaded in
+    let unstopped : unreadable_variable conf.environment ≡ None = env.apart passed in
+    let same : journal ≡ rest = parts ∙ ap (λ p. p ++ rest) q.empty in
+    whole_cause conf journal out
+    (subst (λ b. Whole conf journal out b (unreadable_variable conf.environment)) (sym passed)
+    (subst (λ s. Whole conf journal out true s) (sym unstopped)
+    (subst (λ j. Whole conf j out true None) (sym same) t)))
+
+-- the profile decides
+profile_decides : (conf : Configuration) (rest : List Pair) (out : Result Keys CredentialsError) → is_memory out ≡ false → Reads (reading conf Profile) rest out → Whole conf rest out true None
+profile_decides conf rest out m h = subst (λ b. Tells out b None (fault_of_plan (plan conf)) (first_failure rest)) (and_true (plan_is_passed_over (plan conf))) (profiled conf rest out m h)
+
+none_there : {T : Type 0} (o : Option T) → false ≡ is_some o → None ≡ o
+none_there None h = refl
+none_there (Some x) h = cc
+
+-- both are passed over
+none_tells : (attempts : Attempts) → Tells (none_loaded attempts) true None None None
 unfolding errors.out-CredentialsError carrier.out
-passed_cause conf e out is not_loaded told_is =
-    let t = told_of conf.environment in
-    let passed : environment_is_passed_over conf.environment ≡ true = sym t.not_loaded ∙ ap is_not_loaded_answer is ∙ not_loaded in
-    let unstopped : unreadable_variable conf.environment ≡ None = t.apart passed in
-    subst (λ o. HasCause conf o) (sym told_is) (record {
-      not_loaded = sym passed ∙ and_true _;
-      not_unicode = sym unstopped;
-      loaded = ap (λ (b : Bool). not (b && true) && is_none (unreadable_variable conf.environment)) (sym passed);
-    })
+none_tells attempts = record { not_loaded = refl; named = refl; fault = refl; is_role = refl; role = tt; loaded = refl }
 
-decided_cause : (conf : Configuration) (out : Result Keys CredentialsError) → environment conf.environment ≡ out → HasCause conf out
-decided_cause conf out is =
-    let t = told_of conf.environment in
-    subst (λ o. HasCause conf o) is (record {
-      not_loaded = t.not_loaded ∙ and_true _;
-      not_unicode = t.named;
-      loaded = t.loaded ∙ ap (λ (b : Bool). not b && is_none (unreadable_variable conf.environment)) (and_true _);
-    })
+all_passed_over : (conf : Configuration) (part rest journal : List Pair) (e : CredentialsError) (attempts : Attempts) → Reads (reading conf Profile) part (Err e) → is_not_loaded e ≡ true →
+    journal ≡ part ++ rest → rest ≡ [] → Whole conf journal (none_loaded attempts) true None
+all_passed_over conf part rest journal e attempts h not_loaded parts empty =
+    let s = silent e not_loaded in
+    let t = profiled conf part (Err e) s.memory h in
+    let passed : true ≡ (plan_is_passed_over (plan conf) && true) = sym not_loaded ∙ t.not_loaded ∙ and_true (plan_is_passed_over (plan conf)) in
+    let right : None ≡ fault_of_plan (plan conf) = sym s.fault ∙ t.fault in
+    let same : first_failure part ≡ first_failure journal = ap first_failure (sym (parts ∙ ap (λ r. part ++ r) empty ∙ append-nil part)) in
+    let fine : None ≡ first_failure journal = none_there (first_failure journal) (sym s.role ∙ t.is_role ∙ ap is_some same) in
+    subst (λ b. Tells (none_loaded attempts) b None (fault_of_plan (plan conf)) (first_failure journal)) passed
+    (subst (λ w. Tells (none_loaded attempts) true None w (first_failure journal)) right
+    (subst (λ f. Tells (none_loaded attempts) true None None f) fine (none_tells attempts)))
 
-pub has_cause : (conf : Configuration) (found : List Found) (journal : List Pair) (out : Result Keys CredentialsError) → Resolves conf found journal out → HasCause conf out
-has_cause conf found journal out (none, inl h) = passed_cause conf h.2 out (quiet conf h.0 (Err h.2) h.4.reads) h.4.not_loaded h.5.1
-has_cause conf found journal out (none, inr h) = decided_cause conf out (quiet conf journal out h.reads)
+pub has_cause : (conf : Configuration) (found : List Found) (journal : List Pair) (out : Result Keys CredentialsError) → is_memory out ≡ false → Resolves conf found journal out → HasCause conf journal out
+has_cause conf found journal out m (none, inl (part, rest, e, parts, passed, inl (profile_part, last, x, last_parts, profile_passed, ended))) =
+    after_environment conf part rest journal e out (quiet conf part (Err e) passed.reads) passed.not_loaded parts
+    (subst (λ o. Whole conf rest o true None) (sym ended.1) (all_passed_over conf profile_part last rest x _ profile_passed.reads profile_passed.not_loaded last_parts ended.0))
+has_cause conf found journal out m (none, inl (part, rest, e, parts, passed, inr decided)) =
+    after_environment conf part rest journal e out (quiet conf part (Err e) passed.reads) passed.not_loaded parts (profile_decides conf rest out m decided.reads)
+has_cause conf found journal out m (none, inr decided) = environment_decides conf journal out (quiet conf journal out decided.reads) decided.answers

@@ -2,15 +2,11 @@
 use Rattle.std.proofs.Common.{◌≡◌, List, [], Result, refl}
 use Rattle.cfg_types.specs.Keys.{Keys}
 use Rattle.cfg_types.specs.declared.errors.CredentialsError.{CredentialsError}
-use Rattle.cfg_world.specs.declared.devices.Devices.{Ghosts}
 use Rattle.cfg_world.specs.Fits.{Pair}
-use Rattle.cfg_world.specs.Held.{Held}
 use Rattle.cfg_world.specs.Inquiry.{Reads}
-use Rattle.cfg_world.specs.Grows.{Grows}
-use Rattle.cfg_chain.specs.declared.kept.Kept.{Kept}
 use Rattle.cfg_chain.specs.Configuration.{Configuration}
 use Rattle.cfg_chain.specs.Chains.{chain}
-use Rattle.cfg_chain.specs.Resolves.{Provides, Resolves, default_members}
+use Rattle.cfg_chain.specs.Resolves.{Resolves, default_members}
 use Rattle.cfg_chain.proofs.Parts.{chain_parts}
 
 pub resolved : (conf : Configuration) (journal : List Pair) (out : Result Keys CredentialsError) → Reads (chain conf default_members []) journal out → Resolves conf [] journal out

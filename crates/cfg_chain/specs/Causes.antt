@@ -1,19 +1,31 @@
 -- Which answer of the default chain comes where.
-use Rattle.std.specs.Prelude.{◌≡◌, ℕ, List, [], ◌∷◌, Bool, true, false, not, ◌&&◌, ◌||◌, Option, Some, None, is_some, is_none, is_ok, Result, Ok, Err, codes, if◌then◌else◌}
+use Rattle.std.specs.Prelude.{◌≡◌, ℕ, List, [], ◌∷◌, Bool, true, false, not, ◌&&◌, ◌||◌, Option, Some, None, IfSome, is_some, is_none, is_ok, Result, Ok, Err, codes, if◌then◌else◌}
 use Rattle.std.specs.List.{list_all}
 use Rattle.cfg_types.specs.Keys.{Keys}
 use Rattle.cfg_types.specs.declared.errors.CredentialsError.{CredentialsError, out-CredentialsError}
-use Rattle.cfg_types.specs.declared.errors.CredentialsError.TheOpen.{CredentialsError-F}
+use Rattle.cfg_types.specs.declared.errors.CredentialsError.TheOpen.{CredentialsError-F, ProviderCause-F}
 use Rattle.cfg_types.specs.declared.errors.NotLoadedCause.{NotLoadedCause}
-use Rattle.cfg_types.specs.declared.errors.ProviderCause.{ProviderCause}
+use Rattle.cfg_types.specs.declared.errors.ProviderCause.{ProviderCause, out-ProviderCause}
+use Rattle.cfg_types.specs.declared.errors.ConfigCause.{ConfigCause}
+use Rattle.cfg_types.specs.declared.errors.ConfigCause.TheVariants as config
+use Rattle.cfg_types.specs.declared.errors.ProfileFileError.{ProfileFileError}
+use Rattle.cfg_types.specs.declared.errors.ProfileFileError.TheVariants.{NoProfilesDefined, ProfileDidNotContainCredentials, MissingProfile}
 use Rattle.cfg_types.specs.declared.errors.UnhandledCause.{UnhandledCause}
 use Rattle.cfg_types.specs.declared.errors.UnhandledCause.TheVariants as unhandled
 use Rattle.cfg_types.specs.Environment.{Variables, variable}
+use Rattle.cfg_world.specs.declared.ask.Question.{Question}
+use Rattle.cfg_world.specs.declared.ask.Question.TheVariants.{Now, Send}
+use Rattle.cfg_world.specs.declared.ask.Answer.{Answer}
+use Rattle.cfg_world.specs.Fits.{Pair}
+use Rattle.cfg_world.specs.Leaves.{reply_of}
 use Rattle.cfg_chain.specs.declared.member.Member.{Member}
-use Rattle.cfg_chain.specs.declared.member.Member.TheVariants.{Environment}
+use Rattle.cfg_chain.specs.declared.profile_chain.ProfileChain.{ProfileChain}
+use Rattle.cfg_chain.specs.declared.member.Member.TheVariants.{Environment, Profile}
 use Rattle.cfg_chain.specs.Configuration.{Configuration}
 use Rattle.cfg_chain.specs.Members.{is_not_loaded}
 use Rattle.cfg_chain.specs.Resolves.{default_members}
+use Rattle.cfg_chain.specs.Plans.{plan}
+use Rattle.cfg_chain.specs.Derivation.{granted, in_role}
 use Rattle.cfg_chain.specs.EnvironmentKeys.{usable, is_not_unicode}
 
 -- a variable that is absent or blank
@@ -34,9 +46,49 @@ needs_older_secret env = is_some (usable (variable env (codes "AWS_ACCESS_KEY_ID
 abbrev pub environment_is_passed_over : Variables → Bool
 environment_is_passed_over env = is_missing env (codes "AWS_ACCESS_KEY_ID") || (needs_older_secret env && is_missing env (codes "SECRET_ACCESS_KEY"))
 
+-- the errors of profiles that are not loaded
+abbrev pub is_not_loaded_error : ProfileFileError → Bool
+is_not_loaded_error NoProfilesDefined = true
+is_not_loaded_error (ProfileDidNotContainCredentials profile) = true
+is_not_loaded_error (MissingProfile profile message) = true
+is_not_loaded_error _ = false
+
+-- The profile is passed over exactly where there is none, or where it has no credentials.
+abbrev pub plan_is_passed_over : Result ProfileChain ProfileFileError → Bool
+plan_is_passed_over (Ok p) = false
+plan_is_passed_over (Err e) = is_not_loaded_error e
+
 -- which member is passed over, by the configuration
 abbrev pub is_passed_over : Configuration → Member → Bool
 is_passed_over conf Environment = environment_is_passed_over conf.environment
+is_passed_over conf Profile = plan_is_passed_over (plan conf)
+
+-- what is wrong with the selected profile
+abbrev pub fault_of_plan : Result ProfileChain ProfileFileError → Option ProfileFileError
+fault_of_plan (Ok p) = None
+fault_of_plan (Err e) = if is_not_loaded_error e then None else Some e
+
+-- what is wrong with the configuration, where the chain comes to the profile
+abbrev pub fault : Configuration → Option ProfileFileError
+fault conf = if environment_is_passed_over conf.environment then fault_of_plan (plan conf) else None
+
+abbrev pub or_else : {T : Type 0} → Option T → Option T → Option T
+or_else (Some x) other = Some x
+or_else None other = other
+
+abbrev pub error_of : Result Keys CredentialsError → Option CredentialsError
+error_of (Ok keys) = None
+error_of (Err e) = Some e
+
+-- why the exchange of an entry gives no credentials: it failed, was refused, or its reply cannot be used
+abbrev pub exchange_failure : Question → Answer → Option CredentialsError
+exchange_failure Now answer = None
+exchange_failure (Send request) answer = error_of (granted (reply_of answer))
+
+-- the first exchange of a journal's part that gives no credentials
+abbrev pub first_failure : List Pair → Option CredentialsError
+first_failure [] = None
+first_failure (e ∷ part) = or_else (exchange_failure e.0 e.1) (first_failure part)
 
 -- the variable that stops the environment, since it is not Unicode
 abbrev pub unreadable_variable : Variables → Option (List ℕ)
@@ -61,6 +113,39 @@ abbrev pub named_variable : Result Keys CredentialsError → Option (List ℕ)
 named_variable (Ok keys) = None
 named_variable (Err e) = variable_of_level (out-CredentialsError e)
 
+abbrev pub fault_in_cause : ConfigCause → Option ProfileFileError
+fault_in_cause (config.Profile e) = Some e
+
+abbrev pub fault_in_level : CredentialsError-F CredentialsError NotLoadedCause ProviderCause → Option ProfileFileError
+fault_in_level (CredentialsError-F.CredentialsNotLoaded cause) = None
+fault_in_level (CredentialsError-F.InvalidConfiguration cause) = fault_in_cause cause
+fault_in_level (CredentialsError-F.ProviderError cause) = None
+fault_in_level (CredentialsError-F.Unhandled cause) = None
+fault_in_level CredentialsError-F.OutOfMemory = None
+
+-- the fault of the configuration that an answer tells
+abbrev pub told_fault : Result Keys CredentialsError → Option ProfileFileError
+told_fault (Ok keys) = None
+told_fault (Err e) = fault_in_level (out-CredentialsError e)
+
+abbrev pub is_role_cause : ProviderCause-F CredentialsError NotLoadedCause ProviderCause → Bool
+is_role_cause (ProviderCause-F.Base e) = false
+is_role_cause (ProviderCause-F.Role e) = true
+is_role_cause (ProviderCause-F.Sent kind) = false
+is_role_cause (ProviderCause-F.Refused refusal) = false
+
+abbrev pub is_role_level : CredentialsError-F CredentialsError NotLoadedCause ProviderCause → Bool
+is_role_level (CredentialsError-F.CredentialsNotLoaded cause) = false
+is_role_level (CredentialsError-F.InvalidConfiguration cause) = false
+is_role_level (CredentialsError-F.ProviderError cause) = is_role_cause (out-ProviderCause cause)
+is_role_level (CredentialsError-F.Unhandled cause) = false
+is_role_level CredentialsError-F.OutOfMemory = false
+
+-- whether an answer tells of a role that could not be assumed
+abbrev pub tells_role : Result Keys CredentialsError → Bool
+tells_role (Ok keys) = false
+tells_role (Err e) = is_role_level (out-CredentialsError e)
+
 abbrev pub is_not_loaded_answer : Result Keys CredentialsError → Bool
 is_not_loaded_answer (Ok keys) = false
 is_not_loaded_answer (Err e) = is_not_loaded e
@@ -77,11 +162,17 @@ abbrev pub is_memory : Result Keys CredentialsError → Bool
 is_memory (Ok keys) = false
 is_memory (Err e) = is_memory_level (out-CredentialsError e)
 
--- Every answer has its cause in the configuration. There is no other error than these two.
-pub record HasCause (conf : Configuration) (out : Result Keys CredentialsError) : Type 0 where
+-- Every answer has its cause in the configuration and in the journal's part. There is no other error
+-- than these four.
+pub record HasCause (conf : Configuration) (part : List Pair) (out : Result Keys CredentialsError) : Type 0 where
   -- not loaded, exactly where all members are passed over
   pub not_loaded : is_not_loaded_answer out ≡ list_all (is_passed_over conf) default_members
   -- a variable that is not Unicode, exactly where it stops the environment
   pub not_unicode : named_variable out ≡ unreadable_variable conf.environment
-  -- credentials, exactly where neither holds
-  pub loaded : is_ok out ≡ (not (list_all (is_passed_over conf) default_members) && is_none (unreadable_variable conf.environment))
+  -- a fault of the selected profile, exactly where the chain comes to it
+  pub invalid : told_fault out ≡ fault conf
+  -- a role that could not be assumed, exactly where an exchange gave no credentials, and for that reason
+  pub is_role : tells_role out ≡ is_some (first_failure part)
+  pub role : IfSome (first_failure part) (λ e. out ≡ in_role (Err e))
+  -- credentials, exactly where none of these holds
+  pub loaded : is_ok out ≡ (not (list_all (is_passed_over conf) default_members) && (is_none (unreadable_variable conf.environment) && (is_none (fault conf) && is_none (first_failure part))))

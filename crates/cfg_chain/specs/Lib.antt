@@ -4,8 +4,14 @@ pub mod SectionSets
 pub mod Configuration
 pub mod Gives
 pub mod EnvironmentKeys
+pub mod StaticKeys
+pub mod Plans
+pub mod Sts
+pub mod Derivation
+pub mod Profiles
 pub mod Members
 pub mod Chains
 pub mod Resolves
 pub mod Causes
+pub mod Provides
 pub mod Regions

@@ -8,19 +8,23 @@ use Rattle.cfg_types.specs.declared.errors.ProviderCause.{ProviderCause}
 use Rattle.cfg_types.specs.declared.errors.ProviderAttempt.{ProviderAttempt}
 use Rattle.cfg_world.specs.Inquiry.{Inquiry, Done}
 use Rattle.cfg_chain.specs.declared.member.Member.{Member}
-use Rattle.cfg_chain.specs.declared.member.Member.TheVariants.{Environment}
+use Rattle.cfg_chain.specs.declared.member.Member.TheVariants.{Environment, Profile}
 use Rattle.cfg_chain.specs.declared.member.Turn.{Turn}
 use Rattle.cfg_chain.specs.declared.member.Turn.TheVariants.{PassedOver, Answers}
 use Rattle.cfg_chain.specs.Configuration.{Configuration}
 use Rattle.cfg_chain.specs.EnvironmentKeys.{environment}
+use Rattle.cfg_chain.specs.Profiles.{profile}
 
 -- the name under which the chain tells of a member
 abbrev pub name_of : Member → List ℕ
 name_of Environment = codes "Environment"
+name_of Profile = codes "Profile"
 
--- A member's questions and, over their answers, its outcome. The environment asks nothing.
+-- A member's questions and, over their answers, its outcome. The environment asks nothing, and the
+-- profile asks for its roles.
 unfoldable pub reading : Configuration → Member → Inquiry (Result Keys CredentialsError)
 reading conf Environment = Done (environment conf.environment)
+reading conf Profile = profile conf
 
 abbrev pub is_not_loaded_level : CredentialsError-F CredentialsError NotLoadedCause ProviderCause → Bool
 is_not_loaded_level (CredentialsError-F.CredentialsNotLoaded cause) = true

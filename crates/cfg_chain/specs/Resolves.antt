@@ -2,15 +2,12 @@
 use Rattle.std.specs.Prelude.{◌≡◌, List, [], ◌∷◌, ◌++◌, Bool, true, Result, Ok, Err, ◌⊎◌}
 use Rattle.cfg_types.specs.Keys.{Keys}
 use Rattle.cfg_types.specs.declared.errors.CredentialsError.{CredentialsError}
-use Rattle.cfg_world.specs.declared.devices.Devices.{Ghosts}
 use Rattle.cfg_world.specs.Fits.{Pair}
-use Rattle.cfg_world.specs.Held.{Held}
-use Rattle.cfg_world.specs.Grows.{Grows}
 use Rattle.cfg_world.specs.Inquiry.{Reads}
 use Rattle.cfg_chain.specs.declared.kept.Found.{Found}
 use Rattle.cfg_chain.specs.declared.kept.Kept.{Kept}
 use Rattle.cfg_chain.specs.declared.member.Member.{Member}
-use Rattle.cfg_chain.specs.declared.member.Member.TheVariants.{Environment}
+use Rattle.cfg_chain.specs.declared.member.Member.TheVariants.{Environment, Profile}
 use Rattle.cfg_chain.specs.declared.member.Turn.TheVariants.{Answers}
 use Rattle.cfg_chain.specs.Configuration.{Configuration}
 use Rattle.cfg_chain.specs.Members.{reading, is_not_loaded, turn, attempt}
@@ -18,7 +15,7 @@ use Rattle.cfg_chain.specs.Chains.{Attempts, none_loaded}
 
 -- the members of the default chain, in its order
 abbrev pub default_members : List Member
-default_members = Environment ∷ []
+default_members = Environment ∷ Profile ∷ []
 
 -- The member was passed over: over this part of the journal it was not loaded.
 pub record IsPassedOver (conf : Configuration) (member : Member) (part : List Pair) (e : CredentialsError) : Type 0 where
@@ -46,9 +43,3 @@ Resolves conf found journal out = (found ≡ []) × AreParts conf default_member
 -- what a call finds kept
 abbrev pub found_by : Kept → List Pair → List Found
 found_by kept journal = []
-
--- The world's journal grew by exactly the part of such a call.
-pub record Provides {D : Type 0} (d : Ghosts D) (conf : Configuration) (kept : Kept) (old new : Held D) (out : Result Keys CredentialsError) : Type 0 where
-  pub part : List Pair
-  pub grows : Grows d part old new
-  pub resolves : Resolves conf (found_by kept part) part out

@@ -4,13 +4,18 @@
 #![tactic(auto)]
 
 mod chain;
+mod derivation;
 pub mod default_provider;
 mod environment;
 pub mod kept;
 pub mod laws;
 mod member;
 pub mod profile;
+mod profile_chain;
+mod profile_provider;
 pub mod provider_config;
+mod static_keys;
+mod sts;
 
 pub use default_provider::credentials::{DefaultCredentialsChain, RegionSource};
 pub use kept::{Found, Kept};

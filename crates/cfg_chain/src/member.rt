@@ -7,6 +7,7 @@ ghost use Rattle.cfg_world.specs.Inquiry.{Done};
 ghost use Rattle.cfg_chain.specs.EnvironmentKeys.{environment};
 
 use crate::environment::environment_credentials;
+use crate::profile_provider::follow_profile;
 use crate::provider_config::ProviderConfig;
 use cfg_types::{Credentials, CredentialsError};
 use cfg_world::{Asking, Halt, Stop};
@@ -16,6 +17,7 @@ use std::alloc::Global;
 #[derive(Clone, Copy, Debug, PartialEq, Eq)]
 pub enum Member {
     Environment,
+    Profile,
 }
 
 impl Member {
@@ -25,6 +27,7 @@ impl Member {
     {
         match self {
             Member::Environment => "Environment",
+            Member::Profile => "Profile",
         }
     }
 }
@@ -61,6 +64,7 @@ pub fn follow_member<A: Asking>(
 {
     match member {
         Member::Environment => follow_environment(alloc, config, asking),
+        Member::Profile => follow_profile(alloc, config, asking),
     }
 }
 

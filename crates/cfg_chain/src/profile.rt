@@ -1,7 +1,7 @@
 // Sections of profile files, as they are handed in.
-ghost use Rattle.std.specs.Prelude.{◌≡◌, IfOk, map, option_map, string_bytes};
+ghost use Rattle.std.specs.Prelude.{◌≡◌, ◌↔◌, IsTrue, IfOk, map, option_map, string_bytes};
 ghost use Rattle.std.specs.Option.{option_copied};
-ghost use Rattle.std.specs.FinMap.{get as entry_of};
+ghost use Rattle.std.specs.FinMap.{get as entry_of, len};
 ghost use Rattle.cfg_types.specs.Entries.{each_set};
 ghost use Rattle.std.specs.Str.{str_eq_ignore_ascii_case};
 ghost use Rattle.cfg_chain.specs.Sections.{bytes_of, property, named_section, last_match};
@@ -124,6 +124,13 @@ impl ProfileSet {
         ensures { option_copied result ≡ entry_of self.now.profiles name.now }
     {
         self.profiles.get(name)
+    }
+
+    /// Whether there is no profile.
+    pub fn is_empty(&self) -> bool
+        ensures { IsTrue result ↔ (len self.now.profiles ≡ 0) }
+    {
+        self.profiles.is_empty()
     }
 
     /// The session of this name, lent.

@@ -1,5 +1,5 @@
 -- A look-up in the tree is a look-up in the finite map that contracts see.
-use Rattle.std.proofs.Common.{◌≡◌, ℕ, cond, List, [], ◌∷◌, ◌++◌, map, Some, refl, sym, ap, ◌∙◌, string_bytes}
+use Rattle.std.proofs.Common.{◌≡◌, ℕ, cond, List, [], ◌∷◌, ◌++◌, map, Some, None, length, refl, sym, ap, ◌∙◌, string_bytes}
 use Rattle.std.specs.Prelude.{String}
 use Rattle.std.specs.declared.alloc.Global.{Global}
 use Rattle.std.specs.Ordering.{nat_cmp, is_eq, eq_by_cmp}
@@ -10,7 +10,7 @@ use Rattle.std.specs.String.{string_cmp}
 use Rattle.std.specs.Map.{lookup}
 use Rattle.std.specs.BTreeMap as tree
 use Rattle.std.specs.BTreeMap.{BTreeMap}
-use Rattle.std.specs.FinMap.{get, find, empty, insert, get-from_entries, get-insert, same_map, slice_cmp-IsAntisymmetric, nat_cmp-IsAntisymmetric}
+use Rattle.std.specs.FinMap.{get, find, len, empty, insert, get-empty, len-empty, empty_of_len, get-from_entries, get-insert, same_map, slice_cmp-IsAntisymmetric, nat_cmp-IsAntisymmetric}
 use Rattle.std.proofs.lemmas.Map.Text.{btree_map_updates_text, is_eq-slice_cmp}
 use Rattle.std.proofs.lemmas.List.Sums.{fold-append}
 use Rattle.cfg_types.specs.TextMap.{Named, named, map_of}
@@ -40,3 +40,18 @@ inserted m n name v updates = same_map nat_list_cmp_total (slice_cmp-IsAntisymme
 -- the entries so far, and one more
 pub each_set-push : {V : Type 0} (entries : List (List ℕ × V)) (v : List ℕ × V) → each_set (entries ++ v ∷ []) ≡ insert (each_set entries) v.0 v.1
 each_set-push {V} entries v = fold-append (λ (m : Named V) (w : List ℕ × V). insert m w.0 w.1) empty entries (v ∷ [])
+
+-- a map of no entries is empty, and no other is
+pub len-map_of : {V : Type 0} (es : List (String Global × V)) → length es ≡ 0 → len (map_of es) ≡ 0
+len-map_of [] h = len-empty (slice_cmp nat_cmp) _
+len-map_of (e ∷ es) h = cc
+
+some_is_there : {V : Type 0} (e : String Global × V) (es : List (String Global × V)) → get (map_of (e ∷ es)) (string_bytes e.0) ≡ Some e.1
+some_is_there e es = get-insert nat_list_cmp_total (map_of es) (string_bytes e.0) e.1 (string_bytes e.0) ∙ ap (λ b. cond b (Some e.1) (get (map_of es) (string_bytes e.0))) ((eq_by_cmp_equiv nat_list_cmp_total).refl (string_bytes e.0))
+
+none_there : {V : Type 0} (m : Named V) (q : List ℕ) → len m ≡ 0 → get m q ≡ None
+none_there m q h = ap (λ n. get n q) (empty_of_len m h) ∙ get-empty (slice_cmp nat_cmp) q
+
+pub no_entries : {V : Type 0} (es : List (String Global × V)) → len (map_of es) ≡ 0 → length es ≡ 0
+no_entries [] h = refl
+no_entries (e ∷ es) h = let e : Some e.1 ≡ None = sym (some_is_there e es) ∙ none_there (map_of (e ∷ es)) (string_bytes e.0) h in cc

@@ -1,5 +1,5 @@
 // Credentials and how they are put together.
-ghost use Rattle.std.specs.Prelude.{◌≡◌, IfOk, Some, None, [], Option, option_map};
+ghost use Rattle.std.specs.Prelude.{◌≡◌, ◌++◌, ◌∷◌, IfOk, OnOk, OnErr, Some, None, [], Option, option_map};
 ghost use Rattle.std.specs.Str.{encode_utf8_all};
 ghost use Rattle.cfg_types.specs.Text.{characters};
 
@@ -182,6 +182,14 @@ impl Credentials {
         ensures { result.now ≡ self.now.features }
     {
         self.features.as_slice()
+    }
+
+    /// One feature more that the credentials come by. Where memory runs out they stay as they were.
+    pub fn add_feature(&mut self, feature: AwsCredentialFeature) -> Result<(), OutOfMemory>
+        ensures ok { OnOk result (self.new ≡ record self.old { features = self.old.features ++ feature ∷ [] }) }
+        ensures err { OnErr result (self.new ≡ self.old) }
+    {
+        self.features.push(feature)
     }
 }
 

@@ -1,5 +1,6 @@
 // Environment variables that are handed in.
 ghost use Rattle.std.specs.Prelude.{◌≡◌, IfOk, MatchResult, Ok, Err, map};
+ghost use Rattle.std.specs.Str.{encode_utf8_all};
 ghost use Rattle.cfg_types.specs.Text.{characters};
 ghost use Rattle.cfg_types.specs.TextMap.{named};
 ghost use Rattle.cfg_types.specs.Entries.{each_set};
@@ -59,7 +60,8 @@ impl Env {
     /// What the variable is set to. `NotPresent` where it is not set, `NotUnicode` where its value
     /// is no text.
     pub fn get(&self, name: &str) -> Result<&str, VarError>
-        ensures { MatchResult result (λ text. variable self.now name.now ≡ Ok (characters text.now)) (λ e. variable self.now name.now ≡ Err e) }
+        ensures value { MatchResult result (λ text. variable self.now name.now ≡ Ok (characters text.now)) (λ e. variable self.now name.now ≡ Err e) }
+        ensures bytes { IfOk result (λ text. text.now ≡ encode_utf8_all (characters text.now)) }
     {
         match self.variables.get(name) {
             None => Err(VarError::NotPresent),

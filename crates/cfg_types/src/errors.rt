@@ -63,10 +63,14 @@ impl<E> ProviderChainError<E> {
 /// Why a profile gives no credentials.
 #[derive(Drop, Debug, PartialEq, Eq)]
 pub enum ProfileFileError {
+    /// The sections were refused, for this reason.
+    InvalidProfile(Text),
     NoProfilesDefined,
     ProfileDidNotContainCredentials { profile: Text },
     InvalidCredentialSource { profile: Text, message: Text },
     MissingProfile { profile: Text, message: Text },
+    /// The profile needs a provider that is not built.
+    FeatureNotEnabled { feature: Text, message: Option<Text> },
     OutOfMemory,
 }
 

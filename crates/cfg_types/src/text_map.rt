@@ -1,7 +1,7 @@
 // Values by name.
 ghost use Rattle.std.specs.Prelude.{◌≡◌, ◌↔◌, IsTrue, OnOk, OnErr, string_bytes};
 ghost use Rattle.std.specs.Option.{option_copied};
-ghost use Rattle.std.specs.FinMap.{get, insert, empty};
+ghost use Rattle.std.specs.FinMap.{get, insert, empty, len};
 
 use crate::memory::OutOfMemory;
 use std::alloc::Global;
@@ -49,5 +49,12 @@ impl<V: Drop> TextMap<V> {
         ensures { option_copied result ≡ get self.now name.now }
     {
         self.tree.get(name)
+    }
+
+    /// Whether no name has a value.
+    pub fn is_empty(&self) -> bool
+        ensures { IsTrue result ↔ (len self.now ≡ 0) }
+    {
+        self.tree.is_empty()
     }
 }

@@ -1,8 +1,8 @@
 //! The default chain of credentials providers.
 ghost use Rattle.std.specs.Prelude.{◌≡◌, IfOk, None, true, false};
 ghost use Rattle.cfg_world.specs.Grows.{Stopped};
-ghost use Rattle.cfg_chain.specs.Resolves.{Provides};
-ghost use Rattle.cfg_chain.specs.Causes.{HasCause, is_memory};
+ghost use Rattle.cfg_chain.specs.Provides.{Provides};
+ghost use Rattle.cfg_chain.specs.Causes.{is_memory};
 ghost use Rattle.cfg_chain.specs.Configuration.{nothing_configured};
 ghost use Rattle.cfg_chain.specs.Regions.{region_given};
 
@@ -70,7 +70,8 @@ impl Builder {
     }
 }
 
-/// The default chain. Its one member so far is the environment. Contracts see its configuration.
+/// The default chain. Its members so far are the environment and the selected profile. Contracts see
+/// its configuration.
 #[derive(Drop)]
 pub struct DefaultCredentialsChain {
     alloc: Global,
@@ -87,7 +88,7 @@ impl Model for DefaultCredentialsChain {
     ghost view = { λ c. c.config };
 }
 
-const MEMBERS: [Member; 1] = [Member::Environment];
+const MEMBERS: [Member; 2] = [Member::Environment, Member::Profile];
 
 impl DefaultCredentialsChain {
     /// A builder with no variables, no sections and no region.
@@ -118,7 +119,6 @@ impl DefaultCredentialsChain {
         world: &mut World<D>,
     ) -> Result<Credentials, CredentialsError>
         ensures provides { is_memory result ≡ false → Provides ⟦<D as Devices>⟧ self.now kept.old world.old world.new result }
-        ensures cause { is_memory result ≡ false → HasCause self.now result }
         ensures stays { is_memory result ≡ true → Stopped ⟦<D as Devices>⟧ world.old world.new }
         ensures kept { kept.new ≡ kept.old }
     {

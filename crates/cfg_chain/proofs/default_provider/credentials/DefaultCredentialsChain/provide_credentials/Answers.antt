@@ -7,16 +7,13 @@ use Rattle.cfg_chain.proofs.CauseCases.{has_cause}
 use Rattle.cfg_chain.proofs.default_provider.credentials.DefaultCredentialsChain.provide_credentials.Goals as goal
 
 pub returns-in-Ok-clause-provides : goal.returns-in-Ok-clause-provides
-returns-in-Ok-clause-provides g c = λ _.
+returns-in-Ok-clause-provides g c = λ no_want.
     let e = c.in-Ok.ensures in
+    let out = c.in-Ok.outcome in
+    let parts = resolved c.self.inside.config e.part out e.reads in
     record {
       part = e.part;
       grows = record { journal = e.grows; same = e.same; counted = e.counted; stands = e.stands };
-      resolves = subst (λ conf. Resolves conf [] e.part c.in-Ok.outcome) c.self.view_is (resolved c.self.inside.config e.part c.in-Ok.outcome e.reads);
+      resolves = subst (λ conf. Resolves conf [] e.part out) c.self.view_is parts;
+      cause = subst (λ conf. HasCause conf e.part out) c.self.view_is (has_cause c.self.inside.config [] e.part out no_want parts);
     }
-
-pub returns-in-Ok-clause-cause : goal.returns-in-Ok-clause-cause
-returns-in-Ok-clause-cause g c = λ _.
-    let e = c.in-Ok.ensures in
-    subst (λ conf. HasCause conf c.in-Ok.outcome) c.self.view_is
-    (has_cause c.self.inside.config [] e.part c.in-Ok.outcome (resolved c.self.inside.config e.part c.in-Ok.outcome e.reads))

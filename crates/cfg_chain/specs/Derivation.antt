@@ -1,0 +1,81 @@
+-- Roles that are assumed one after another, each with the credentials of the step before.
+use Rattle.std.specs.Prelude.{ℕ, List, [], ◌∷◌, ◌++◌, ◌*ℤ◌, ◌+ℤ◌, ◌/◌, pos, Option, Some, None, Result, Ok, Err, codes}
+use Rattle.std.specs.Fmt.{signed_decimal}
+use Rattle.cfg_types.specs.Text.{characters}
+use Rattle.cfg_types.specs.Moment.{Moment}
+use Rattle.cfg_types.specs.Keys.{Keys}
+use Rattle.cfg_types.specs.declared.errors.CredentialsError.{CredentialsError}
+use Rattle.cfg_types.specs.declared.errors.CredentialsError.TheVariants.{ProviderError, Unhandled}
+use Rattle.cfg_types.specs.declared.errors.ProviderCause.TheVariants as cause
+use Rattle.cfg_types.specs.declared.errors.UnhandledCause.{UnhandledCause}
+use Rattle.cfg_types.specs.declared.reply.FailKind.{FailKind}
+use Rattle.cfg_types.specs.declared.reply.Reply.{Reply}
+use Rattle.cfg_types.specs.declared.reply.Reply.TheVariants.{Sts, Refused}
+use Rattle.cfg_types.specs.declared.request.Request.{Request}
+use Rattle.cfg_types.specs.declared.request.Request.TheVariants.{AssumeRole}
+use Rattle.cfg_types.specs.declared.settings.CallSettings.{CallSettings}
+use Rattle.cfg_world.specs.Inquiry.{Inquiry, Done, after, ◌>>=◌}
+use Rattle.cfg_world.specs.Leaves.{clock, sending}
+use Rattle.cfg_chain.specs.declared.profile_chain.RoleArn.{RoleArn}
+use Rattle.cfg_chain.specs.Configuration.{Configuration}
+use Rattle.cfg_chain.specs.Sts.{into_credentials}
+
+-- the milliseconds since the epoch
+abbrev pub default_session_name : Moment → List ℕ
+default_session_name now = characters (codes "assume-role-from-profile-" ++ signed_decimal (now.seconds *ℤ pos 1000 +ℤ pos (now.nanos / 1000000)))
+
+-- the name of a role's session: the one that was given, else one made from a reading of the clock
+unfoldable pub session_name : Option (List ℕ) → Inquiry (List ℕ)
+session_name (Some name) = Done name
+session_name None = after clock (λ now. Done (default_session_name now))
+
+-- how the calls of a configuration are sent
+abbrev pub settings_of : Configuration → CallSettings
+settings_of conf = record {
+  region = conf.region;
+  use_fips = None;
+  use_dual_stack = None;
+  max_attempts = 3;
+  timeouts = record { connect_ms = None; read_ms = None; operation_ms = None; attempt_ms = None };
+}
+
+-- the request for a role's session of this name
+abbrev pub request : Configuration → RoleArn → Keys → List ℕ → Request
+request conf role signer name = AssumeRole (record {
+  signer = signer;
+  role_arn = role.role_arn;
+  session_name = name;
+  external_id = role.external_id;
+  policy = None;
+  policy_arns = None;
+  duration_seconds = None;
+  tags = None;
+  settings = settings_of conf;
+})
+
+abbrev pub or_unhandled : Result Keys UnhandledCause → Result Keys CredentialsError
+or_unhandled (Ok keys) = Ok keys
+or_unhandled (Err cause) = Err (Unhandled cause)
+
+-- what a reply gives, or why it gives nothing
+abbrev pub granted : Result Reply FailKind → Result Keys CredentialsError
+granted (Err kind) = Err (ProviderError (cause.Sent kind))
+granted (Ok (Refused refusal)) = Err (ProviderError (cause.Refused refusal))
+granted (Ok (Sts reply)) = or_unhandled (into_credentials reply (codes "AssumeRoleProvider"))
+
+-- an error of a role's exchange
+abbrev pub in_role : Result Keys CredentialsError → Result Keys CredentialsError
+in_role (Ok keys) = Ok keys
+in_role (Err e) = Err (ProviderError (cause.Role e))
+
+abbrev pub exchange : Configuration → RoleArn → Keys → List ℕ → Inquiry (Result Keys CredentialsError)
+exchange conf role signer name = after (sending (request conf role signer name)) (λ answer. Done (in_role (granted answer)))
+
+-- one role, assumed with these credentials
+unfoldable pub assumes : Configuration → Keys → RoleArn → Inquiry (Result Keys CredentialsError)
+assumes conf signer role = after (session_name role.session_name) (exchange conf role signer)
+
+-- these roles, one after another, the first of them with these credentials
+unfoldable pub derives : Configuration → List RoleArn → Keys → Inquiry (Result Keys CredentialsError)
+derives conf [] signer = Done (Ok signer)
+derives conf (role ∷ roles) signer = assumes conf signer role >>= derives conf roles

@@ -1,0 +1,19 @@
+-- What a call of the default chain leaves of the world's journal.
+use Rattle.std.specs.Prelude.{List, Result}
+use Rattle.cfg_types.specs.Keys.{Keys}
+use Rattle.cfg_types.specs.declared.errors.CredentialsError.{CredentialsError}
+use Rattle.cfg_world.specs.declared.devices.Devices.{Ghosts}
+use Rattle.cfg_world.specs.Fits.{Pair}
+use Rattle.cfg_world.specs.Held.{Held}
+use Rattle.cfg_world.specs.Grows.{Grows}
+use Rattle.cfg_chain.specs.declared.kept.Kept.{Kept}
+use Rattle.cfg_chain.specs.Configuration.{Configuration}
+use Rattle.cfg_chain.specs.Resolves.{Resolves, found_by}
+use Rattle.cfg_chain.specs.Causes.{HasCause}
+
+-- It grew by exactly the part of such a call, whose answer has its cause.
+pub record Provides {D : Type 0} (d : Ghosts D) (conf : Configuration) (kept : Kept) (old new : Held D) (out : Result Keys CredentialsError) : Type 0 where
+  pub part : List Pair
+  pub grows : Grows d part old new
+  pub resolves : Resolves conf (found_by kept part) part out
+  pub cause : HasCause conf part out

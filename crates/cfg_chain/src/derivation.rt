@@ -1,0 +1,165 @@
+// Roles that are assumed one after another, each with the credentials of the step before.
+ghost use Rattle.std.specs.Prelude.{◌≡◌, IfOk};
+ghost use Rattle.cfg_world.specs.Follows.{Follows};
+ghost use Rattle.cfg_chain.specs.Derivation.{default_session_name as default_name, session_name as session_name_of, settings_of, request as request_of, granted as granted_of, in_role, assumes, derives};
+
+use crate::profile_chain::RoleArn;
+use crate::provider_config::ProviderConfig;
+use crate::sts::into_credentials;
+use cfg_types::{
+    AssumeRole, Boxed, CallSettings, Credentials, CredentialsError, FailKind, Instant, OutOfMemory,
+    ProviderCause, Reply, Request, Text, Timeouts, TryCopy, copy_option,
+};
+use cfg_world::{Asking, Stop, read_clock, send};
+use std::alloc::Global;
+use std::string::ToString;
+
+/// Assumes these roles in order, the first with the base, and answers the last one's credentials.
+/// The first exchange that fails ends it.
+#[tactic(auto, using(crate::proofs::DerivationSteps::derivation_steps))]
+pub fn derive<A: Asking>(
+    alloc: Global,
+    config: &ProviderConfig,
+    roles: &[RoleArn],
+    base: Credentials,
+    asking: &mut A,
+) -> Result<Result<Credentials, CredentialsError>, Stop>
+    ensures { Follows ⟦<A as Asking>⟧ (derives config.now roles.now base) asking.old asking.new result }
+{
+    let mut signer = base;
+    for role in roles {
+        match assume_role(alloc, config, signer, role, asking)? {
+            Ok(credentials) => signer = credentials,
+            Err(error) => return Ok(Err(error)),
+        }
+    }
+    Ok(Ok(signer))
+}
+
+// One role: a name for its session, and one exchange.
+#[tactic(auto, using(cfg_world::proofs::Inquiries::asking_steps), unfolding(crate::specs::Derivation::assumes))]
+fn assume_role<A: Asking>(
+    alloc: Global,
+    config: &ProviderConfig,
+    signer: Credentials,
+    role: &RoleArn,
+    asking: &mut A,
+) -> Result<Result<Credentials, CredentialsError>, Stop>
+    ensures { Follows ⟦<A as Asking>⟧ (assumes config.now signer role.now) asking.old asking.new result }
+{
+    let name = session_name(alloc, role, asking)?;
+    let request = request(alloc, config, role, signer, name)?;
+    let answer = send(alloc, request, asking)?;
+    let answer = granted(alloc, &answer)?;
+    let outcome = or_role_error(alloc, answer)?;
+    Ok(outcome)
+}
+
+// The name of the role's session, or one made from a reading of the clock.
+#[tactic(auto, using(cfg_world::proofs::Inquiries::asking_steps), unfolding(crate::specs::Derivation::session_name))]
+fn session_name<A: Asking>(alloc: Global, role: &RoleArn, asking: &mut A) -> Result<Text, Stop>
+    ensures { Follows ⟦<A as Asking>⟧ (session_name_of role.now.session_name) asking.old asking.new result }
+{
+    match &role.session_name {
+        Some(name) => {
+            let name = name.copy(alloc)?;
+            Ok(name)
+        }
+        None => {
+            let now = read_clock(asking)?;
+            let name = default_session_name(alloc, now)?;
+            Ok(name)
+        }
+    }
+}
+
+fn default_session_name(alloc: Global, now: Instant) -> Result<Text, OutOfMemory>
+    ensures { IfOk result (λ name. name ≡ default_name now) }
+{
+    let mut name = String::from_str(alloc, "assume-role-from-profile-")?;
+    let digits = now.millis().to_string(alloc)?;
+    name.push_str(digits.as_str())?;
+    Ok(Text::from_string(name))
+}
+
+fn request(
+    alloc: Global,
+    config: &ProviderConfig,
+    role: &RoleArn,
+    signer: Credentials,
+    session_name: Text,
+) -> Result<Request, OutOfMemory>
+    ensures { IfOk result (λ r. r ≡ request_of config.now role.now signer session_name) }
+{
+    let role_arn = role.role_arn.copy(alloc)?;
+    let external_id = copy_option(alloc, &role.external_id)?;
+    let settings = settings(alloc, config)?;
+    Ok(Request::AssumeRole(AssumeRole {
+        signer,
+        role_arn,
+        session_name,
+        external_id,
+        policy: None,
+        policy_arns: None,
+        duration_seconds: None,
+        tags: None,
+        settings,
+    }))
+}
+
+fn settings(alloc: Global, config: &ProviderConfig) -> Result<CallSettings, OutOfMemory>
+    ensures { IfOk result (λ s. s ≡ settings_of config.now) }
+{
+    let region = match config.region() {
+        None => None,
+        Some(region) => Some(region.copy(alloc)?),
+    };
+    Ok(CallSettings {
+        region,
+        use_fips: None,
+        use_dual_stack: None,
+        max_attempts: 3,
+        timeouts: Timeouts {
+            connect_ms: None,
+            read_ms: None,
+            operation_ms: None,
+            attempt_ms: None,
+        },
+    })
+}
+
+// What a reply gives, or why it gives nothing.
+fn granted(
+    alloc: Global,
+    answer: &Result<Reply, FailKind>,
+) -> Result<Result<Credentials, CredentialsError>, OutOfMemory>
+    ensures { IfOk result (λ r. r ≡ granted_of answer.now) }
+{
+    match answer {
+        Ok(Reply::Sts(reply)) => match into_credentials(alloc, reply, "AssumeRoleProvider")? {
+            Ok(credentials) => Ok(Ok(credentials)),
+            Err(cause) => Ok(Err(CredentialsError::Unhandled(cause))),
+        },
+        Ok(Reply::Refused(refusal)) => {
+            let cause = ProviderCause::Refused(refusal.copy(alloc)?);
+            Ok(Err(CredentialsError::ProviderError(cause)))
+        }
+        Err(kind) => Ok(Err(CredentialsError::ProviderError(ProviderCause::Sent(*kind)))),
+    }
+}
+
+// An error of a role's exchange is told as such.
+fn or_role_error(
+    alloc: Global,
+    answer: Result<Credentials, CredentialsError>,
+) -> Result<Result<Credentials, CredentialsError>, OutOfMemory>
+    ensures { IfOk result (λ r. r ≡ in_role answer) }
+{
+    match answer {
+        Ok(credentials) => Ok(Ok(credentials)),
+        Err(error) => {
+            let error = Boxed::new(alloc, error)?;
+            Ok(Err(CredentialsError::ProviderError(ProviderCause::Role(error))))
+        }
+    }
+}
