@@ -20,4 +20,5 @@ mod sts;
 pub use default_provider::credentials::{DefaultCredentialsChain, RegionSource};
 pub use kept::{Found, Kept};
 pub use profile::{ProfileSet, ProfileSource, Section};
+pub use profile_chain::{has_other_source, is_built};
 pub use provider_config::ProviderConfig;

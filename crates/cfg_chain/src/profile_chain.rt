@@ -3,7 +3,7 @@ ghost use Rattle.std.specs.Prelude.{◌≡◌, [], ◌∷◌, IfOk};
 ghost use Rattle.std.specs.Option.{option_copied};
 ghost use Rattle.std.specs.FinMap.{get as entry_of};
 ghost use Rattle.cfg_chain.specs.Gives.{Gives};
-ghost use Rattle.cfg_chain.specs.Plans.{selected_name as selected_name_of, has_other_source as other_source_of, another as another_of, source_section as source_section_of, role_of, not_built as not_built_error, no_section as no_section_of, role_over, plan_of_selected as selected_plan, plan_of_section as section_plan, plan};
+ghost use Rattle.cfg_chain.specs.Plans.{selected_name as selected_name_of, has_other_source as other_source_of, another as another_of, source_section as source_section_of, role_of, not_built as not_built_error, no_section as no_section_of, role_over, plan_of_selected as selected_plan, plan_of_section as section_plan, plan, is_built as is_built_of};
 
 use crate::profile::{ProfileSet, ProfileSource, Section};
 use crate::provider_config::ProviderConfig;
@@ -56,6 +56,19 @@ pub fn plan_of(
             Err(Halt::Refused(ProfileFileError::InvalidProfile(reason)))
         }
         ProfileSource::Sections(set) => plan_of_selected(alloc, set, name),
+    }
+}
+
+/// Whether what the selected profile gives credentials by is built. So far these are keys of its own,
+/// and one role over the keys of another profile.
+pub fn is_built(alloc: Global, config: &ProviderConfig) -> Result<bool, OutOfMemory>
+    ensures { IfOk result (λ b. b ≡ is_built_of config.now) }
+{
+    match plan_of(alloc, config) {
+        Ok(_) => Ok(true),
+        Err(Halt::Refused(ProfileFileError::FeatureNotEnabled { .. })) => Ok(false),
+        Err(Halt::Refused(_)) => Ok(true),
+        Err(Halt::Stopped(_)) => Err(OutOfMemory),
     }
 }
 

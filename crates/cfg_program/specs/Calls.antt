@@ -16,6 +16,7 @@ use Rattle.cfg_chain.specs.SectionParts.{SectionParts}
 use Rattle.cfg_chain.specs.SectionSets.{sections_by_name}
 use Rattle.cfg_chain.specs.Configuration.{Configuration}
 use Rattle.cfg_chain.specs.Resolves.{Resolves}
+use Rattle.cfg_chain.specs.Causes.{HasCause}
 use Rattle.cfg_script.specs.Script.{Plain, Section}
 use Rattle.cfg_script.specs.Devices.{lists_of}
 use Rattle.cfg_program.specs.Lines.{shown}
@@ -25,14 +26,17 @@ abbrev pub section_parts : Section → SectionParts
 section_parts s = record { name = s.0; properties = s.1 }
 
 -- these variables, sections and selected name
-abbrev pub configured : List (List ℕ × EnvText) → List Section → Option (List ℕ) → Configuration
-configured variables profiles selected = record {
+abbrev pub configured_by : List (List ℕ × EnvText) → List SectionParts → Option (List ℕ) → Configuration
+configured_by variables sections selected = record {
   environment = each_set variables;
-  profiles = Sections (record { profiles = sections_by_name (map section_parts profiles); sessions = empty; selected = codes "default" });
+  profiles = Sections (record { profiles = sections_by_name sections; sessions = empty; selected = codes "default" });
   profile_name = selected;
   region = None;
   sleep = true;
 }
+
+abbrev pub configured : List (List ℕ × EnvText) → List Section → Option (List ℕ) → Configuration
+configured variables profiles selected = configured_by variables (map section_parts profiles) selected
 
 -- what a script configures
 abbrev pub configuration_of : Plain → Configuration
@@ -44,11 +48,12 @@ pub record IsFresh (w : Held devices.Script) : Type 0 where
   pub place : w.devices.place ≡ start
 
 -- There is a call of the default chain over this configuration, to which the answers are those that
--- the lists give; it has this outcome, and this line.
+-- the lists give; it has this outcome, which has its cause, and this line.
 pub record AnswersOver (conf : Configuration) (lists : DeviceLists) (is_credentials : Bool) (line : List ℕ) : Type 0 where
   pub journal : List Pair
   pub out : Result Keys CredentialsError
   pub resolves : Resolves conf [] journal out
+  pub cause : HasCause conf journal out
   pub agrees : Given lists start journal
   pub credentials : is_credentials ≡ is_ok out
   pub shows : line ≡ shown out journal

@@ -4,5 +4,6 @@ pub mod Streams
 pub mod Inputs
 pub mod Lines
 pub mod Calls
+pub mod Plans
 pub mod Written
 pub mod Run

@@ -11,6 +11,7 @@ use Rattle.cfg_program.specs.declared.words.Word.TheVariants.{Help, Version, Res
 use Rattle.cfg_program.specs.declared.words.TheConstants.{HELP, VERSION}
 use Rattle.cfg_program.specs.Streams.{Told, GrowsByFront, limit}
 use Rattle.cfg_program.specs.Calls.{Answers}
+use Rattle.cfg_program.specs.Plans.{plan_is_built}
 use Rattle.cfg_program.specs.Written.{TextWritten}
 
 -- what a run saw of its source and its sink, before and after
@@ -31,11 +32,18 @@ pub record WasRead (seen : Seen) (bytes : List ℕ) : Type 0 where
   pub all : Told seen.left (λ b. b ≡ bytes)
   pub short : length bytes ≤ limit
 
--- the input is this script
+-- the input is this script, and its plan is built
 pub record IsScript (seen : Seen) (p : Plain) : Type 0 where
   pub bytes : List ℕ
   pub read : WasRead seen bytes
   pub script : reading bytes ≡ Ok p
+  pub built : plan_is_built p ≡ true
+
+-- the input has a name that is not built, or it is a script whose plan is not built
+pub record IsNotBuilt (seen : Seen) : Type 0 where
+  pub bytes : List ℕ
+  pub read : WasRead seen bytes
+  pub cause : (reading bytes ≡ Err NotBuilt) ⊎ ((p : Plain) × (reading bytes ≡ Ok p) × (plan_is_built p ≡ false))
 
 -- the line of the script's own call was written
 pub record WritesLine (seen : Seen) (is_credentials : Bool) : Type 0 where
@@ -68,7 +76,7 @@ EndsResolving seen status.SourceFault = Rose seen.source_faults seen.source_faul
 EndsResolving seen status.SinkFault = Rose seen.sink_faults seen.sink_faults_after × WritesFront seen
 EndsResolving seen status.OutOfMemory = WritesNothing seen ⊎ WritesFront seen
 EndsResolving seen status.TooLong = Told seen.left (λ b. limit < length b) × WritesNothing seen
-EndsResolving seen status.NotBuilt = ((bytes : List ℕ) × WasRead seen bytes × (reading bytes ≡ Err NotBuilt)) × WritesNothing seen
+EndsResolving seen status.NotBuilt = IsNotBuilt seen × WritesNothing seen
 
 -- faulty words
 abbrev pub EndsForWords : Seen → Status → Type 0

@@ -58,12 +58,13 @@ fn words_of(rt: &(impl Env + AllocGlobal)) -> Option<Vec<String>> {
 }
 
 // The names of the variables that providers ask for.
-const ASKED: [&str; 5] = [
+const ASKED: [&str; 6] = [
     "AWS_ACCESS_KEY_ID",
     "AWS_SECRET_ACCESS_KEY",
     "SECRET_ACCESS_KEY",
     "AWS_SESSION_TOKEN",
     "AWS_ACCOUNT_ID",
+    "AWS_PROFILE",
 ];
 
 // The variables that are set, of those that providers ask for.

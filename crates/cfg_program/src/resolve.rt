@@ -1,5 +1,6 @@
 // From a script to the line of its call.
-ghost use Rattle.std.specs.Prelude.{◌≡◌, IfOk, map, option_map, string_bytes};
+ghost use Rattle.std.specs.Prelude.{◌≡◌, ◌&&◌, not, true, false, IfOk, Err, map, option_map, string_bytes};
+ghost use Rattle.std.specs.List.{list_any};
 ghost use Rattle.cfg_types.specs.Text.{characters};
 ghost use Rattle.cfg_types.specs.TextMap.{named};
 ghost use Rattle.cfg_types.specs.Entries.{each_set};
@@ -7,11 +8,14 @@ ghost use Rattle.cfg_world.specs.Script.{AllFit};
 ghost use Rattle.cfg_chain.specs.Causes.{is_memory};
 ghost use Rattle.cfg_script.specs.Script.{plain, section};
 ghost use Rattle.cfg_script.specs.Devices.{lists_of};
-ghost use Rattle.cfg_program.specs.Calls.{section_parts, configured, IsFresh, AnswersOver, Answers};
+ghost use Rattle.cfg_chain.specs.Plans.{has_other_source as has_other_source_of, is_built as is_built_of};
+ghost use Rattle.cfg_program.specs.Calls.{section_parts, configured_by, configured, IsFresh, AnswersOver, Answers};
+ghost use Rattle.cfg_program.specs.Plans.{names_other_source, plan_is_built};
 
 use crate::lines::line_of;
 use cfg_chain::{
     DefaultCredentialsChain, ProfileSet, ProfileSource, ProviderConfig, RegionSource, Section,
+    has_other_source, is_built,
 };
 use cfg_script::Script;
 use cfg_types::{Credentials, CredentialsError, Env, EnvText, OutOfMemory, Region, Seq};
@@ -25,11 +29,32 @@ pub struct Answered {
     pub line: Vec<u8>,
 }
 
+/// Why a script has no call.
+#[derive(Clone, Copy, Debug, PartialEq, Eq)]
+pub enum Unresolved {
+    /// Its plan is not built.
+    NotBuilt,
+    OutOfMemory,
+}
+
+impl From<OutOfMemory> for Unresolved {
+    ghost use Rattle.std.specs.Prelude.{◌≡◌};
+    ghost use Rattle.cfg_program.specs.declared.resolve.Unresolved.TheVariants.{OutOfMemory as memory};
+
+    ghost from_gives = { λ _ r. r ≡ memory };
+
+    fn from(_: OutOfMemory) -> Unresolved {
+        Unresolved::OutOfMemory
+    }
+}
+
 /// Makes the call that the script describes: over the chain with the script's configuration, and
 /// over the devices with the script's answers.
-pub fn resolve(alloc: Global, script: Script) -> Result<Answered, OutOfMemory>
+pub fn resolve(alloc: Global, script: Script) -> Result<Answered, Unresolved>
     requires { AllFit (lists_of (plain script)) }
-    ensures { IfOk result (λ a. Answers (plain script) a.is_ok a.line.items) }
+    ensures built { IfOk result (λ a. plan_is_built (plain script) ≡ true) }
+    ensures answers { IfOk result (λ a. Answers (plain script) a.is_ok a.line.items) }
+    ensures not_built { result ≡ Err Unresolved.NotBuilt → plan_is_built (plain script) ≡ false }
 {
     let Script {
         variables,
@@ -47,20 +72,55 @@ pub fn resolve(alloc: Global, script: Script) -> Result<Answered, OutOfMemory>
     };
     let mut world = World::new(alloc, ScriptDevices::new(alloc, lists));
     let chain = chain_of(alloc, config, region, &mut world)?;
-    call(alloc, &chain, &mut world)
+    let answered = call(alloc, &chain, &mut world)?;
+    Ok(answered)
 }
 
-// What the script configures. Its region comes to the chain as an override.
+// What the script configures, where its plan is built.
 fn configuration(
     alloc: Global,
     variables: Vec<(String, EnvText)>,
     profiles: Vec<(String, Vec<(String, String)>)>,
     selected: Option<String>,
+) -> Result<ProviderConfig, Unresolved>
+    ensures other { IfOk result (λ c. names_other_source (map section profiles.items) ≡ false) }
+    ensures built { IfOk result (λ c. is_built_of c ≡ true) }
+    ensures value { IfOk result (λ c. c ≡ configured (map named variables.items) (map section profiles.items) (option_map (λ t. string_bytes t) selected)) }
+    ensures not_built { result ≡ Err Unresolved.NotBuilt → (not (names_other_source (map section profiles.items)) && is_built_of (configured (map named variables.items) (map section profiles.items) (option_map (λ t. string_bytes t) selected))) ≡ false }
+{
+    let sections = sections(alloc, profiles)?;
+    if names_other(sections.as_slice()) {
+        return Err(Unresolved::NotBuilt);
+    }
+    let config = configured_with(alloc, variables, sections, selected)?;
+    if !is_built(alloc, &config)? {
+        return Err(Unresolved::NotBuilt);
+    }
+    Ok(config)
+}
+
+// Whether one of the sections names a provider that is not built.
+fn names_other(sections: &[Section]) -> bool
+    ensures { result ≡ list_any has_other_source_of sections.now }
+{
+    for section in sections {
+        if has_other_source(section) {
+            return true;
+        }
+    }
+    false
+}
+
+// These variables, sections and selected name. The region comes to the chain as an override.
+fn configured_with(
+    alloc: Global,
+    variables: Vec<(String, EnvText)>,
+    sections: Vec<Section>,
+    selected: Option<String>,
 ) -> Result<ProviderConfig, OutOfMemory>
-    ensures { IfOk result (λ c. c ≡ configured (map named variables.items) (map section profiles.items) (option_map (λ t. string_bytes t) selected)) }
+    ensures { IfOk result (λ c. c ≡ configured_by (map named variables.items) sections.items (option_map (λ t. string_bytes t) selected)) }
 {
     let env = Env::new(alloc, variables)?;
-    let sections = sections(alloc, profiles)?;
     let set = ProfileSet::new(alloc, sections, Vec::new(alloc), "default")?;
     let config = ProviderConfig::without_region(alloc)?;
     let config = config.with_env(env);

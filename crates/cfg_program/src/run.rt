@@ -7,7 +7,7 @@ ghost use Rattle.cfg_program.specs.Run.{Ends, EndsResolving};
 
 use crate::input::{Unread, read_all};
 use crate::output::write_all;
-use crate::resolve::{Answered, resolve};
+use crate::resolve::{Answered, Unresolved, resolve};
 use crate::status::Status;
 use crate::words::{HELP, VERSION, Word, word_of};
 use cfg_script::{Unread as NoScript, read_script};
@@ -81,8 +81,10 @@ fn resolve_script<S: Source, K: Sink>(alloc: Global, source: &mut S, sink: &mut 
         Err(NoScript::NotBuilt) => return Status::NotBuilt,
         Err(NoScript::OutOfMemory) => return Status::OutOfMemory,
     };
-    let Ok(answered) = resolve(alloc, script) else {
-        return Status::OutOfMemory;
+    let answered = match resolve(alloc, script) {
+        Ok(answered) => answered,
+        Err(Unresolved::NotBuilt) => return Status::NotBuilt,
+        Err(Unresolved::OutOfMemory) => return Status::OutOfMemory,
     };
     write_line(sink, &answered)
 }

@@ -12,5 +12,6 @@ returns g c =
       bytes = c.in-Ok.bytes.items;
       read = record { all = c.in-Ok.ensures.all; short = c.in-Ok.ensures.short };
       script = ap reading (sym c.as_slice.ensures.value) ∙ c.in-Ok-read_script.ensures.script;
+      built = c.in-Ok-resolve.ensures.built;
     })
-    c.in-Ok-resolve.ensures c.write_line.ensures
+    c.in-Ok-resolve.ensures.answers c.write_line.ensures
