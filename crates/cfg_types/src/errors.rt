@@ -11,14 +11,14 @@ use crate::text::Text;
 /// What one member of a chain answered.
 #[derive(Drop, Debug, PartialEq, Eq)]
 pub struct ProviderAttempt<E> {
-    name: Text,
-    error: E,
+    pub name: Text,
+    pub error: E,
 }
 
 /// What the members of a chain answered, in their order, when none of them was loaded.
 #[derive(Drop, Debug, PartialEq, Eq)]
 pub struct ProviderChainError<E> {
-    attempts: Seq<ProviderAttempt<E>>,
+    pub attempts: Seq<ProviderAttempt<E>>,
 }
 
 impl<E> ProviderAttempt<E> {

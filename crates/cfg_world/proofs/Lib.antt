@@ -1,3 +1,4 @@
 pub mod Counts
 pub mod Inquiries
 pub mod Scripted
+pub mod Pieces

@@ -9,3 +9,4 @@ pub mod Follows
 pub mod Leaves
 pub mod Script
 pub mod Memory
+pub mod Adapters

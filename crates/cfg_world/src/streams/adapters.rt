@@ -13,18 +13,23 @@ pub struct ReaderSource<R: Read + Drop> {
 }
 
 impl<R: Read + Drop> ReaderSource<R> {
+    ghost use Rattle.cfg_world.specs.Adapters.{reader_of, reader_faults};
+
     /// A source over this reader, without faults so far.
     pub fn new(reader: R) -> ReaderSource<R>
-        ensures { result ≡ record { reader = reader; faults = 0 } }
+        ensures reader { reader_of result ≡ reader }
+        ensures faults { reader_faults result ≡ 0 }
     {
         ReaderSource { reader, faults: 0 }
     }
 }
 
 impl<R: Read + Drop> Source for ReaderSource<R> {
-    ghost left = { λ s. R.remaining s.reader };
+    ghost use Rattle.cfg_world.specs.Adapters.{reader_of, reader_faults};
 
-    ghost faults = { λ s. s.faults };
+    ghost left = { λ s. R.remaining (reader_of s) };
+
+    ghost faults = { reader_faults };
 
     fn read(&mut self, into: &mut [u8]) -> Result<usize, StreamFault> {
         match self.reader.read(into) {
@@ -43,18 +48,23 @@ pub struct WriterSink<W: Write + Drop> {
 }
 
 impl<W: Write + Drop> WriterSink<W> {
+    ghost use Rattle.cfg_world.specs.Adapters.{writer_of, writer_faults};
+
     /// A sink over this writer, without faults so far.
     pub fn new(writer: W) -> WriterSink<W>
-        ensures { result ≡ record { writer = writer; faults = 0 } }
+        ensures writer { writer_of result ≡ writer }
+        ensures faults { writer_faults result ≡ 0 }
     {
         WriterSink { writer, faults: 0 }
     }
 }
 
 impl<W: Write + Drop> Sink for WriterSink<W> {
-    ghost written = { λ s. W.contents s.writer };
+    ghost use Rattle.cfg_world.specs.Adapters.{writer_of, writer_faults};
 
-    ghost faults = { λ s. s.faults };
+    ghost written = { λ s. W.contents (writer_of s) };
+
+    ghost faults = { writer_faults };
 
     fn write(&mut self, bytes: &[u8]) -> Result<usize, StreamFault> {
         match self.writer.write(bytes) {

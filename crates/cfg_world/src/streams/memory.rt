@@ -1,5 +1,7 @@
 // Sources and sinks in memory, of which some calls fail.
-ghost use Rattle.std.specs.Prelude.{◌≡◌, ◌≤◌, ◌<◌, ◌+◌, [], Some, length, drop, vec_len};
+ghost use Rattle.std.specs.Prelude.{◌≡◌, ◌↔◌, ◌≤◌, ◌<◌, ◌+◌, min, [], Some, Err, IfOk, IfErr, IsTrue, length, drop, vec_len};
+ghost use Rattle.std.specs.Io.KnownBytes.{ReadConsumes, WriteAppends};
+ghost use Rattle.cfg_world.specs.Faults.{Rose};
 
 use crate::streams::adapters::count;
 use crate::streams::{Sink, Source, StreamFault};
@@ -19,14 +21,15 @@ pub struct MemorySource {
 }
 
 impl MemorySource {
-    ghost use Rattle.cfg_world.specs.Memory.{source_left};
+    ghost use Rattle.cfg_world.specs.Memory.{source_left, source_pieces, source_faults};
 
     /// A source of these bytes, at most `piece` of them a call. `failing` are the numbers of the
     /// calls that fail, counted from 1.
     pub fn new(bytes: Vec<u8>, failing: Vec<u64>, piece: usize) -> MemorySource
         requires { 0 < piece }
         ensures bytes { source_left result ≡ bytes.items }
-        ensures faults { result.faults ≡ 0 }
+        ensures pieces { source_pieces result ≡ record { failing = failing.items; most = piece; calls = 0 } }
+        ensures faults { source_faults result ≡ 0 }
     {
         MemorySource {
             bytes,
@@ -40,11 +43,22 @@ impl MemorySource {
 }
 
 impl Source for MemorySource {
-    ghost left = { λ s. Some (drop s.at s.bytes.items) };
+    ghost use Rattle.cfg_world.specs.Memory.{source_left, source_pieces, source_faults, called, fails_next};
 
-    ghost faults = { λ s. s.faults };
+    ghost left = { λ s. Some (source_left s) };
 
-    fn read(&mut self, into: &mut [u8]) -> Result<usize, StreamFault> {
+    ghost faults = { source_faults };
+
+    fn read(&mut self, into: &mut [u8]) -> Result<usize, StreamFault>
+        ensures within { IfOk result (λ n. n ≤ length into.old) }
+        ensures bytes { ReadConsumes (Some (source_left self.old)) (Some (source_left self.new)) result into.new }
+        ensures counted { source_faults self.old ≤ source_faults self.new }
+        ensures failed { result ≡ Err StreamFault.Failed → Rose (source_faults self.old) (source_faults self.new) }
+        ensures failing { result ≡ Err StreamFault.Failed ↔ IsTrue (fails_next (source_pieces self.old)) }
+        ensures memory { IfErr result (λ e. e ≡ StreamFault.Failed) }
+        ensures piece { IfOk result (λ n. n ≡ min (min (length (source_left self.old)) (source_pieces self.old).most) (length into.old)) }
+        ensures pieces { source_pieces self.new ≡ called (source_pieces self.old) }
+    {
         self.calls = self.calls.saturating_add(1);
         if self.failing.contains(&self.calls) {
             return Err(count(&mut self.faults));
@@ -69,14 +83,15 @@ pub struct MemorySink {
 }
 
 impl MemorySink {
-    ghost use Rattle.cfg_world.specs.Memory.{sink_written};
+    ghost use Rattle.cfg_world.specs.Memory.{sink_written, sink_pieces, sink_faults};
 
     /// A sink that takes at most `piece` bytes a call. `failing` are the numbers of the calls that
     /// fail, counted from 1.
     pub fn new(alloc: Global, failing: Vec<u64>, piece: usize) -> MemorySink
         requires { 0 < piece }
         ensures bytes { sink_written result ≡ [] }
-        ensures faults { result.faults ≡ 0 }
+        ensures pieces { sink_pieces result ≡ record { failing = failing.items; most = piece; calls = 0 } }
+        ensures faults { sink_faults result ≡ 0 }
     {
         MemorySink {
             bytes: Vec::new(alloc),
@@ -96,11 +111,22 @@ impl MemorySink {
 }
 
 impl Sink for MemorySink {
-    ghost written = { λ s. Some s.bytes.items };
+    ghost use Rattle.cfg_world.specs.Memory.{sink_written, sink_pieces, sink_faults, called, fails_next};
 
-    ghost faults = { λ s. s.faults };
+    ghost written = { λ s. Some (sink_written s) };
 
-    fn write(&mut self, bytes: &[u8]) -> Result<usize, StreamFault> {
+    ghost faults = { sink_faults };
+
+    fn write(&mut self, bytes: &[u8]) -> Result<usize, StreamFault>
+        ensures within { IfOk result (λ n. n ≤ length bytes.now) }
+        ensures some { IfOk result (λ n. 0 < length bytes.now → 0 < n) }
+        ensures bytes { WriteAppends (Some (sink_written self.old)) (Some (sink_written self.new)) result bytes.now }
+        ensures counted { sink_faults self.old ≤ sink_faults self.new }
+        ensures failed { result ≡ Err StreamFault.Failed → Rose (sink_faults self.old) (sink_faults self.new) }
+        ensures failing { result ≡ Err StreamFault.Failed ↔ IsTrue (fails_next (sink_pieces self.old)) }
+        ensures piece { IfOk result (λ n. n ≡ min (length bytes.now) (sink_pieces self.old).most) }
+        ensures pieces { sink_pieces self.new ≡ called (sink_pieces self.old) }
+    {
         self.calls = self.calls.saturating_add(1);
         if self.failing.contains(&self.calls) {
             return Err(count(&mut self.faults));
