@@ -195,8 +195,8 @@ environment_decides conf journal out q answers =
     let t = told_of conf.environment in
     let loaded : environment_is_passed_over conf.environment ≡ false = sym t.tells.not_loaded ∙ ap is_not_loaded_answer q.is ∙ decides out answers in
     let tells : Tells out false (unreadable_variable conf.environment) None None =
-          subst (λ o. Tells o false (unreadable_variable conf.environment) None None) q.is
-          (subst (λ b. Tells (environment conf.environment) b (unreadable_variable conf.environment) None None) loaded t.tells) in
+    subst (λ o. Tells o false (unreadable_variable conf.environment) None None) q.is
+    (subst (λ b. Tells (environment conf.environment) b (unreadable_variable conf.environment) None None) loaded t.tells) in
     whole_cause conf journal out
     (subst (λ b. Whole conf journal out b (unreadable_variable conf.environment)) (sym loaded)
     (subst (λ j. Tells out false (unreadable_variable conf.environment) None (first_failure j)) (sym q.empty) tells))

@@ -70,7 +70,7 @@ module _ {W : Type 0} {w : Ghosts W} where
   unfolding assumes
   role_assumed {old} {mid} {new} conf role signer name sent answer given out e is s gives told =
       let exchanged : Ends w (exchange conf role signer name) mid new (in_role (granted answer)) =
-            ends_after (λ a. Done (in_role (granted a))) (subst (λ r. Ends w (sending r) mid new answer) is s) ends_done in
+      ends_after (λ a. Done (in_role (granted a))) (subst (λ r. Ends w (sending r) mid new answer) is s) ends_done in
       ends_after (exchange conf role signer) e (subst (λ o. Ends w (exchange conf role signer name) mid new o) (sym (told ∙ ap in_role gives)) exchanged)
 
   -- credentials that are marked behind the last role

@@ -4,8 +4,8 @@
 #![tactic(auto)]
 
 mod chain;
-mod derivation;
 pub mod default_provider;
+mod derivation;
 mod environment;
 pub mod kept;
 pub mod laws;

@@ -4,19 +4,14 @@ ghost use Rattle.cfg_chain.specs.Gives.{Gives};
 ghost use Rattle.cfg_chain.specs.StaticKeys.{text_property as text_property_of, has_both_keys as has_both, invalid as invalid_of, without_access_key as lacks_access_key, static_keys as keys_of};
 
 use crate::profile::Section;
-use cfg_types::{
-    AccountId, Credentials, CredentialsBuilder, OutOfMemory, ProfileFileError, Text,
-};
+use cfg_types::{AccountId, Credentials, CredentialsBuilder, OutOfMemory, ProfileFileError, Text};
 use cfg_world::Halt;
 use std::alloc::Global;
 
 /// The keys of a section: `aws_access_key_id`, `aws_secret_access_key`, `aws_session_token` and
 /// `aws_account_id`, as they stand there.
 #[tactic(auto, unfolding(crate::specs::StaticKeys::static_keys))]
-pub fn static_keys(
-    alloc: Global,
-    section: &Section,
-) -> Result<Credentials, Halt<ProfileFileError>>
+pub fn static_keys(alloc: Global, section: &Section) -> Result<Credentials, Halt<ProfileFileError>>
     ensures { Gives (λ c. c) result (keys_of section.now) }
 {
     let Some(id) = section.get("aws_access_key_id") else {
@@ -73,18 +68,16 @@ fn account_property(
 fn without_access_key(alloc: Global, section: &Section) -> Result<ProfileFileError, OutOfMemory>
     ensures { IfOk result (λ e. e ≡ lacks_access_key section.now) }
 {
-    if section.get("aws_secret_access_key").is_none() && section.get("aws_session_token").is_none() {
+    if section.get("aws_secret_access_key").is_none()
+        && section.get("aws_session_token").is_none()
+    {
         let profile = Text::of(alloc, section.name())?;
         return Ok(ProfileFileError::ProfileDidNotContainCredentials { profile });
     }
     invalid(alloc, section, "profile missing aws_access_key_id")
 }
 
-fn invalid(
-    alloc: Global,
-    section: &Section,
-    message: &str,
-) -> Result<ProfileFileError, OutOfMemory>
+fn invalid(alloc: Global, section: &Section, message: &str) -> Result<ProfileFileError, OutOfMemory>
     ensures { IfOk result (λ e. e ≡ invalid_of section.now message.now) }
 {
     let profile = Text::of(alloc, section.name())?;

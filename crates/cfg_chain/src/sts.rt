@@ -4,7 +4,8 @@ ghost use Rattle.cfg_types.specs.Text.{characters};
 ghost use Rattle.cfg_chain.specs.Sts.{behind_colon as behind, before_colon as before, fifth_part as fifth_part_of, account_of as reply_account, into_credentials as credentials_in};
 
 use cfg_types::{
-    AccountId, Credentials, CredentialsBuilder, OutOfMemory, StsReply, Text, TryCopy, UnhandledCause,
+    AccountId, Credentials, CredentialsBuilder, OutOfMemory, StsReply, Text, TryCopy,
+    UnhandledCause,
 };
 use std::alloc::Global;
 

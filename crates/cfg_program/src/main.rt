@@ -19,12 +19,13 @@ use cfg_world::{DeviceLists, ReaderSource, ScriptDevices, World, WriterSink};
 use std::alloc::Global;
 use std::env;
 use std::env::VarError;
+use std::io::ErrorKind;
 use std::process::ExitCode;
 use std::rt::Env;
 
 fn main(rt: HostRuntime) -> ExitCode {
     let status = match words_of(&rt) {
-        Some(words) => {
+        Ok(words) => {
             let mut source = ReaderSource::new(rt.stdin());
             let mut sink = WriterSink::new(rt.stdout());
             let mut world = World::new(rt.alloc(), idle_devices(rt.alloc()));
@@ -40,7 +41,7 @@ fn main(rt: HostRuntime) -> ExitCode {
                 Err(OutOfMemory) => Status::OutOfMemory,
             }
         }
-        None => Status::Words,
+        Err(status) => status,
     };
     if status == Status::Words {
         let _ = rt.eprintln(USAGE);
@@ -48,13 +49,26 @@ fn main(rt: HostRuntime) -> ExitCode {
     ExitCode::from(status.number())
 }
 
-// The words after the program's name, where they are texts.
-fn words_of(rt: &(impl Env + AllocGlobal)) -> Option<Vec<String>> {
+// The words after the program's name. Words that are no texts are faulty ones.
+fn words_of(rt: &(impl Env + AllocGlobal)) -> Result<Vec<String>, Status> {
+    let given = match env::args(rt) {
+        Ok(given) => given,
+        Err(error) => return Err(status_of(error.kind())),
+    };
     let mut words = Vec::new(rt.alloc());
-    for word in env::args(rt).ok()?.skip(1) {
-        words.push(word).ok()?;
+    for word in given.skip(1) {
+        let Ok(()) = words.push(word) else {
+            return Err(Status::OutOfMemory);
+        };
     }
-    Some(words)
+    Ok(words)
+}
+
+fn status_of(kind: ErrorKind) -> Status {
+    match kind {
+        ErrorKind::OutOfMemory => Status::OutOfMemory,
+        _ => Status::Words,
+    }
 }
 
 // The names of the variables that providers ask for.

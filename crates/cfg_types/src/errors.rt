@@ -66,11 +66,22 @@ pub enum ProfileFileError {
     /// The sections were refused, for this reason.
     InvalidProfile(Text),
     NoProfilesDefined,
-    ProfileDidNotContainCredentials { profile: Text },
-    InvalidCredentialSource { profile: Text, message: Text },
-    MissingProfile { profile: Text, message: Text },
+    ProfileDidNotContainCredentials {
+        profile: Text,
+    },
+    InvalidCredentialSource {
+        profile: Text,
+        message: Text,
+    },
+    MissingProfile {
+        profile: Text,
+        message: Text,
+    },
     /// The profile needs a provider that is not built.
-    FeatureNotEnabled { feature: Text, message: Option<Text> },
+    FeatureNotEnabled {
+        feature: Text,
+        message: Option<Text>,
+    },
     OutOfMemory,
 }
 

@@ -7,8 +7,7 @@ use Rattle.cfg_types.proofs.text_map.TextMap.is_empty.Goals as goal
 
 pub returns : goal.returns
 returns g c =
-    let entries = c.self.inside.tree.entries in
-    (
+    let entries = c.self.inside.tree.entries in (
       λ h. ap len (sym c.self.view_is) ∙ len-map_of entries (c.is_empty.ensures.0 h),
       λ h. c.is_empty.ensures.1 (no_entries entries (ap len c.self.view_is ∙ h)),
     )
