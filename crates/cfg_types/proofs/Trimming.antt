@@ -1,5 +1,5 @@
 -- Trimming a text's bytes trims its characters.
-use Rattle.std.proofs.Common.{◌≡◌, ℕ, suc, ◌+◌, add-one, List, [], ◌∷◌, ◌++◌, length, Bool, true, false, cond, refl, sym, ap, ◌∙◌, subst, rules, arith}
+use Rattle.std.proofs.Common.{◌≡◌, ℕ, suc, add-one, List, [], ◌∷◌, length, Bool, true, false, cond, refl, sym, ap, ◌∙◌, arith}
 use Rattle.std.specs.Prelude.{◌&&◌, ◌==◌}
 use Rattle.std.proofs.lemmas.Bool.Decides.{nat_tests}
 use Rattle.std.specs.Char.{is_whitespace}
@@ -7,7 +7,7 @@ use Rattle.std.specs.Str.{chars, encode_utf8_all, IsUtf8, trim, trim_start, trim
 use Rattle.std.proofs.lemmas.Str.{chars-encodes, scalars-chars}
 use lib.Utf8.{scalar, scalars}
 use Rattle.cfg_types.specs.Text.{characters}
-use Rattle.cfg_types.specs.WhiteSpace.{trimmed, is_empty, is_blank}
+use Rattle.cfg_types.specs.WhiteSpace.{trimmed, is_empty}
 use Rattle.cfg_types.proofs.TextLemmas.{characters-chars, encodes-chars}
 
 both : (a b : Bool) → (a && b) ≡ true → (a ≡ true) × (b ≡ true)

@@ -1,8 +1,7 @@
 -- Faults of one stretch after another.
-use Rattle.std.proofs.Common.{◌≡◌, ℕ, ◌+◌, ◌≤◌, List, [], ◌∷◌, ◌++◌, refl, sym, ap, ◌∙◌, subst, arith}
-use Rattle.std.specs.Prelude.{min}
+use Rattle.std.proofs.Common.{◌≡◌, ℕ, ◌+◌, List, [], ◌∷◌, ◌++◌, sym, subst, arith}
 use Rattle.cfg_world.specs.Fits.{Pair}
-use Rattle.cfg_world.specs.Faults.{Faults, Rises, Counted, full_count, transport_failures, transport_failures_in}
+use Rattle.cfg_world.specs.Faults.{Faults, Rises, Counted, transport_failures_in}
 use Rattle.cfg_world.specs.Asked.{Same}
 
 pub Same-refl : (a : List Pair → Type 0) → Same a a

@@ -1,7 +1,6 @@
 -- How calls that follow inquiries are put together.
-use Rattle.std.proofs.Common.{◌≡◌, ℕ, List, [], ◌∷◌, ◌++◌, Result, Ok, Err, Option, Some, None, IfSome, IsSome, refl, sym, ◌∙◌, ap, subst, append_assoc, append-nil, arith, rules}
+use Rattle.std.proofs.Common.{◌≡◌, List, [], ◌∷◌, ◌++◌, Option, Some, None, IfSome, refl, sym, ◌∙◌, ap, append_assoc, append-nil}
 use Rattle.cfg_world.specs.declared.ask.Question.{Question}
-use Rattle.cfg_world.specs.declared.ask.Answer.{Answer}
 use Rattle.cfg_world.specs.declared.asking.Asking.{Ghosts}
 use Rattle.cfg_world.specs.Fits.{Pair}
 use Rattle.cfg_world.specs.Inquiry.{Inquiry, Done, Ask, Reads, AsksNext, Begun, after}

@@ -1,5 +1,5 @@
 -- A call that went on is not one of those that fail.
-use Rattle.std.proofs.Common.{◌≡◌, ◌↔◌, ℕ, ◌+◌, Bool, true, false, List, refl, sym, ap, ◌∙◌}
+use Rattle.std.proofs.Common.{◌≡◌, ◌↔◌, ℕ, ◌+◌, Bool, false, List, sym, ap, ◌∙◌}
 use Rattle.std.specs.Prelude.{nat_eq, IsTrue, min}
 use Rattle.std.specs.List.{list_any}
 use Rattle.cfg_world.specs.Faults.{full_count}

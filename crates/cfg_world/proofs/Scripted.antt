@@ -1,5 +1,5 @@
 -- One question more to scripted devices.
-use Rattle.std.proofs.Common.{rules, arith, ◌≡◌, ℕ, zero, suc, ◌+◌, ◌<◌, ◌≤◌, List, [], ◌∷◌, ◌++◌, Bool, true, false, Option, Some, None, Result, Ok, Err, refl, sym, ap, ◌∙◌, subst}
+use Rattle.std.proofs.Common.{rules, arith, ◌≡◌, ℕ, zero, suc, ◌+◌, ◌≤◌, List, [], ◌∷◌, ◌++◌, Option, Some, None, Result, Ok, Err, refl, sym, ap, ◌∙◌, subst}
 use Rattle.std.specs.Prelude.{pos, ◌≤ℤ◌, unwrap_or, slice_get, All, min, length}
 use Rattle.cfg_types.specs.Moment.{Moment}
 use Rattle.cfg_types.specs.declared.reply.FailKind.{FailKind}
@@ -12,12 +12,11 @@ use Rattle.cfg_types.specs.declared.request.Request.TheVariants as request
 use Rattle.cfg_world.specs.declared.ask.Question.{Question}
 use Rattle.cfg_world.specs.declared.ask.Question.TheVariants as question
 use Rattle.cfg_world.specs.declared.ask.Answer.{Answer}
-use Rattle.cfg_world.specs.declared.ask.Answer.TheVariants as answer
 use Rattle.cfg_world.specs.declared.script.DeviceLists.{DeviceLists}
 use Rattle.cfg_world.specs.Fits.{Fits, Pair}
-use Rattle.cfg_world.specs.Faults.{Faults, Rises, Counted, transport_failures, full_count}
-use Rattle.cfg_world.specs.Asked.{Asked, Same, entered}
-use Rattle.cfg_world.specs.Script.{Script, Place, AllFit, IsSent, start, step, sent, sent_at, reading_at, answer_at, place_after, Given, place_left, Allows, Stands}
+use Rattle.cfg_world.specs.Faults.{Faults, Counted, transport_failures, full_count}
+use Rattle.cfg_world.specs.Asked.{Asked}
+use Rattle.cfg_world.specs.Script.{Script, Place, AllFit, IsSent, start, step, sent, sent_at, answer_at, place_after, Given, place_left, Allows, Stands}
 
 module _ (lists : DeviceLists) (q : Question) (a : Answer) where
   given_more : (place : Place) (entries : List Pair) → Given lists place entries → a ≡ answer_at lists (place_left lists place entries) q → Given lists place (entries ++ (q, a) ∷ [])

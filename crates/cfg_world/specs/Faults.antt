@@ -1,5 +1,5 @@
 -- Counts of faults.
-use Rattle.std.specs.Prelude.{◌≡◌, ℕ, ◌+◌, ◌≤◌, min, List, [], ◌∷◌}
+use Rattle.std.specs.Prelude.{ℕ, ◌+◌, ◌≤◌, min, List, [], ◌∷◌}
 use Rattle.cfg_world.specs.declared.ask.Question.{Question}
 use Rattle.cfg_world.specs.declared.ask.Question.TheVariants.{Now, Send}
 use Rattle.cfg_world.specs.declared.ask.Answer.{Answer}

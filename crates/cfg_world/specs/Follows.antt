@@ -1,6 +1,5 @@
 -- What a call that follows an inquiry leaves of the journal.
-use Rattle.std.specs.Prelude.{◌≡◌, List, ◌++◌, Result, Ok, Err, Option, IfSome, IsSome}
-use Rattle.cfg_world.specs.declared.ask.Question.{Question}
+use Rattle.std.specs.Prelude.{◌≡◌, List, ◌++◌, Result, Ok, Err, IfSome, IsSome}
 use Rattle.cfg_world.specs.declared.asking.Asking.{Ghosts}
 use Rattle.cfg_world.specs.declared.asking.Stop.{Stop}
 use Rattle.cfg_world.specs.declared.asking.Stop.TheVariants.{OutOfMemory, Open}

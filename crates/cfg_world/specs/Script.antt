@@ -1,10 +1,9 @@
 -- What scripted devices answer.
-use Rattle.std.specs.Prelude.{◌≡◌, ℕ, ◌+◌, ◌-◌, pos, ◌≤ℤ◌, List, [], ◌∷◌, length, Option, Some, None, Result, Ok, Err, if◌then◌else◌, slice_get, nat_lt, unwrap_or, All}
+use Rattle.std.specs.Prelude.{◌≡◌, ℕ, ◌+◌, ◌-◌, pos, ◌≤ℤ◌, List, [], ◌∷◌, length, Result, Ok, Err, if◌then◌else◌, slice_get, nat_lt, unwrap_or, All}
 use Rattle.cfg_types.specs.Moment.{Moment}
 use Rattle.cfg_types.specs.declared.reply.FailKind.{FailKind}
 use Rattle.cfg_types.specs.declared.reply.FailKind.TheVariants.{Dispatch}
 use Rattle.cfg_types.specs.declared.reply.Reply.{Reply}
-use Rattle.cfg_types.specs.declared.request.Request.{Request}
 use Rattle.cfg_types.specs.declared.request.Request.TheVariants as request
 use Rattle.cfg_world.specs.declared.ask.Question.{Question}
 use Rattle.cfg_world.specs.declared.ask.Question.TheVariants as question

@@ -1,5 +1,6 @@
 // The standard library's readers and writers as sources and sinks.
-ghost use Rattle.std.specs.Prelude.{◌≡◌, ◌≤◌};
+ghost use Rattle.std.specs.Prelude.{◌≡◌, ◌≤◌, ◌<◌, Err, IfOk, IfErr, length};
+ghost use Rattle.std.specs.Io.KnownBytes.{ReadConsumes, WriteAppends};
 ghost use Rattle.cfg_world.specs.Faults.{Rose};
 
 use crate::streams::{Sink, Source, StreamFault};
@@ -31,7 +32,13 @@ impl<R: Read + Drop> Source for ReaderSource<R> {
 
     ghost faults = { reader_faults };
 
-    fn read(&mut self, into: &mut [u8]) -> Result<usize, StreamFault> {
+    fn read(&mut self, into: &mut [u8]) -> Result<usize, StreamFault>
+        ensures within { IfOk result (λ n. n ≤ length into.old) }
+        ensures bytes { ReadConsumes (R.remaining (reader_of self.old)) (R.remaining (reader_of self.new)) result into.new }
+        ensures counted { reader_faults self.old ≤ reader_faults self.new }
+        ensures failed { result ≡ Err StreamFault.Failed → Rose (reader_faults self.old) (reader_faults self.new) }
+        ensures memory { IfErr result (λ e. e ≡ StreamFault.Failed) }
+    {
         match self.reader.read(into) {
             Ok(n) => Ok(n),
             Err(_) => Err(count(&mut self.faults)),
@@ -66,7 +73,14 @@ impl<W: Write + Drop> Sink for WriterSink<W> {
 
     ghost faults = { writer_faults };
 
-    fn write(&mut self, bytes: &[u8]) -> Result<usize, StreamFault> {
+    fn write(&mut self, bytes: &[u8]) -> Result<usize, StreamFault>
+        ensures within { IfOk result (λ n. n ≤ length bytes.now) }
+        ensures some { IfOk result (λ n. 0 < length bytes.now → 0 < n) }
+        ensures bytes { WriteAppends (W.contents (writer_of self.old)) (W.contents (writer_of self.new)) result bytes.now }
+        ensures counted { writer_faults self.old ≤ writer_faults self.new }
+        ensures failed { result ≡ Err StreamFault.Failed → Rose (writer_faults self.old) (writer_faults self.new) }
+        ensures memory { IfErr result (λ e. e ≡ StreamFault.Failed) }
+    {
         match self.writer.write(bytes) {
             Ok(n) if n > 0 || bytes.is_empty() => Ok(n),
             Ok(_) => Err(count(&mut self.faults)),
