@@ -5,4 +5,6 @@ pub mod Variables
 pub mod Environment
 pub mod Keys
 pub mod Shown
+pub mod Field
+pub mod DocumentText
 pub mod formers
