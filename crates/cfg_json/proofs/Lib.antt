@@ -1,0 +1,5 @@
+pub mod Steps
+pub mod StringSteps
+pub mod ListSteps
+pub mod Utf8
+pub mod PlainText

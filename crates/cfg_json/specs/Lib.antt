@@ -1,0 +1,10 @@
+pub mod Gives
+pub mod Characters
+pub mod Blanks
+pub mod Strings
+pub mod Numbers
+pub mod Values
+pub mod Objects
+pub mod Reading
+pub mod ReadingValues
+pub mod ReadingObjects
