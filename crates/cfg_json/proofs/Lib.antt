@@ -3,3 +3,8 @@ pub mod StringSteps
 pub mod ListSteps
 pub mod Utf8
 pub mod PlainText
+pub mod Options
+pub mod BlankLaws
+pub mod NumberLaws
+pub mod ContentLaws
+pub mod StringLaws
