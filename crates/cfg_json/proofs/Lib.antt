@@ -8,3 +8,6 @@ pub mod BlankLaws
 pub mod NumberLaws
 pub mod ContentLaws
 pub mod StringLaws
+pub mod LeafLaws
+pub mod ValuesAgain
+pub mod ValuesTake

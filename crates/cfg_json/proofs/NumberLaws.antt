@@ -36,7 +36,7 @@ EndsNumber (x ∷ t) = IsEnd x
 no_digit_is : (x c : ℕ) → is_ascii_digit c ≡ false → x ≡ c → is_ascii_digit x ≡ false
 no_digit_is x c e same = ap is_ascii_digit same ∙ e
 
-digit_is_no : (x c : ℕ) → is_ascii_digit c ≡ false → is_ascii_digit x ≡ true → (x == c) ≡ false
+pub digit_is_no : (x c : ℕ) → is_ascii_digit c ≡ false → is_ascii_digit x ≡ true → (x == c) ≡ false
 digit_is_no x c e d = ne_eqb x c (λ same. both_ways (is_ascii_digit x) (no_digit_is x c e same) d)
 
 -- ---- what is a number is read
