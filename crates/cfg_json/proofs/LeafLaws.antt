@@ -100,19 +100,19 @@ not_number_flip x c a b h = elim h [
   | inr d ↦ ne_eqb c x (λ same. both_ways (is_ascii_digit x) (ap is_ascii_digit (sym same) ∙ b) d)
 ]
 
-number_no_word : (x : ℕ) (t : List ℕ) → (x ≡ 45) ⊎ (is_ascii_digit x ≡ true) → word_at (x ∷ t) ≡ None
+pub number_no_word : (x : ℕ) (t : List ℕ) → (x ≡ 45) ⊎ (is_ascii_digit x ≡ true) → word_at (x ∷ t) ≡ None
 number_no_word x t h = no_word x t (not_number_flip x 116 refl refl h) (not_number_flip x 102 refl refl h) (not_number_flip x 110 refl refl h)
 
 number_no_blank : (x : ℕ) → (x ≡ 45) ⊎ (is_ascii_digit x ≡ true) → is_blank x ≡ false
 number_no_blank x h =
     or_from _ _ (or_from _ _ (or_from _ _ (not_number x 32 refl refl h) (not_number x 9 refl refl h)) (not_number x 10 refl refl h)) (not_number x 13 refl refl h)
 
-number_head_is : (n : List ℕ) → IsNumber n → Head n
+pub number_head_is : (n : List ℕ) → IsNumber n → Head n
 number_head_is n h =
     let k = number_head n h in
     record { first = k.first; others = k.others; is = k.is; blank = number_no_blank k.first k.digit; bracket = not_number k.first 93 refl refl k.digit; brace = not_number k.first 125 refl refl k.digit }
 
-word_head_is : (w : List ℕ) → IsWord w → Head w
+pub word_head_is : (w : List ℕ) → IsWord w → Head w
 word_head_is w h = elim h [
   | inl a ↦ record { first = 116; others = codes "rue"; is = a; blank = refl; bracket = refl; brace = refl }
   | inr b ↦ (elim b [

@@ -11,3 +11,7 @@ pub mod StringLaws
 pub mod LeafLaws
 pub mod ValuesAgain
 pub mod ValuesTake
+pub mod ObjectsAgain
+pub mod ObjectsTake
+pub mod AnswerLaws
+pub mod AnswerSteps

@@ -203,15 +203,15 @@ end_splits e (x ∷ t) n h =
           subst (λ (m : ℕ). x ∷ t ≡ take m (x ∷ t) ++ quote ∷ drop (m + 1) (x ∷ t)) (given_is 0 n w.1) (ap (λ (y : ℕ). y ∷ t) is))
       | inr w ↦ later x t n (end_of (not e && x == backslash) t) w.1 (λ m k. end_splits (not e && x == backslash) t m k)
     ] where
-  later : (x : ℕ) (t : List ℕ) (n : ℕ) (o : Option ℕ) → option_map (λ n. n + 1) o ≡ given n → ((m : ℕ) → o ≡ given m → t ≡ take m t ++ quote ∷ drop (m + 1) t)
-      → x ∷ t ≡ take n (x ∷ t) ++ quote ∷ drop (n + 1) (x ∷ t)
-  later x t n None h more = absurd (none_is n h)
-  later x t n (Some m) h more =
-      let is : suc m ≡ n = omega (arith, given_is (m + 1) n h) in
-      let cut : t ≡ take m t ++ quote ∷ drop (suc m) t = rw add-one at (more m refl) in
-      subst (λ (k : ℕ). x ∷ t ≡ take k (x ∷ t) ++ quote ∷ drop (k + 1) (x ∷ t)) is (rw add-one (ap (λ (y : List ℕ). x ∷ y) cut))
+      later : (x : ℕ) (t : List ℕ) (n : ℕ) (o : Option ℕ) → option_map (λ n. n + 1) o ≡ given n → ((m : ℕ) → o ≡ given m → t ≡ take m t ++ quote ∷ drop (m + 1) t)
+          → x ∷ t ≡ take n (x ∷ t) ++ quote ∷ drop (n + 1) (x ∷ t)
+      later x t n None h more = absurd (none_is n h)
+      later x t n (Some m) h more =
+          let is : suc m ≡ n = omega (arith, given_is (m + 1) n h) in
+          let cut : t ≡ take m t ++ quote ∷ drop (suc m) t = rw add-one at (more m refl) in
+          subst (λ (k : ℕ). x ∷ t ≡ take k (x ∷ t) ++ quote ∷ drop (k + 1) (x ∷ t)) is (rw add-one (ap (λ (y : List ℕ). x ∷ y) cut))
 
-utf8_takes : (bytes b : List ℕ) → utf8_of bytes ≡ given b → (bytes ≡ b) × IsUtf8 bytes
+pub utf8_takes : (bytes b : List ℕ) → utf8_of bytes ≡ given b → (bytes ≡ b) × IsUtf8 bytes
 unfolding utf8_of
 utf8_takes bytes b e = let w = tested (is_utf8 bytes) bytes b e in (w.1, IsUtf8-from_is_utf8 bytes w.0)
 

@@ -18,11 +18,11 @@ pub record Closes (x : ℕ) : Type 0 where
   pub blank : is_blank x ≡ false
   pub end : IsEnd x
 
-close_ends : (k : Bool) → Closes (close_of k)
+pub close_ends : (k : Bool) → Closes (close_of k)
 close_ends true = record { blank = refl; end = record { digit = refl; point = refl; exponent = refl } }
 close_ends false = record { blank = refl; end = record { digit = refl; point = refl; exponent = refl } }
 
-comma_ends : Closes comma
+pub comma_ends : Closes comma
 comma_ends = record { blank = refl; end = record { digit = refl; point = refl; exponent = refl } }
 
 -- white space is nothing of a number
@@ -43,7 +43,7 @@ blank_ends x e =
       | inr a ↦ subst IsEnd (sym (eqb-true x 13 a)) at_13
     ]
 
-blanks_end : (w : List ℕ) (x : ℕ) (rest : List ℕ) → AreBlanks w → Closes x → EndsNumber (w ++ x ∷ rest)
+pub blanks_end : (w : List ℕ) (x : ℕ) (rest : List ℕ) → AreBlanks w → Closes x → EndsNumber (w ++ x ∷ rest)
 blanks_end [] x rest h c = c.end
 blanks_end (y ∷ w) x rest h c = blank_ends y h.0
 
@@ -61,22 +61,27 @@ head_opens : (k : Bool) (t : List ℕ) (h : Head t) → (h.first == close_of k) 
 head_opens true t h = h.brace
 head_opens false t h = h.bracket
 
+pub key_starts : (key name v : List ℕ) → IsKey key name → Starts true (key ++ v)
+key_starts key name v h = record {
+  blanks = h.before;
+  first = quote;
+  others = _;
+  is = ap (λ (y : List ℕ). y ++ v) h.is ∙ append_assoc h.before (h.string ++ (h.after ++ colon ∷ [])) v ∙ ap (λ (y : List ℕ). h.before ++ ((y ++ (h.after ++ colon ∷ [])) ++ v)) h.is_string.is;
+  are_blanks = h.blanks_before;
+  blank = refl;
+  opens = refl;
+}
+
+pub starts_at : (k : Bool) (u t : List ℕ) → t ≡ u → Starts k u → Starts k t
+starts_at k u t e s = record { blanks = s.blanks; first = s.first; others = s.others; is = e ∙ s.is; are_blanks = s.are_blanks; blank = s.blank; opens = s.opens }
+
 item_starts : (k : Bool) (d : ℕ) (t : List ℕ) (b : Bool) → IsItem k d t b → Starts k t
 item_starts _ _ _ _ (IsItem.bare d v before after t b h hb ha is) =
     let k = value_head d v b h in
     record { blanks = before; first = k.first; others = k.others ++ after; is = is ∙ ap (λ (y : List ℕ). before ++ (y ++ after)) k.is; are_blanks = hb; blank = k.blank; opens = k.bracket }
-item_starts _ _ _ _ (IsItem.keyed d key name v t b h hv is) =
-    record {
-      blanks = h.before;
-      first = quote;
-      others = _;
-      is = is ∙ ap (λ (y : List ℕ). y ++ v) h.is ∙ append_assoc h.before (h.string ++ (h.after ++ colon ∷ [])) v ∙ ap (λ (y : List ℕ). h.before ++ ((y ++ (h.after ++ colon ∷ [])) ++ v)) h.is_string.is;
-      are_blanks = h.blanks_before;
-      blank = refl;
-      opens = refl;
-    }
+item_starts _ _ _ _ (IsItem.keyed d key name v t b h hv is) = starts_at true _ t is (key_starts key name v h)
 
-starts_then : (k : Bool) (v t : List ℕ) → Starts k v → (more : List ℕ) → t ≡ v ++ more → Starts k t
+pub starts_then : (k : Bool) (v t : List ℕ) → Starts k v → (more : List ℕ) → t ≡ v ++ more → Starts k t
 starts_then k v t s more e = record {
   blanks = s.blanks;
   first = s.first;
@@ -122,11 +127,15 @@ object_again : (d : ℕ) (t : List ℕ) (r : Option Read) → inside_at true (va
 unfolding value_at
 object_again d t r e = ap (or_front true) e
 
-pub inside_again : (k : Bool) (value : List ℕ → Option Read) (t : List ℕ) (r : Option Read) → Starts k t → (rest : List ℕ) → items_at k value (length (t ++ rest)) (t ++ rest) ≡ r → inside_at k value (t ++ rest) ≡ r
+-- the byte at which it begins, behind the white space
+pub starts_behind : (k : Bool) (t : List ℕ) (s : Starts k t) → (rest : List ℕ) → after_blanks (t ++ rest) ≡ s.first ∷ (s.others ++ rest)
+starts_behind k t s rest =
+    ap (λ (x : List ℕ). after_blanks (x ++ rest)) s.is ∙ ap after_blanks (append_assoc s.blanks (s.first ∷ s.others) rest) ∙ blanks_again s.blanks (s.first ∷ (s.others ++ rest)) s.are_blanks s.blank
+
+inside_again : (k : Bool) (value : List ℕ → Option Read) (t : List ℕ) (r : Option Read) → Starts k t → (rest : List ℕ) → items_at k value (length (t ++ rest)) (t ++ rest) ≡ r → inside_at k value (t ++ rest) ≡ r
 unfolding inside_at
 inside_again k value t r s rest e =
-    let is : after_blanks (t ++ rest) ≡ s.first ∷ (s.others ++ rest) =
-    ap (λ (x : List ℕ). after_blanks (x ++ rest)) s.is ∙ ap after_blanks (append_assoc s.blanks (s.first ∷ s.others) rest) ∙ blanks_again s.blanks (s.first ∷ (s.others ++ rest)) s.are_blanks s.blank in
+    let is : after_blanks (t ++ rest) ≡ s.first ∷ (s.others ++ rest) = starts_behind k t s rest in
     let opens = s.opens in
     rw (is, opens) e
 
@@ -155,7 +164,7 @@ next_turn : (k : Bool) (value : List ℕ → Option Read) (n : ℕ) (t : List �
 unfolding items_at
 next_turn k value n t b c next rest e more = rw (e, more) refl
 
-split : (v u t rest : List ℕ) (x : ℕ) → t ≡ v ++ x ∷ u → t ++ rest ≡ v ++ (x ∷ (u ++ rest))
+pub split : (v u t rest : List ℕ) (x : ℕ) → t ≡ v ++ x ∷ u → t ++ rest ≡ v ++ (x ∷ (u ++ rest))
 split v u t rest x e = ap (λ (y : List ℕ). y ++ rest) e ∙ append_assoc v (x ∷ u) rest
 
 pub padded_again : (value : List ℕ → Option Read) (before v after rest : List ℕ) (x : ℕ) (b : Bool) → AreBlanks before → AreBlanks after → NoBlank (v ++ (after ++ x ∷ rest)) → is_blank x ≡ false

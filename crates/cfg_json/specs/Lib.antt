@@ -8,3 +8,4 @@ pub mod Objects
 pub mod Reading
 pub mod ReadingValues
 pub mod ReadingObjects
+pub mod Answers

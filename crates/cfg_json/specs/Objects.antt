@@ -4,9 +4,9 @@ use Rattle.cfg_json.specs.Blanks.{AreBlanks, is_blank}
 use Rattle.cfg_json.specs.Strings.{IsString}
 use Rattle.cfg_json.specs.Numbers.{IsNumber}
 use Rattle.cfg_json.specs.Values.{comma, IsWord, IsKey, IsValue}
-use Rattle.cfg_json.specs.declared.members.Member.{Member}
-use Rattle.cfg_json.specs.declared.members.MemberValue.{MemberValue}
-use Rattle.cfg_json.specs.declared.members.MemberValue.TheVariants as value
+use Rattle.cfg_json.specs.declared.member.Member.{Member}
+use Rattle.cfg_json.specs.declared.member.MemberValue.{MemberValue}
+use Rattle.cfg_json.specs.declared.member.MemberValue.TheVariants as value
 
 -- the depth that is left inside the outer object: 128, its own one taken
 abbrev pub inner_depth : ℕ

@@ -9,9 +9,9 @@ use Rattle.cfg_json.specs.Values.{comma}
 use Rattle.cfg_json.specs.Objects.{inner_depth}
 use Rattle.cfg_json.specs.Reading.{after_blanks, number_at, word_at, string_at, utf8_of}
 use Rattle.cfg_json.specs.ReadingValues.{key_at, value_at}
-use Rattle.cfg_json.specs.declared.members.Member.{Member}
-use Rattle.cfg_json.specs.declared.members.MemberValue.{MemberValue}
-use Rattle.cfg_json.specs.declared.members.MemberValue.TheVariants as value
+use Rattle.cfg_json.specs.declared.member.Member.{Member}
+use Rattle.cfg_json.specs.declared.member.MemberValue.{MemberValue}
+use Rattle.cfg_json.specs.declared.member.MemberValue.TheVariants as value
 
 abbrev pub ReadValue : Type 0
 ReadValue = MemberValue × List ℕ

@@ -5,11 +5,14 @@
 
 mod blanks;
 mod escapes;
-mod members;
+pub mod laws;
+mod member;
 mod numbers;
 mod objects;
+mod reading;
 mod strings;
 mod values;
 
 pub use cfg_types::{Field, FieldFault, InvalidJsonCredentials, JsonCredentials, JsonError};
-pub use members::{Member, MemberValue, Members};
+pub use member::{Member, MemberValue, Members};
+pub use reading::{members, only_members};

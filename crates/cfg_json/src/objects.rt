@@ -4,7 +4,7 @@ ghost use Rattle.cfg_json.specs.Gives.{Gives};
 ghost use Rattle.cfg_json.specs.ReadingObjects.{text_from, number_value_at, text_value_at, nested_value_at, word_value_at, member_value_at, member_at, member_turn_at, members_at, object_at};
 
 use crate::blanks::skip_blanks;
-use crate::members::{Member, MemberValue};
+use crate::member::{Member, MemberValue};
 use crate::numbers::{skip_number, skip_word};
 use crate::strings::{read_string, utf8_text};
 use crate::values::{read_key, skip_value};
