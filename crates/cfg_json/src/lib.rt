@@ -16,3 +16,6 @@ mod values;
 pub use cfg_types::{Field, FieldFault, InvalidJsonCredentials, JsonCredentials, JsonError};
 pub use member::{Member, MemberValue, Members};
 pub use reading::{members, only_members};
+
+#[cfg(test)]
+mod tests;
