@@ -227,21 +227,21 @@ number_takes t r e =
 
 -- ---- a number is ASCII
 
-cons_ascii : (x : ℕ) (t : List ℕ) → x < 128 → IsAscii t → IsAscii (x ∷ t)
+pub cons_ascii : (x : ℕ) (t : List ℕ) → x < 128 → IsAscii t → IsAscii (x ∷ t)
 cons_ascii x t lt h zero = lt
 cons_ascii x t lt h (suc i) = h i
 
-nil_ascii : IsAscii []
+pub nil_ascii : IsAscii []
 nil_ascii i = omega arith
 
-digit_small : (x : ℕ) → is_ascii_digit x ≡ true → x < 128
+pub digit_small : (x : ℕ) → is_ascii_digit x ≡ true → x < 128
 digit_small x e = let p = and_parts _ _ e in let high : x ≤ 57 = leb-true _ _ p.1 in omega arith
 
 digits_ascii : (ds : List ℕ) → AllDigits ds → IsAscii ds
 digits_ascii [] h = nil_ascii
 digits_ascii (x ∷ ds) h = cons_ascii x ds (digit_small x h.0) (digits_ascii ds h.1)
 
-some_ascii : (ds : List ℕ) → AreDigits ds → IsAscii ds
+pub some_ascii : (ds : List ℕ) → AreDigits ds → IsAscii ds
 some_ascii [] h = absurd h
 some_ascii (x ∷ ds) h = digits_ascii (x ∷ ds) h
 

@@ -9,3 +9,5 @@ pub mod Reading
 pub mod ReadingValues
 pub mod ReadingObjects
 pub mod Answers
+pub mod Dates
+pub mod ReadingDates

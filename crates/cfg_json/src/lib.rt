@@ -4,6 +4,7 @@
 #![tactic(auto)]
 
 mod blanks;
+mod dates;
 mod escapes;
 pub mod laws;
 mod member;
@@ -14,6 +15,7 @@ mod strings;
 mod values;
 
 pub use cfg_types::{Field, FieldFault, InvalidJsonCredentials, JsonCredentials, JsonError};
+pub use dates::reading::{parse_date, parse_offset_date};
 pub use member::{Member, MemberValue, Members};
 pub use reading::{members, only_members};
 

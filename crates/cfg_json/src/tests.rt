@@ -18,7 +18,10 @@ fn shown(rt: &HostRuntime, bytes: &[u8], only: bool) -> Result<String, Fail> {
                 let key = member.key.as_str();
                 let word = match &member.value {
                     MemberValue::Text(text) => format!(in rt.alloc(); "text {}", text.as_str())?,
-                    MemberValue::Number(text) => format!(in rt.alloc(); "number {}", text.as_str())?,
+                    MemberValue::Number(text) => format!(in rt.alloc();
+                        "number {}",
+                        text.as_str()
+                    )?,
                     MemberValue::Object { from, to } => {
                         let from = *from;
                         let to = *to;
@@ -58,8 +61,14 @@ fn members_of_texts(rt: HostRuntime) -> Result<(), Fail> {
         (b"{\"a\":\"\\ud800a\"}", "Syntax"),
         (b"{\"a\":\"\\udbff\\udfff\"}", "20;a=text \u{10ffff}"),
         (b"{\"a\":\"\\uD834\\uDD1E\"}", "20;a=text \u{1d11e}"),
-        (b"{\"a\":\"\\\"\\\\\\/\\b\\f\\n\\r\\t\"}", "24;a=text \"\\/\x08\x0C\n\r\t"),
-        (b"{\"a\":\"\\u0041\\u00e9\\u20AC\"}", "26;a=text A\u{e9}\u{20ac}"),
+        (
+            b"{\"a\":\"\\\"\\\\\\/\\b\\f\\n\\r\\t\"}",
+            "24;a=text \"\\/\x08\x0C\n\r\t",
+        ),
+        (
+            b"{\"a\":\"\\u0041\\u00e9\\u20AC\"}",
+            "26;a=text A\u{e9}\u{20ac}",
+        ),
         (b"{\"a\":\"\\u0000\"}", "14;a=text \x00"),
         (b"{\"a\":\"\x7F\"}", "9;a=text \x7F"),
         (b"{\"a\":\"\x1F\"}", "Syntax"),
