@@ -400,3 +400,6 @@ pub only_is : (offsets : Bool) (bytes : List ℕ) (m : Moment) → IsUtf8 bytes 
 only_is offsets bytes m u h =
     let same : bytes ≡ characters bytes = sym (encodes-chars bytes u) ∙ encodes-IsAscii (characters bytes) (time_ascii offsets (characters bytes) m h) in
     ap (moment_at offsets) same ∙ moment_again offsets (characters bytes) m h
+
+pub one_moment : (t : List ℕ) (m n : Moment) → IsTimeText (Zones true) t m → IsTimeText (Zones true) t n → m ≡ n
+one_moment t m n h k = given_is m n (sym (moment_again true t m h) ∙ moment_again true t n k)

@@ -18,3 +18,4 @@ pub mod AnswerSteps
 pub mod DateSteps
 pub mod DatesAgain
 pub mod DatesTake
+pub mod DatesWritten

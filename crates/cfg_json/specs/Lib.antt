@@ -11,3 +11,4 @@ pub mod ReadingObjects
 pub mod Answers
 pub mod Dates
 pub mod ReadingDates
+pub mod WritingDates

@@ -3,3 +3,4 @@
 pub mod digits;
 pub mod local;
 pub mod reading;
+pub mod writing;

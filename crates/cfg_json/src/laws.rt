@@ -1,6 +1,8 @@
 //! Laws of the grammar, each on a call that shows it.
 ghost use Rattle.std.specs.Prelude.{◌≡◌, ℕ, List, ◌++◌};
 ghost use Rattle.cfg_json.specs.declared.member.Member.{Member};
+ghost use Rattle.cfg_types.specs.Moment.{Moment};
+ghost use Rattle.cfg_json.specs.Dates.{IsDateText, IsOffsetDateText, IsWrittenDate};
 ghost use Rattle.cfg_json.specs.Objects.{IsObject, HasObject};
 
 /// Some bytes have one list of members, and one end of the object.
@@ -13,4 +15,14 @@ pub fn one_list()
 pub fn no_object_begins_another()
     ensures { (at : ℕ) (t u x y : List ℕ) (list other : List Member)
         → IsObject at t list → IsObject at u other → t ++ x ≡ u ++ y → (t ≡ u) × (list ≡ other) × (x ≡ y) }
+{}
+
+/// What is written for a moment stands for it, and so `parse_date` gives the moment back.
+pub fn written_dates_stand_for_their_moments()
+    ensures { (text : List ℕ) (m : Moment) → IsWrittenDate text m → IsDateText text m }
+{}
+
+/// A text of a date stands for one moment.
+pub fn dates_stand_for_one_moment()
+    ensures { (text : List ℕ) (m n : Moment) → IsOffsetDateText text m → IsOffsetDateText text n → m ≡ n }
 {}

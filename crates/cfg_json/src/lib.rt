@@ -16,6 +16,7 @@ mod values;
 
 pub use cfg_types::{Field, FieldFault, InvalidJsonCredentials, JsonCredentials, JsonError};
 pub use dates::reading::{parse_date, parse_offset_date};
+pub use dates::writing::write_date;
 pub use member::{Member, MemberValue, Members};
 pub use reading::{members, only_members};
 
