@@ -19,3 +19,4 @@ pub mod DateSteps
 pub mod DatesAgain
 pub mod DatesTake
 pub mod DatesWritten
+pub mod WriterSteps

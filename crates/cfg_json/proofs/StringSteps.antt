@@ -66,7 +66,7 @@ pub one_piece : (x c n : ℕ) (t : List ℕ) → piece_at (x ∷ t) ≡ Some (c,
 unfolding content_of
 one_piece x c n t p = rw p (ap (λ (r : Option (List ℕ)). r >>= λ s. Some (c ∷ s)) (skips n t))
 
-pushed : (bytes : List ℕ) (c : ℕ) → IsUtf8 bytes → scalar c ≡ true → characters (bytes ++ encode_utf8 c) ≡ characters bytes ++ c ∷ []
+pub pushed : (bytes : List ℕ) (c : ℕ) → IsUtf8 bytes → scalar c ≡ true → characters (bytes ++ encode_utf8 c) ≡ characters bytes ++ c ∷ []
 pushed bytes c u ok =
     let one : chars (encode_utf8 c) ≡ c ∷ [] = ap chars (sym (append-nil (encode_utf8 c))) ∙ chars-encodes (c ∷ []) (rw ok refl) in
     characters-chars (bytes ++ encode_utf8 c) ∙ chars-append bytes (encode_utf8 c) u ∙ ap (λ (s : List ℕ). chars bytes ++ s) one ∙ ap (λ (s : List ℕ). s ++ c ∷ []) (sym (characters-chars bytes))

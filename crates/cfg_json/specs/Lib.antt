@@ -12,3 +12,6 @@ pub mod Answers
 pub mod Dates
 pub mod ReadingDates
 pub mod WritingDates
+pub mod Writing
+pub mod Lookups
+pub mod Documents

@@ -7,18 +7,21 @@ mod blanks;
 mod dates;
 mod escapes;
 pub mod laws;
+mod lookup;
 mod member;
 mod numbers;
 mod objects;
 mod reading;
 mod strings;
 mod values;
+mod writer;
 
 pub use cfg_types::{Field, FieldFault, InvalidJsonCredentials, JsonCredentials, JsonError};
 pub use dates::reading::{parse_date, parse_offset_date};
 pub use dates::writing::write_date;
 pub use member::{Member, MemberValue, Members};
 pub use reading::{members, only_members};
+pub use writer::ObjectWriter;
 
 #[cfg(test)]
 mod tests;

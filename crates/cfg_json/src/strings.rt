@@ -51,7 +51,7 @@ fn all_plain(text: &str) -> bool
     text.as_bytes().iter().all(|byte| is_plain(*byte))
 }
 
-fn push_character(out: &mut String, c: char) -> Result<(), OutOfMemory>
+pub fn push_character(out: &mut String, c: char) -> Result<(), OutOfMemory>
     ensures spelled { OnOk result (string_bytes out.new ≡ string_bytes out.old ++ encode_utf8 c) }
     ensures scalar { scalar c ≡ true }
 {
@@ -74,7 +74,7 @@ fn unescaped(alloc: Global, text: &[char]) -> Result<String, JsonError>
     Ok(out)
 }
 
-fn characters_of(alloc: Global, text: &str) -> Result<Vec<char>, AllocError>
+pub fn characters_of(alloc: Global, text: &str) -> Result<Vec<char>, AllocError>
     ensures { IfOk result (λ v. v.items ≡ characters text.now) }
 {
     text.chars().collect(alloc)
