@@ -20,3 +20,5 @@ pub mod DatesAgain
 pub mod DatesTake
 pub mod DatesWritten
 pub mod WriterSteps
+pub mod LookupSteps
+pub mod DocumentLaws

@@ -4,6 +4,7 @@
 #![tactic(auto)]
 
 mod blanks;
+mod credentials;
 mod dates;
 mod escapes;
 pub mod laws;
@@ -11,15 +12,18 @@ mod lookup;
 mod member;
 mod numbers;
 mod objects;
+mod process;
 mod reading;
 mod strings;
 mod values;
 mod writer;
 
 pub use cfg_types::{Field, FieldFault, InvalidJsonCredentials, JsonCredentials, JsonError};
+pub use credentials::parse_json_credentials;
 pub use dates::reading::{parse_date, parse_offset_date};
 pub use dates::writing::write_date;
 pub use member::{Member, MemberValue, Members};
+pub use process::parse_credential_process_json_credentials;
 pub use reading::{members, only_members};
 pub use writer::ObjectWriter;
 

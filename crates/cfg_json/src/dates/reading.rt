@@ -1,5 +1,5 @@
 // Dates that are read.
-ghost use Rattle.std.specs.Prelude.{◌≡◌, ◌≤◌, ◌<◌, ◌+◌, ◌*◌, ℤ, pos, negsuc, ◌≤ℤ◌, ◌-ℤ◌, IsTrue, IfSome, Some, option_map};
+ghost use Rattle.std.specs.Prelude.{◌≡◌, ◌≤◌, ◌<◌, ◌+◌, ◌*◌, ℤ, pos, negsuc, ◌≤ℤ◌, ◌-ℤ◌, true, false, IsTrue, IfSome, Some, option_map};
 ghost use Rattle.jiff_core.specs.Calendar.{days_from_civil, IsEpochDay};
 ghost use Rattle.cfg_types.specs.Moment.{Moment};
 ghost use Rattle.cfg_types.specs.Text.{characters};
@@ -214,6 +214,7 @@ fn read_moment(text: &[u8], offsets: bool) -> Option<Instant>
 pub fn parse_date(text: &str) -> Option<Instant>
     ensures found { IfSome result (IsDateText (characters text.now)) }
     ensures only { (m : Moment) → IsDateText (characters text.now) m → result ≡ Some m }
+    ensures exact { result ≡ moment_at false text.now }
 {
     read_moment(text.as_bytes(), false)
 }
@@ -223,6 +224,7 @@ pub fn parse_date(text: &str) -> Option<Instant>
 pub fn parse_offset_date(text: &str) -> Option<Instant>
     ensures found { IfSome result (IsOffsetDateText (characters text.now)) }
     ensures only { (m : Moment) → IsOffsetDateText (characters text.now) m → result ≡ Some m }
+    ensures exact { result ≡ moment_at true text.now }
 {
     read_moment(text.as_bytes(), true)
 }

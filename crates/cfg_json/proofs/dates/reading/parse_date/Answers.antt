@@ -8,3 +8,6 @@ returns-clause-found c = found_is false c.args.text.now c.read_moment.result (c.
 
 pub returns-clause-only : goal.returns-clause-only
 returns-clause-only c = λ m h. c.read_moment.ensures ∙ ap (moment_at false) c.as_bytes.ensures.value ∙ only_is false c.args.text.now m c.utf8.text h
+
+pub returns-clause-exact : goal.returns-clause-exact
+returns-clause-exact c = c.read_moment.ensures ∙ ap (moment_at false) c.as_bytes.ensures.value
