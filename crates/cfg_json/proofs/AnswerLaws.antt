@@ -1,20 +1,20 @@
 -- What the readers of whole objects answer, by the grammar.
-use Rattle.std.proofs.Common.{◌≡◌, ◌⊎◌, ℕ, ◌+◌, ◌-◌, ◌<◌, ◌≤◌, inl, inr, List, [], ◌∷◌, ◌++◌, length, drop, Bool, true, false, cond, Option, Some, None, refl, sym, ap, subst, ◌∙◌, append_assoc, arith, length-append}
-use Rattle.std.specs.Prelude.{◌==◌, Result, Ok, Err, IfOk, IsErrOf}
-use Rattle.std.proofs.lemmas.Bool.{eqb-false, eq-eqb, ne_eqb, eqb-true}
+use Rattle.std.proofs.Common.{◌≡◌, ◌⊎◌, ℕ, ◌+◌, ◌-◌, inl, inr, List, [], ◌∷◌, ◌++◌, length, drop, Bool, true, false, cond, Option, Some, None, refl, sym, ap, subst, ◌∙◌, append_assoc, arith, length-append}
+use Rattle.std.specs.Prelude.{◌==◌, Result, Ok, Err, IfOk}
+use Rattle.std.proofs.lemmas.Bool.{eqb-false, ne_eqb, eqb-true}
 use Rattle.std.proofs.lemmas.List.{append_cancel_right, drop_at, append-nil}
 use Rattle.cfg_types.specs.declared.document.JsonError.{JsonError}
 use Rattle.cfg_types.specs.declared.document.JsonError.TheVariants as json
 use Rattle.cfg_json.specs.Blanks.{is_blank, AreBlanks}
-use Rattle.cfg_json.specs.Gives.{Gives, Fails}
+use Rattle.cfg_json.specs.Gives.{Gives}
 use Rattle.cfg_json.specs.Objects.{IsObject, HasObject}
 use Rattle.cfg_json.specs.Reading.{after_blanks}
 use Rattle.cfg_json.specs.ReadingObjects.{ReadMembers, Answer, answer_of, opened, object_at, object_answer}
 use Rattle.cfg_json.specs.Answers.{Answers, MemberList, OpensObject, OpensOther, HasNoObject, OnlyBlanksFrom, only_blanks, only_from, only_answer, with_end, list_answer, only_list_answer}
 use Rattle.cfg_json.specs.declared.member.Member.{Member}
-use Rattle.cfg_json.proofs.Options.{given, nothing, none_is, given_is}
+use Rattle.cfg_json.proofs.Options.{given_is}
 use Rattle.cfg_json.proofs.BlankLaws.{NoBlank, blanks_again, Blanks, blanks_take}
-use Rattle.cfg_json.proofs.ObjectsAgain.{ObjectFront, object_again, answer_again, end_is}
+use Rattle.cfg_json.proofs.ObjectsAgain.{object_again, answer_again, end_is}
 use Rattle.cfg_json.proofs.ObjectsTake.{ObjectTaken, object_takes_at}
 
 abbrev done : {Y : Type 0} → Y → Result Y JsonError

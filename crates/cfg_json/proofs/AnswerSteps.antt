@@ -1,5 +1,5 @@
 -- How the readers of whole objects come to their answers.
-use Rattle.std.proofs.Common.{◌≡◌, ℕ, suc, arith, ◌-◌, List, [], ◌∷◌, length, Bool, true, false, cond, Option, refl, sym, ap, subst, ◌∙◌}
+use Rattle.std.proofs.Common.{◌≡◌, ℕ, suc, arith, ◌-◌, List, [], ◌∷◌, length, true, false, refl, sym, ap, subst, ◌∙◌}
 use Rattle.std.specs.Prelude.{◌==◌, Result, Ok, Err}
 use Rattle.std.proofs.lemmas.Bool.{ne_eqb, eq-eqb, eqb-true, true≢false}
 use Rattle.std.proofs.lemmas.List.{nil_from_length}

@@ -4,7 +4,7 @@ use Rattle.std.specs.Prelude.{◌==◌}
 use Rattle.std.proofs.lemmas.Bool.{eqb-true}
 use Rattle.cfg_json.specs.Blanks.{is_blank, AreBlanks}
 use Rattle.cfg_json.specs.Reading.{after_blanks, mark_at}
-use Rattle.cfg_json.proofs.Options.{nothing, given, none_is, given_is, tested}
+use Rattle.cfg_json.proofs.Options.{given, none_is, tested}
 
 -- no white space is at the front
 abbrev pub NoBlank : List ℕ → Type 0

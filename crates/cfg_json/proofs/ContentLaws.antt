@@ -1,8 +1,8 @@
 -- The characters between quotation marks are read as the grammar says, and what is read is spelled so.
-use Rattle.std.proofs.Common.{◌≡◌, ℕ, zero, suc, ◌+◌, ◌<◌, ◌≤◌, ◌⊎◌, inl, inr, List, [], ◌∷◌, ◌++◌, length, drop, Bool, true, false, cond, Option, Some, None, refl, sym, ap, subst, ◌∙◌, arith}
-use Rattle.std.specs.Prelude.{◌==◌, ◌&&◌, not, nat_le}
+use Rattle.std.proofs.Common.{◌≡◌, ℕ, zero, suc, inl, inr, List, [], ◌∷◌, drop, true, false, cond, Option, Some, None, refl, sym, ap, subst, ◌∙◌}
+use Rattle.std.specs.Prelude.{◌==◌, ◌&&◌}
 use Rattle.std.proofs.lemmas.Bool.{eqb-true, and_parts, ne_eqb}
-use Rattle.cfg_json.specs.Characters.{backslash, lower_u, is_plain, short_escape, hex_digit, code_unit, is_high, is_low, pair_char}
+use Rattle.cfg_json.specs.Characters.{backslash, lower_u, is_plain, short_escape, code_unit, is_high, is_low, pair_char}
 use Rattle.cfg_json.specs.Gives.{◌>>=◌}
 use Rattle.cfg_json.specs.Strings.{IsContent}
 use Rattle.cfg_json.specs.Reading.{hex_at, low_at, unit_at, escape_at, piece_at, content_of}

@@ -1,17 +1,16 @@
 -- What stands for a moment is read as it.
-use Rattle.std.proofs.Common.{◌≡◌, ◌≢◌, ℕ, zero, suc, ◌+◌, ◌-◌, ◌*◌, ◌/◌, ◌%◌, ◌<◌, ◌≤◌, ◌⊎◌, inl, inr, List, [], ◌∷◌, ◌++◌, length, Bool, true, false, cond, Option, Some, None, refl, sym, ap, subst, ◌∙◌, append_assoc, arith}
-use Rattle.std.specs.Prelude.{◌&&◌, ◌||◌, nat_le, nat_lt, ◌==◌, ℤ, pos, neg_ℤ, ◌-ℤ◌}
+use Rattle.std.proofs.Common.{◌≡◌, ℕ, ◌+◌, ◌-◌, ◌*◌, ◌/◌, ◌%◌, ◌<◌, ◌≤◌, ◌⊎◌, inl, inr, List, [], ◌∷◌, ◌++◌, length, Bool, true, false, Option, Some, None, refl, sym, ap, subst, ◌∙◌, arith}
+use Rattle.std.specs.Prelude.{◌||◌, nat_le, nat_lt, ◌==◌, ℤ, pos, neg_ℤ, ◌-ℤ◌}
 use Rattle.std.specs.Char.{is_ascii_digit}
 use Rattle.jiff_core.specs.Calendar.{days_in_month}
 use Rattle.jiff_core.proofs.CalendarLemmas.{days_in_month_bounds}
 use Rattle.std.proofs.lemmas.Bool.{le-leb, lt-ltb, eq-eqb, ne_eqb, or_left, or_right}
 use Rattle.cfg_types.specs.Moment.{Moment}
-use Rattle.cfg_json.specs.Gives.{◌>>=◌}
 use Rattle.cfg_json.specs.Numbers.{AllDigits, AreDigits}
 use Rattle.cfg_json.specs.Reading.{mark_at}
 use Rattle.cfg_json.specs.declared.dates.local.LocalTime.{LocalTime}
 use Rattle.cfg_json.specs.Dates.{two, four, IsCommonDate, Exists, spelled, seconds_of, fraction_value, first_weight, IsSecondFraction, IsZulu, IsNumericOffset, IsOffset, IsTimeText}
-use Rattle.cfg_json.specs.ReadingDates.{digit, two_at, four_at, next_at, either_at, three_read, day_at, clock_at, local_at, ReadNumber, add_front, nanos_from, nanos_at, second_fraction_at, is_civil, is_clock, if_last, offset_at, zone_of, moment_at}
+use Rattle.cfg_json.specs.ReadingDates.{digit, two_at, four_at, next_at, either_at, three_read, day_at, clock_at, local_at, add_front, nanos_from, nanos_at, second_fraction_at, is_civil, is_clock, offset_at, zone_of, moment_at}
 use Rattle.cfg_json.proofs.NumberLaws.{NoDigit}
 
 digit_again : (n : ℕ) → n < 10 → digit (48 + n) ≡ Some n

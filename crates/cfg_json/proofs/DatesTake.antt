@@ -1,9 +1,8 @@
 -- What is read as a moment stands for it.
-use Rattle.std.proofs.Common.{◌≡◌, ℕ, zero, suc, ◌+◌, ◌-◌, ◌*◌, ◌/◌, ◌%◌, ◌<◌, ◌≤◌, ◌⊎◌, inl, inr, List, [], ◌∷◌, ◌++◌, length, Bool, true, false, cond, Option, Some, None, refl, sym, ap, subst, ◌∙◌, append_assoc, arith}
+use Rattle.std.proofs.Common.{◌≡◌, ℕ, ◌+◌, ◌-◌, ◌*◌, ◌/◌, ◌%◌, ◌<◌, ◌≤◌, ◌⊎◌, inl, inr, List, [], ◌∷◌, ◌++◌, length, Bool, true, false, cond, Option, Some, None, refl, sym, ap, subst, ◌∙◌, arith}
 use Rattle.std.specs.Prelude.{◌&&◌, ◌||◌, nat_le, nat_lt, ◌==◌, ℤ, pos, neg_ℤ, ◌-ℤ◌, IfSome}
 use Rattle.std.specs.Char.{is_ascii_digit}
-use Rattle.std.specs.Str.{IsAscii, IsUtf8, encode_utf8_all}
-use Rattle.jiff_core.specs.Calendar.{days_in_month}
+use Rattle.std.specs.Str.{IsAscii, IsUtf8}
 use Rattle.jiff_core.proofs.CalendarLemmas.{days_in_month_bounds}
 use Rattle.std.proofs.lemmas.Bool.{and_parts, eqb-true, eqb-false, or_cases}
 use Rattle.std.proofs.lemmas.Str.{IsAscii-append, chars-IsAscii, encodes-IsAscii}
@@ -12,11 +11,11 @@ use Rattle.cfg_types.specs.Moment.{Moment}
 use Rattle.cfg_types.specs.Text.{characters}
 use Rattle.cfg_types.proofs.TextLemmas.{characters-chars, encodes-chars}
 use Rattle.cfg_json.specs.Gives.{◌>>=◌}
-use Rattle.cfg_json.specs.Numbers.{AllDigits, AreDigits}
+use Rattle.cfg_json.specs.Numbers.{AllDigits}
 use Rattle.cfg_json.specs.Reading.{mark_at}
 use Rattle.cfg_json.specs.declared.dates.local.LocalTime.{LocalTime}
-use Rattle.cfg_json.specs.Dates.{two, four, IsCommonDate, Exists, spelled, seconds_of, fraction_value, first_weight, IsSecondFraction, IsZulu, IsNumericOffset, IsOffset, IsTimeText}
-use Rattle.cfg_json.specs.ReadingDates.{digit, two_at, four_at, next_at, either_at, ReadThree, three_read, day_at, clock_at, local_at, ReadNumber, next_digit, by_digit, add_front, nanos_from, nanos_at, second_fraction_at, is_civil, is_clock, if_last, offset_at, zone_of, moment_at}
+use Rattle.cfg_json.specs.Dates.{two, four, IsCommonDate, Exists, spelled, seconds_of, fraction_value, first_weight, IsSecondFraction, IsZulu, IsNumericOffset, IsTimeText}
+use Rattle.cfg_json.specs.ReadingDates.{digit, two_at, four_at, next_at, either_at, ReadThree, three_read, day_at, clock_at, local_at, ReadNumber, by_digit, add_front, nanos_from, nanos_at, second_fraction_at, is_civil, is_clock, if_last, offset_at, zone_of, moment_at}
 use Rattle.cfg_json.proofs.Options.{given, nothing, none_is, given_is, bind_some, chosen, tested}
 use Rattle.cfg_json.proofs.BlankLaws.{mark_takes}
 use Rattle.cfg_json.proofs.NumberLaws.{cons_ascii, nil_ascii, some_ascii}

@@ -1,12 +1,12 @@
 -- What is written for a moment stands for it.
-use Rattle.std.proofs.Common.{◌≡◌, ◌≢◌, ℕ, zero, suc, ◌+◌, ◌-◌, ◌*◌, ◌/◌, ◌%◌, ◌<◌, ◌≤◌, ◌⊎◌, inl, inr, List, [], ◌∷◌, ◌++◌, length, Bool, true, false, cond, Option, Some, None, refl, sym, ap, subst, ◌∙◌, append_assoc, arith, length-append}
-use Rattle.std.specs.Prelude.{◌==◌, ℤ, pos, negsuc, ◌+ℤ◌, ◌-ℤ◌, ◌*ℤ◌, ◌<ℤ◌, ◌≤ℤ◌}
+use Rattle.std.proofs.Common.{◌≡◌, ℕ, suc, ◌+◌, ◌-◌, ◌*◌, ◌/◌, ◌%◌, ◌<◌, ◌≤◌, inl, inr, List, [], ◌∷◌, ◌++◌, length, Bool, true, false, cond, Some, None, refl, sym, ap, subst, ◌∙◌, arith}
+use Rattle.std.specs.Prelude.{◌==◌, ℤ, pos, negsuc, ◌-ℤ◌, ◌<ℤ◌, ◌≤ℤ◌}
 use Rattle.std.specs.Char.{is_ascii_digit}
-use Rattle.std.specs.Str.{IsAscii, IsUtf8}
-use Rattle.std.proofs.lemmas.Bool.{eqb-true, eqb-false, ne_eqb, eq-eqb, and_from, le-leb, cases_eq}
+use Rattle.std.specs.Str.{IsAscii}
+use Rattle.std.proofs.lemmas.Bool.{eqb-true, eqb-false, ne_eqb, and_from, le-leb, cases_eq}
 use Rattle.std.proofs.lemmas.List.{nil_from_length}
 use Rattle.std.proofs.lemmas.Str.{IsUtf8-from_ascii, chars-IsAscii}
-use Rattle.jiff_core.specs.Calendar.{days_in_month, days_from_civil, day_count, days_of_years, days_of_months, IsCivilDate}
+use Rattle.jiff_core.specs.Calendar.{days_from_civil, day_count, days_of_years, days_of_months, IsCivilDate}
 use Rattle.jiff_core.proofs.CalendarLemmas.{days_in_month_bounds, day_count-lt_year, day_count-lt_month, day_count-day, day_count_bounds, days_from_civil-day_count}
 use Rattle.jiff_core.proofs.SignedLemmas.{signed_arith}
 use Rattle.cfg_types.specs.Moment.{Moment}
@@ -14,7 +14,7 @@ use Rattle.cfg_types.specs.Text.{characters}
 use Rattle.cfg_types.proofs.TextLemmas.{characters-chars}
 use Rattle.cfg_json.specs.Numbers.{AllDigits, AreDigits}
 use Rattle.cfg_json.specs.declared.dates.local.LocalTime.{LocalTime}
-use Rattle.cfg_json.specs.Dates.{two, three, four, IsCommonDate, Exists, spelled, seconds_of, fraction_value, first_weight, IsSecondFraction, IsShortFraction, IsTimeText, IsZulu, IsDateText, IsOutside, IsWrittenDate}
+use Rattle.cfg_json.specs.Dates.{IsCommonDate, Exists, spelled, seconds_of, fraction_value, first_weight, IsSecondFraction, IsShortFraction, IsDateText, IsOutside, IsWrittenDate}
 use Rattle.cfg_json.specs.WritingDates.{nine, drop_zero, without_zeros, fraction_of, day_text, clock_text, date_text}
 use Rattle.cfg_json.specs.Reading.{utf8_of}
 use Rattle.cfg_json.proofs.DatesTake.{time_ascii}

@@ -1,13 +1,11 @@
 -- A document is answered by its text, and then by its table.
-use Rattle.std.proofs.Common.{◌≡◌, ℕ, List, Option, refl, sym, ap, subst, ◌∙◌}
-use Rattle.std.specs.Prelude.{Result, Ok, Err, ℤ}
-use Rattle.cfg_types.specs.declared.document.JsonError.{JsonError}
+use Rattle.std.proofs.Common.{◌≡◌, ℕ, List, subst}
+use Rattle.std.specs.Prelude.{Ok, Err}
 use Rattle.cfg_types.specs.declared.document.JsonError.TheVariants as json
 use Rattle.cfg_types.specs.declared.document.InvalidJsonCredentials.{InvalidJsonCredentials}
 use Rattle.cfg_types.specs.declared.document.InvalidJsonCredentials.TheVariants as invalid
 use Rattle.cfg_json.specs.declared.member.Member.{Member}
-use Rattle.cfg_json.specs.declared.member.Members.{Members}
-use Rattle.cfg_json.specs.Documents.{Read, UnlessMemory, FieldFails, AnswersDocument, ReadsDocument, IsDocument}
+use Rattle.cfg_json.specs.Documents.{Read, UnlessMemory, AnswersDocument, ReadsDocument, IsDocument}
 
 pub text_fails : {A : Type 0} (Table : List Member → Read A → Type 0) (bytes : List ℕ) (e : InvalidJsonCredentials) → ReadsDocument bytes (Err e) → AnswersDocument Table bytes (Err e)
 text_fails Table bytes (invalid.JsonError json.NotObject) h = h

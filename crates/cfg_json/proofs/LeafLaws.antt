@@ -1,9 +1,9 @@
 -- Keys, and values that do not nest, are read as the grammar says, and what is read is one.
-use Rattle.std.proofs.Common.{◌≡◌, ℕ, zero, suc, ◌<◌, ◌≤◌, ◌⊎◌, inl, inr, List, [], ◌∷◌, ◌++◌, length, drop, Bool, true, false, cond, Option, Some, None, refl, sym, ap, subst, ◌∙◌, append_assoc}
-use Rattle.std.specs.Prelude.{◌==◌, ◌||◌, ◌&&◌, nat_eq, codes}
+use Rattle.std.proofs.Common.{◌≡◌, ℕ, ◌⊎◌, inl, inr, List, [], ◌∷◌, ◌++◌, length, drop, Bool, true, false, Option, Some, None, refl, sym, ap, subst, ◌∙◌, append_assoc}
+use Rattle.std.specs.Prelude.{◌==◌, nat_eq, codes}
 use Rattle.std.specs.Char.{is_ascii_digit}
 use Rattle.std.specs.List.{starts_with}
-use Rattle.std.proofs.lemmas.Bool.{eqb-true, ne_eqb, or_from, or_parts, or_cases, both_ways}
+use Rattle.std.proofs.lemmas.Bool.{eqb-true, ne_eqb, or_from, both_ways}
 use Rattle.std.proofs.lemmas.Bool.Decides.{Decides-eqb}
 use Rattle.std.proofs.lemmas.Slice.Eq.{starts_is}
 use Rattle.cfg_json.specs.Blanks.{is_blank, AreBlanks}
@@ -11,13 +11,13 @@ use Rattle.cfg_json.specs.Characters.{quote}
 use Rattle.cfg_json.specs.Gives.{◌>>=◌, or_else}
 use Rattle.cfg_json.specs.Numbers.{IsWhole, IsMinus, IsNumber}
 use Rattle.cfg_json.specs.Strings.{IsString}
-use Rattle.cfg_json.specs.Values.{colon, close_of, IsWord, IsKey, IsValue}
+use Rattle.cfg_json.specs.Values.{colon, IsWord, IsKey, IsValue}
 use Rattle.cfg_json.specs.Reading.{after_blanks, mark_at, number_at, after_front, word_at, string_at}
 use Rattle.cfg_json.specs.ReadingValues.{Read, scalar_at, leaf_at, key_at}
-use Rattle.cfg_json.proofs.Options.{given, nothing, none_is, given_is, bind_some, chosen, tested, either}
-use Rattle.cfg_json.proofs.BlankLaws.{NoBlank, blanks_again, Blanks, blanks_take, mark_again, mark_takes}
+use Rattle.cfg_json.proofs.Options.{given, none_is, given_is, bind_some, chosen, tested, either}
+use Rattle.cfg_json.proofs.BlankLaws.{NoBlank, blanks_again, blanks_take, mark_again, mark_takes}
 use Rattle.cfg_json.proofs.NumberLaws.{EndsNumber, digit_is_no, number_again, number_takes}
-use Rattle.cfg_json.proofs.StringLaws.{StringFront, string_again, StringTaken, string_takes}
+use Rattle.cfg_json.proofs.StringLaws.{string_again, string_takes}
 
 -- ---- words
 

@@ -22,3 +22,4 @@ pub mod DatesWritten
 pub mod WriterSteps
 pub mod LookupSteps
 pub mod DocumentLaws
+pub mod WrittenStrings

@@ -4,8 +4,8 @@ use Rattle.std.specs.Prelude.{◌||◌}
 use Rattle.cfg_types.specs.declared.document.JsonError.{JsonError}
 use Rattle.cfg_types.specs.declared.document.JsonError.TheVariants as json
 use Rattle.cfg_json.specs.Gives.{◌>>=◌, Fails}
-use Rattle.cfg_json.specs.ReadingValues.{Read, Turn, or_front, go_on, turn_at, items_at}
-use Rattle.cfg_json.specs.ReadingObjects.{ReadMembers, MemberTurn, members_front, go_on_members, member_turn_at, members_at}
+use Rattle.cfg_json.specs.ReadingValues.{Read, or_front, go_on, turn_at, items_at}
+use Rattle.cfg_json.specs.ReadingObjects.{ReadMembers, members_front, go_on_members, member_turn_at, members_at}
 use Rattle.cfg_json.specs.declared.member.Member.{Member}
 
 or_twice : (a b : Bool) (r : Option Read) → or_front a (or_front b r) ≡ or_front (a || b) r

@@ -1,26 +1,23 @@
 -- What is spelled as an object is read, whatever follows.
-use Rattle.std.proofs.Common.{◌≡◌, ℕ, zero, suc, ◌+◌, ◌-◌, ◌<◌, ◌≤◌, inl, inr, List, [], ◌∷◌, ◌++◌, length, take, Bool, true, false, Option, Some, None, refl, sym, ap, subst, ◌∙◌, append_assoc, arith, length-append}
+use Rattle.std.proofs.Common.{◌≡◌, ℕ, zero, suc, ◌+◌, ◌-◌, ◌<◌, ◌≤◌, inl, inr, List, [], ◌∷◌, ◌++◌, length, take, Bool, true, false, Option, Some, None, refl, sym, ap, ◌∙◌, append_assoc, arith, length-append}
 use Rattle.std.specs.Prelude.{◌||◌, ◌==◌, codes, Ok}
-use Rattle.std.specs.Str.{IsUtf8}
 use Rattle.std.proofs.lemmas.Bool.{or_from}
 use Rattle.std.proofs.lemmas.Str.{IsUtf8-from_ascii, chars-IsAscii}
 use Rattle.std.proofs.lemmas.List.{take_at}
 use Rattle.cfg_types.specs.Text.{characters}
 use Rattle.cfg_types.proofs.TextLemmas.{characters-chars}
-use Rattle.cfg_json.specs.Blanks.{is_blank, AreBlanks}
+use Rattle.cfg_json.specs.Blanks.{AreBlanks}
 use Rattle.cfg_json.specs.Characters.{quote}
-use Rattle.cfg_json.specs.Gives.{◌>>=◌, or_else}
 use Rattle.cfg_json.specs.Numbers.{IsNumber}
-use Rattle.cfg_json.specs.Strings.{IsString}
-use Rattle.cfg_json.specs.Values.{comma, IsWord, IsKey, IsValue}
+use Rattle.cfg_json.specs.Values.{comma, IsWord}
 use Rattle.cfg_json.specs.Objects.{inner_depth, IsMemberValue, IsMember, AreMembers, IsObject, HasObject}
-use Rattle.cfg_json.specs.Reading.{after_blanks, number_at, word_at, string_at, utf8_of}
-use Rattle.cfg_json.specs.ReadingValues.{Read, key_at, value_at}
-use Rattle.cfg_json.specs.ReadingObjects.{ReadValue, text_from, number_value_at, text_value_at, nested_value_at, word_value_at, member_value_at, member_at, after_member, member_turn_at, ReadMembers, members_front, members_at, object_from, object_at, Answer, opened, answer_of, object_answer}
+use Rattle.cfg_json.specs.Reading.{after_blanks, word_at, string_at, utf8_of}
+use Rattle.cfg_json.specs.ReadingValues.{key_at, value_at}
+use Rattle.cfg_json.specs.ReadingObjects.{ReadValue, text_from, number_value_at, text_value_at, nested_value_at, word_value_at, member_value_at, member_at, member_turn_at, ReadMembers, members_at, object_at, opened, object_answer}
 use Rattle.cfg_json.specs.declared.member.Member.{Member}
 use Rattle.cfg_json.specs.declared.member.MemberValue.{MemberValue}
 use Rattle.cfg_json.specs.declared.member.MemberValue.TheVariants as value
-use Rattle.cfg_json.proofs.BlankLaws.{NoBlank, blanks_again}
+use Rattle.cfg_json.proofs.BlankLaws.{blanks_again}
 use Rattle.cfg_json.proofs.NumberLaws.{EndsNumber, number_again, number_ascii}
 use Rattle.cfg_json.proofs.StringLaws.{string_again}
 use Rattle.cfg_json.proofs.LeafLaws.{Head, number_head, number_head_is, number_no_word, not_number, word_head_is, head_blank, word_again, key_again}

@@ -1,30 +1,26 @@
 -- What is read as an object is spelled so.
-use Rattle.std.proofs.Common.{◌≡◌, ℕ, zero, suc, ◌+◌, ◌-◌, ◌<◌, ◌≤◌, ◌⊎◌, inl, inr, List, [], ◌∷◌, ◌++◌, length, take, Bool, true, false, cond, Option, Some, None, refl, sym, ap, subst, ◌∙◌, append_assoc, arith, length-append}
-use Rattle.std.specs.Prelude.{◌||◌, ◌==◌, codes}
-use Rattle.std.specs.Str.{IsUtf8}
+use Rattle.std.proofs.Common.{◌≡◌, ℕ, zero, suc, ◌+◌, ◌-◌, inl, inr, List, [], ◌∷◌, ◌++◌, length, take, Bool, true, false, cond, Option, Some, refl, sym, ap, subst, ◌∙◌, append_assoc, arith, length-append}
+use Rattle.std.specs.Prelude.{◌||◌, ◌==◌}
 use Rattle.std.proofs.lemmas.Bool.{or_cases, eqb-true}
-use Rattle.std.proofs.lemmas.Str.{IsUtf8-from_ascii, chars-IsAscii}
+use Rattle.std.proofs.lemmas.Str.{chars-IsAscii}
 use Rattle.std.proofs.lemmas.List.{take_at}
 use Rattle.cfg_types.specs.Text.{characters}
 use Rattle.cfg_types.proofs.TextLemmas.{characters-chars}
-use Rattle.cfg_json.specs.Blanks.{is_blank, AreBlanks}
 use Rattle.cfg_json.specs.Characters.{quote}
 use Rattle.cfg_json.specs.Gives.{◌>>=◌, or_else}
-use Rattle.cfg_json.specs.Numbers.{IsNumber}
-use Rattle.cfg_json.specs.Strings.{IsString}
-use Rattle.cfg_json.specs.Values.{comma, IsWord, IsKey, IsValue}
-use Rattle.cfg_json.specs.Objects.{inner_depth, IsMemberValue, IsMember, AreMembers, IsObject, HasObject}
+use Rattle.cfg_json.specs.Values.{comma, IsValue}
+use Rattle.cfg_json.specs.Objects.{inner_depth, IsMemberValue, IsMember, AreMembers, IsObject}
 use Rattle.cfg_json.specs.Reading.{after_blanks, number_at, word_at, string_at, utf8_of}
 use Rattle.cfg_json.specs.ReadingValues.{Read, key_at, inside_at, value_at}
-use Rattle.cfg_json.specs.ReadingObjects.{ReadValue, text_from, number_value_at, text_value_at, nested_value_at, word_value_at, member_value_at, member_at, MemberTurn, after_member, member_turn_at, ReadMembers, members_front, go_on_members, members_at, object_from, object_at}
+use Rattle.cfg_json.specs.ReadingObjects.{ReadValue, text_from, number_value_at, text_value_at, nested_value_at, word_value_at, member_value_at, member_at, MemberTurn, after_member, member_turn_at, ReadMembers, go_on_members, members_at, object_from, object_at}
 use Rattle.cfg_json.specs.declared.member.Member.{Member}
 use Rattle.cfg_json.specs.declared.member.MemberValue.{MemberValue}
 use Rattle.cfg_json.specs.declared.member.MemberValue.TheVariants as value
 use Rattle.cfg_json.proofs.Options.{given, nothing, none_is, given_is, bind_some, chosen, tested, either}
-use Rattle.cfg_json.proofs.BlankLaws.{Blanks, blanks_take}
+use Rattle.cfg_json.proofs.BlankLaws.{blanks_take}
 use Rattle.cfg_json.proofs.NumberLaws.{number_takes, number_ascii}
 use Rattle.cfg_json.proofs.StringLaws.{string_takes, utf8_takes}
-use Rattle.cfg_json.proofs.LeafLaws.{Front, Head, value_head, word_takes, key_takes}
+use Rattle.cfg_json.proofs.LeafLaws.{Head, value_head, word_takes, key_takes}
 use Rattle.cfg_json.proofs.ValuesTake.{value_takes}
 
 -- the value of a member at the front

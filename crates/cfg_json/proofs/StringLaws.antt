@@ -1,7 +1,7 @@
 -- A string is read as the grammar says, and what is read is a string.
-use Rattle.std.proofs.Common.{◌≡◌, ℕ, zero, suc, ◌+◌, ◌*◌, ◌<◌, ◌≤◌, ◌⊎◌, inl, inr, List, [], ◌∷◌, ◌++◌, length, take, drop, get_or, Bool, true, false, cond, Option, Some, None, refl, sym, ap, subst, ◌∙◌, append_assoc, add-one, arith, lit<}
-use Rattle.std.specs.Prelude.{◌==◌, ◌&&◌, not, nat_le, nat_lt, option_map}
-use Rattle.std.specs.Char.{encode_utf8, digit_value}
+use Rattle.std.proofs.Common.{◌≡◌, ℕ, suc, ◌+◌, ◌*◌, ◌<◌, ◌≤◌, inl, inr, List, [], ◌∷◌, ◌++◌, length, take, drop, get_or, Bool, true, false, Option, Some, None, refl, sym, ap, subst, ◌∙◌, append_assoc, add-one, arith, lit<}
+use Rattle.std.specs.Prelude.{◌==◌, ◌&&◌, not, option_map}
+use Rattle.std.specs.Char.{encode_utf8}
 use Rattle.std.specs.List.{list_all}
 use Rattle.std.specs.Str.{IsUtf8, encode_utf8_all, all_scalars}
 use Rattle.std.proofs.lemmas.Bool.{eqb-true, and_parts, and_from, ne_eqb, not_from_false, not-true, cases_lt}
@@ -10,12 +10,12 @@ use Rattle.std.proofs.lemmas.Str.{encode_ascii, inside_one, scalars-chars, IsUtf
 use Rattle.std.specs.Str.{is_utf8}
 use Rattle.cfg_types.specs.Text.{characters}
 use Rattle.cfg_types.proofs.TextLemmas.{characters-chars, characters-encodes, encodes-chars}
-use Rattle.cfg_json.specs.Characters.{quote, backslash, lower_u, is_plain, short_escape, hex_digit, code_unit, is_high, is_low, pair_char}
+use Rattle.cfg_json.specs.Characters.{quote, backslash, lower_u, is_plain, short_escape, hex_digit, code_unit}
 use Rattle.cfg_json.specs.Gives.{◌>>=◌}
 use Rattle.cfg_json.specs.Strings.{IsContent, IsString}
 use Rattle.cfg_json.specs.Reading.{end_of, content_of, utf8_of, text_of, string_at}
 use Rattle.cfg_json.proofs.Options.{given, nothing, none_is, given_is, bind_some, chosen, tested}
-use Rattle.cfg_json.proofs.ContentLaws.{short_is, content_again, content_takes}
+use Rattle.cfg_json.proofs.ContentLaws.{content_again, content_takes}
 use Rattle.cfg_json.proofs.Utf8.{utf8_of-valid}
 
 -- ---- the quotation mark that ends a string
@@ -127,7 +127,7 @@ four_before a b c d u more e ends =
     let p = unit_passes a b c d u e in
     two_before lower_u _ (lit< tt) (character_before a _ p.a_passes (character_before b _ p.b_passes (character_before c _ p.c_passes (character_before d more p.d_passes ends))))
 
-short_small : (x c : ℕ) → short_escape x ≡ given c → x < 128
+pub short_small : (x c : ℕ) → short_escape x ≡ given c → x < 128
 unfolding short_escape
 short_small x c e = elim (cases_lt x 128) [
   | inl low ↦ low

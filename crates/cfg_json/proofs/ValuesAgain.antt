@@ -1,5 +1,5 @@
 -- What is spelled as a value is read, whatever follows.
-use Rattle.std.proofs.Common.{◌≡◌, ℕ, zero, suc, ◌+◌, ◌<◌, ◌≤◌, List, [], ◌∷◌, ◌++◌, length, inl, inr, Bool, true, false, Option, Some, None, refl, sym, ap, subst, ◌∙◌, append_assoc, arith, length-append}
+use Rattle.std.proofs.Common.{◌≡◌, ℕ, zero, suc, ◌<◌, ◌≤◌, List, [], ◌∷◌, ◌++◌, length, inl, inr, Bool, true, false, Option, Some, refl, sym, ap, subst, ◌∙◌, append_assoc, arith, length-append}
 use Rattle.std.specs.Prelude.{◌||◌, ◌==◌, codes}
 use Rattle.std.proofs.lemmas.Bool.{or_cases, eqb-true}
 use Rattle.cfg_json.specs.Blanks.{is_blank, AreBlanks}
@@ -7,11 +7,11 @@ use Rattle.cfg_json.specs.Characters.{quote}
 use Rattle.cfg_json.specs.Gives.{◌>>=◌}
 use Rattle.cfg_json.specs.Values.{comma, colon, close_of, IsWord, IsKey, IsValue, IsItem, AreItems}
 use Rattle.cfg_json.specs.Reading.{after_blanks}
-use Rattle.cfg_json.specs.ReadingValues.{Read, or_front, leaf_at, key_at, padded_at, after_item, go_on, turn_at, items_at, item_at, inside_at, value_at}
+use Rattle.cfg_json.specs.ReadingValues.{Read, or_front, leaf_at, key_at, padded_at, after_item, turn_at, items_at, item_at, inside_at, value_at}
 use Rattle.cfg_json.proofs.BlankLaws.{NoBlank, blanks_again}
 use Rattle.cfg_json.proofs.NumberLaws.{IsEnd, EndsNumber}
 use Rattle.cfg_json.proofs.LeafLaws.{Head, value_head, head_blank, number_head, not_number, key_again, string_leaf, word_leaf, number_leaf}
-use Rattle.cfg_json.proofs.StringLaws.{StringFront, string_again}
+use Rattle.cfg_json.proofs.StringLaws.{string_again}
 
 -- no white space, and nothing of a number
 pub record Closes (x : ℕ) : Type 0 where

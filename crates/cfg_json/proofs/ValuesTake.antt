@@ -1,15 +1,14 @@
 -- What is read as a value is spelled so.
-use Rattle.std.proofs.Common.{◌≡◌, ℕ, zero, suc, List, [], ◌∷◌, ◌++◌, length, ◌⊎◌, inl, inr, Bool, true, false, cond, Option, Some, None, refl, sym, ap, subst, ◌∙◌, append_assoc}
+use Rattle.std.proofs.Common.{◌≡◌, ℕ, zero, suc, List, [], ◌∷◌, ◌++◌, length, ◌⊎◌, inl, inr, Bool, true, false, cond, Some, refl, sym, ap, subst, ◌∙◌, append_assoc}
 use Rattle.std.specs.Prelude.{◌||◌, ◌==◌}
 use Rattle.std.proofs.lemmas.Bool.{eqb-true}
 use Rattle.cfg_json.specs.Blanks.{AreBlanks}
-use Rattle.cfg_json.specs.Gives.{◌>>=◌}
-use Rattle.cfg_json.specs.Values.{comma, close_of, IsKey, IsValue, IsItem, AreItems}
+use Rattle.cfg_json.specs.Values.{comma, close_of, IsValue, IsItem, AreItems}
 use Rattle.cfg_json.specs.Reading.{after_blanks}
 use Rattle.cfg_json.specs.ReadingValues.{Read, Turn, or_front, leaf_at, key_at, padded_at, after_item, go_on, turn_at, items_at, item_at, inside_from, inside_at, value_at}
 use Rattle.cfg_json.proofs.Options.{given, nothing, none_is, given_is, bind_some, chosen, tested}
-use Rattle.cfg_json.proofs.BlankLaws.{Blanks, blanks_take}
-use Rattle.cfg_json.proofs.LeafLaws.{Front, KeyTaken, key_takes, leaf_takes}
+use Rattle.cfg_json.proofs.BlankLaws.{blanks_take}
+use Rattle.cfg_json.proofs.LeafLaws.{Front, key_takes, leaf_takes}
 
 abbrev ItemFront : Bool → ℕ → List ℕ → Bool → List ℕ → Type 0
 ItemFront k d all b rest = (text : List ℕ) × (all ≡ text ++ rest) × IsItem k d text b

@@ -1,5 +1,5 @@
 -- Documents of credentials: their fields, over the last text of a name.
-use Rattle.std.specs.Prelude.{◌≡◌, ℕ, ◌⊎◌, List, [], ◌∷◌, Bool, true, false, Option, Some, None, Result, Ok, Err, codes, unwrap_or, if◌then◌else◌, ℤ, FitsSigned, pos}
+use Rattle.std.specs.Prelude.{◌≡◌, ℕ, ◌⊎◌, List, [], true, false, Option, Some, None, Result, Ok, Err, codes, unwrap_or, if◌then◌else◌, ℤ, FitsSigned, pos}
 use Rattle.std.specs.Int.{w32}
 use Rattle.std.specs.Ordering.{int_eq}
 use Rattle.cfg_json.specs.Gives.{or_else}
@@ -12,7 +12,6 @@ use Rattle.cfg_types.specs.declared.document.JsonError.{JsonError}
 use Rattle.cfg_types.specs.declared.document.JsonError.TheVariants as json
 use Rattle.cfg_types.specs.declared.document.Field.{Field}
 use Rattle.cfg_types.specs.declared.document.Field.TheVariants as field
-use Rattle.cfg_types.specs.declared.document.FieldFault.{FieldFault}
 use Rattle.cfg_types.specs.declared.document.FieldFault.TheVariants as fault
 use Rattle.cfg_types.specs.declared.document.JsonCredentials.{JsonCredentials}
 use Rattle.cfg_types.specs.declared.document.JsonCredentials.TheVariants as document

@@ -1,6 +1,6 @@
 -- The outer object of a text, and the list of its members.
-use Rattle.std.specs.Prelude.{◌≡◌, ◌≢◌, ℕ, ◌+◌, List, [], ◌∷◌, ◌++◌, length, true, IsTrue}
-use Rattle.cfg_json.specs.Blanks.{AreBlanks, is_blank}
+use Rattle.std.specs.Prelude.{◌≡◌, ℕ, ◌+◌, List, [], ◌∷◌, ◌++◌, length, true}
+use Rattle.cfg_json.specs.Blanks.{AreBlanks}
 use Rattle.cfg_json.specs.Strings.{IsString}
 use Rattle.cfg_json.specs.Numbers.{IsNumber}
 use Rattle.cfg_json.specs.Values.{comma, IsWord, IsKey, IsValue}

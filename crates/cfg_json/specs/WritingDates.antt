@@ -1,7 +1,7 @@
 -- Writing a date.
-use Rattle.std.specs.Prelude.{ℕ, ◌/◌, ◌%◌, List, [], ◌∷◌, ◌++◌, Bool, ◌==◌, if◌then◌else◌}
+use Rattle.std.specs.Prelude.{ℕ, ◌/◌, ◌%◌, List, [], ◌∷◌, ◌++◌, ◌==◌, if◌then◌else◌}
 use Rattle.cfg_json.specs.declared.dates.local.LocalTime.{LocalTime}
-use Rattle.cfg_json.specs.Dates.{two, three, four, spelled}
+use Rattle.cfg_json.specs.Dates.{two, three, four}
 
 -- nine digits
 unfoldable pub nine : ℕ → List ℕ

@@ -1,8 +1,11 @@
 //! Laws of the grammar, each on a call that shows it.
-ghost use Rattle.std.specs.Prelude.{◌≡◌, ℕ, List, ◌++◌};
+ghost use Rattle.std.specs.Prelude.{◌≡◌, ℕ, List, ◌++◌, true};
+ghost use Rattle.std.specs.Str.{encode_utf8_all, all_scalars};
 ghost use Rattle.cfg_json.specs.declared.member.Member.{Member};
 ghost use Rattle.cfg_types.specs.Moment.{Moment};
 ghost use Rattle.cfg_json.specs.Dates.{IsDateText, IsOffsetDateText, IsWrittenDate};
+ghost use Rattle.cfg_json.specs.Strings.{IsString};
+ghost use Rattle.cfg_json.specs.Writing.{quoted};
 ghost use Rattle.cfg_json.specs.Objects.{IsObject, HasObject};
 
 /// Some bytes have one list of members, and one end of the object.
@@ -25,4 +28,9 @@ pub fn written_dates_stand_for_their_moments()
 /// A text of a date stands for one moment.
 pub fn dates_stand_for_one_moment()
     ensures { (text : List ℕ) (m n : Moment) → IsOffsetDateText text m → IsOffsetDateText text n → m ≡ n }
+{}
+
+/// A string that is written is, in UTF-8, a string of these characters.
+pub fn written_strings_are_read_back()
+    ensures { (text : List ℕ) → all_scalars text ≡ true → IsString (encode_utf8_all (quoted text)) text }
 {}

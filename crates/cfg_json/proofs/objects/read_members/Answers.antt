@@ -1,4 +1,4 @@
-use Rattle.std.proofs.Common.{length, rules}
+use Rattle.std.proofs.Common.{length}
 use Rattle.cfg_json.proofs.ListSteps.{members_fail, members_end, members_further, members_run_out}
 use Rattle.cfg_json.proofs.objects.read_members.Goals as goal
 

@@ -1,7 +1,7 @@
-use Rattle.std.proofs.Common.{refl, option_map}
+use Rattle.std.proofs.Common.{option_map}
 use Rattle.std.proofs.lemmas.Result.{err_from_is_err_and}
-use Rattle.cfg_json.specs.Documents.{IsProcessTable, process_of}
-use Rattle.cfg_json.proofs.DocumentLaws.{text_fails_at, fields_answer}
+use Rattle.cfg_json.specs.Documents.{IsProcessTable}
+use Rattle.cfg_json.proofs.DocumentLaws.{text_fails_at}
 use Rattle.cfg_json.proofs.process.parse_credential_process_json_credentials.Goals as goal
 
 pub returns-in_err-members : goal.returns-in_err-members

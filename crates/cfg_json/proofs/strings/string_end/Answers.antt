@@ -1,4 +1,4 @@
-use Rattle.std.proofs.Common.{get_or, refl, sym, ◌∙◌, rules}
+use Rattle.std.proofs.Common.{get_or, refl, sym, ◌∙◌}
 use Rattle.cfg_json.proofs.StringSteps.{end_found, end_further, no_end}
 use Rattle.cfg_json.proofs.strings.string_end.Goals as goal
 

@@ -1,4 +1,4 @@
-use Rattle.std.proofs.Common.{Some, None, sym, ◌∙◌, rules, rules}
+use Rattle.std.proofs.Common.{sym}
 use Rattle.std.proofs.lemmas.Str.{IsUtf8-string_bytes}
 use Rattle.cfg_json.proofs.StringSteps.{content_further, content_ends, content_fails}
 use Rattle.cfg_json.proofs.strings.unescaped.Goals as goal

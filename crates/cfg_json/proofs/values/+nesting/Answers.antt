@@ -1,4 +1,4 @@
-use Rattle.std.proofs.Common.{length, rules}
+use Rattle.std.proofs.Common.{length}
 use Rattle.cfg_json.specs.ReadingValues.{value_at}
 use Rattle.cfg_json.proofs.ListSteps.{items_fail, items_end, items_further, items_run_out}
 use Rattle.cfg_json.proofs.values.+nesting.Goals as goal

@@ -1,4 +1,4 @@
-use Rattle.std.proofs.Common.{false, ap, ◌∙◌, subst, sym, List, ℕ}
+use Rattle.std.proofs.Common.{false, ap, ◌∙◌}
 use Rattle.cfg_json.specs.ReadingDates.{moment_at}
 use Rattle.cfg_json.proofs.DatesTake.{found_is, only_is}
 use Rattle.cfg_json.proofs.dates.reading.parse_date.Goals as goal

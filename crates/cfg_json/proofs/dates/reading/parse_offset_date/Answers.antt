@@ -1,4 +1,4 @@
-use Rattle.std.proofs.Common.{true, ap, ◌∙◌, subst, sym, List, ℕ}
+use Rattle.std.proofs.Common.{true, ap, ◌∙◌}
 use Rattle.cfg_json.specs.ReadingDates.{moment_at}
 use Rattle.cfg_json.proofs.DatesTake.{found_is, only_is}
 use Rattle.cfg_json.proofs.dates.reading.parse_offset_date.Goals as goal

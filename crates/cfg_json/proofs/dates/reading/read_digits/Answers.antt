@@ -1,4 +1,4 @@
-use Rattle.std.proofs.Common.{◌≤◌, ◌*◌, sym, arith}
+use Rattle.std.proofs.Common.{sym, arith}
 use Rattle.cfg_json.proofs.DateSteps.{one_digit_more, digits_end, too_many, text_ends, digit_bound}
 use Rattle.cfg_json.proofs.dates.reading.read_digits.Goals as goal
 
