@@ -23,3 +23,4 @@ pub mod WriterSteps
 pub mod LookupSteps
 pub mod DocumentLaws
 pub mod WrittenStrings
+pub mod WrittenObjectLaws

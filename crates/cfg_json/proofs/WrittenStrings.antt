@@ -118,7 +118,7 @@ written_scalars : (s : List ℕ) → all_scalars s ≡ true → all_scalars (fla
 written_scalars [] h = refl
 written_scalars (c ∷ s) h = let p = and_parts (scalar c) (all_scalars s) h in scalars_append (escape c) (flat_map escape s) (escape_scalars c p.0) (written_scalars s p.1)
 
-ascii_first : (x : ℕ) (t : List ℕ) → x < 128 → encode_utf8_all (x ∷ t) ≡ x ∷ encode_utf8_all t
+pub ascii_first : (x : ℕ) (t : List ℕ) → x < 128 → encode_utf8_all (x ∷ t) ≡ x ∷ encode_utf8_all t
 ascii_first x t lt = ap (λ (b : List ℕ). b ++ encode_utf8_all t) (encode_ascii x lt)
 
 -- a string that is written is a string of its characters

@@ -15,3 +15,4 @@ pub mod WritingDates
 pub mod Writing
 pub mod Lookups
 pub mod Documents
+pub mod WrittenObjects

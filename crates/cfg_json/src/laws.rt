@@ -1,11 +1,12 @@
 //! Laws of the grammar, each on a call that shows it.
-ghost use Rattle.std.specs.Prelude.{◌≡◌, ℕ, List, ◌++◌, true};
+ghost use Rattle.std.specs.Prelude.{◌≡◌, ℕ, List, ◌++◌, map, length, true};
 ghost use Rattle.std.specs.Str.{encode_utf8_all, all_scalars};
 ghost use Rattle.cfg_json.specs.declared.member.Member.{Member};
 ghost use Rattle.cfg_types.specs.Moment.{Moment};
 ghost use Rattle.cfg_json.specs.Dates.{IsDateText, IsOffsetDateText, IsWrittenDate};
 ghost use Rattle.cfg_json.specs.Strings.{IsString};
-ghost use Rattle.cfg_json.specs.Writing.{quoted};
+ghost use Rattle.cfg_json.specs.Writing.{quoted, braced};
+ghost use Rattle.cfg_json.specs.WrittenObjects.{WrittenObject, members_text, HasScalars, Nests, told, told_member};
 ghost use Rattle.cfg_json.specs.Objects.{IsObject, HasObject};
 
 /// Some bytes have one list of members, and one end of the object.
@@ -33,4 +34,12 @@ pub fn dates_stand_for_one_moment()
 /// A string that is written is, in UTF-8, a string of these characters.
 pub fn written_strings_are_read_back()
     ensures { (text : List ℕ) → all_scalars text ≡ true → IsString (encode_utf8_all (quoted text)) text }
+{}
+
+/// What is written for an object is read back, where it nests no deeper than a reader goes: each
+/// text under its key, each object as one, in their order.
+pub fn written_objects_are_read_back()
+    ensures { (w : WrittenObject) → HasScalars w → Nests w 127
+        → (list : List Member) × (end : ℕ) × HasObject (encode_utf8_all (braced (members_text w))) list end
+        × (end ≡ length (encode_utf8_all (braced (members_text w)))) × (map told_member list ≡ told w) }
 {}
