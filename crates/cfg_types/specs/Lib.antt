@@ -7,4 +7,6 @@ pub mod Environment
 pub mod Keys
 pub mod Shown
 pub mod WhiteSpace
+pub mod Field
+pub mod DocumentText
 pub mod formers

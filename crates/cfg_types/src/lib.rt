@@ -7,6 +7,7 @@ pub mod boxed;
 pub mod bytes;
 pub mod copies;
 pub mod credentials;
+pub mod document;
 pub mod environment;
 pub mod errors;
 pub mod instant;
@@ -27,6 +28,7 @@ pub use boxed::Boxed;
 pub use bytes::Bytes;
 pub use copies::{TryCopy, copy_option};
 pub use credentials::{AccountId, AwsCredentialFeature, Credentials, CredentialsBuilder};
+pub use document::{Field, FieldFault, InvalidJsonCredentials, JsonCredentials, JsonError};
 pub use environment::{Env, EnvText, VarError};
 pub use errors::{
     ConfigCause, CredentialsError, NotLoadedCause, ProfileFileError, ProviderAttempt,

@@ -1,0 +1,30 @@
+-- Passing over white space and digits, byte by byte.
+use Rattle.std.proofs.Common.{◌≡◌, ℕ, List, ◌∷◌, length, true, false, refl, sym, ap, ◌∙◌}
+use Rattle.std.specs.Char.{is_ascii_digit}
+use Rattle.std.proofs.lemmas.List.{nil_from_length}
+use Rattle.cfg_json.specs.Blanks.{is_blank}
+use Rattle.cfg_json.specs.Reading.{after_blanks, after_digits}
+
+pub one_blank_more : (rest : List ℕ) (x : ℕ) (t total : List ℕ) → rest ≡ x ∷ t → is_blank x ≡ true → after_blanks rest ≡ total → after_blanks t ≡ total
+unfolding after_blanks
+one_blank_more rest x t total is b so_far = let one : after_blanks (x ∷ t) ≡ after_blanks t = rw b refl in sym one ∙ sym (ap after_blanks is) ∙ so_far
+
+pub no_blank : (rest : List ℕ) (x : ℕ) (t total : List ℕ) → rest ≡ x ∷ t → is_blank x ≡ false → after_blanks rest ≡ total → rest ≡ total
+unfolding after_blanks
+no_blank rest x t total is b so_far = let one : after_blanks (x ∷ t) ≡ x ∷ t = rw b refl in is ∙ sym one ∙ sym (ap after_blanks is) ∙ so_far
+
+pub blanks_at_end : (rest total : List ℕ) → length rest ≡ 0 → after_blanks rest ≡ total → rest ≡ total
+unfolding after_blanks
+blanks_at_end rest total e so_far = let n = nil_from_length rest e in n ∙ sym (ap after_blanks n) ∙ so_far
+
+pub one_digit_more : (rest : List ℕ) (x : ℕ) (t total : List ℕ) → rest ≡ x ∷ t → is_ascii_digit x ≡ true → after_digits rest ≡ total → after_digits t ≡ total
+unfolding after_digits
+one_digit_more rest x t total is d so_far = let one : after_digits (x ∷ t) ≡ after_digits t = rw d refl in sym one ∙ sym (ap after_digits is) ∙ so_far
+
+pub no_digit : (rest : List ℕ) (x : ℕ) (t total : List ℕ) → rest ≡ x ∷ t → is_ascii_digit x ≡ false → after_digits rest ≡ total → rest ≡ total
+unfolding after_digits
+no_digit rest x t total is d so_far = let one : after_digits (x ∷ t) ≡ x ∷ t = rw d refl in is ∙ sym one ∙ sym (ap after_digits is) ∙ so_far
+
+pub digits_at_end : (rest total : List ℕ) → length rest ≡ 0 → after_digits rest ≡ total → rest ≡ total
+unfolding after_digits
+digits_at_end rest total e so_far = let n = nil_from_length rest e in n ∙ sym (ap after_digits n) ∙ so_far

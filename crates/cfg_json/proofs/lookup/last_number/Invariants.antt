@@ -1,0 +1,6 @@
+use Rattle.std.proofs.Common.{◌≡◌, take, option_map}
+use Rattle.cfg_json.specs.Lookups.{last_number}
+use Rattle.cfg_json.proofs.lookup.last_number.Given as goal
+
+abbrev pub invariant-loop-member : goal.invariant-loop-member
+invariant-loop-member l = option_map (λ t. t.now) l.found ≡ last_number l.name (take l.member-index l.members)

@@ -1,0 +1,7 @@
+use Rattle.std.proofs.Common.{◌≡◌, drop, false}
+use Rattle.cfg_json.specs.Reading.{end_of}
+use Rattle.cfg_json.proofs.StringSteps.{from_place}
+use Rattle.cfg_json.proofs.strings.string_end.Given as goal
+
+abbrev pub invariant-loop-i : goal.invariant-loop-i
+invariant-loop-i l = from_place l.i (end_of l.escaped (drop l.i l.text)) ≡ end_of false l.text

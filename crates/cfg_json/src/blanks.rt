@@ -1,0 +1,33 @@
+// White space, and single bytes.
+ghost use Rattle.std.specs.Prelude.{◌≡◌, option_map};
+ghost use Rattle.cfg_json.specs.Blanks.{is_blank as is_blank_byte};
+ghost use Rattle.cfg_json.specs.Reading.{after_blanks, mark_at};
+
+pub fn is_blank(byte: u8) -> bool
+    ensures { result ≡ is_blank_byte byte }
+{
+    byte == b' ' || byte == b'\t' || byte == b'\n' || byte == b'\r'
+}
+
+/// What follows the white space at the front.
+pub fn skip_blanks(text: &[u8]) -> &[u8]
+    ensures { result.now ≡ after_blanks text.now }
+{
+    let mut rest = text;
+    while let Some((x, after)) = rest.split_first() {
+        if !is_blank(*x) {
+            break;
+        }
+        rest = after;
+    }
+    rest
+}
+
+/// What follows the byte, which has to stand at the front.
+#[tactic(auto, unfolding(crate::specs::Reading::mark_at))]
+pub fn skip_mark(byte: u8, text: &[u8]) -> Option<&[u8]>
+    ensures { option_map (λ r. r.now) result ≡ mark_at byte text.now }
+{
+    let (x, rest) = text.split_first()?;
+    if *x == byte { Some(rest) } else { None }
+}

@@ -1,0 +1,45 @@
+//! Laws of the grammar, each on a call that shows it.
+ghost use Rattle.std.specs.Prelude.{◌≡◌, ℕ, List, ◌++◌, map, length, true};
+ghost use Rattle.std.specs.Str.{encode_utf8_all, all_scalars};
+ghost use Rattle.cfg_json.specs.declared.member.Member.{Member};
+ghost use Rattle.cfg_types.specs.Moment.{Moment};
+ghost use Rattle.cfg_json.specs.Dates.{IsDateText, IsOffsetDateText, IsWrittenDate};
+ghost use Rattle.cfg_json.specs.Strings.{IsString};
+ghost use Rattle.cfg_json.specs.Writing.{quoted, braced};
+ghost use Rattle.cfg_json.specs.WrittenObjects.{WrittenObject, members_text, HasScalars, Nests, told, told_member};
+ghost use Rattle.cfg_json.specs.Objects.{IsObject, HasObject};
+
+/// Some bytes have one list of members, and one end of the object.
+pub fn one_list()
+    ensures { (bytes : List ℕ) (list : List Member) (end : ℕ) (other : List Member) (place : ℕ)
+        → HasObject bytes list end → HasObject bytes other place → (list ≡ other) × (end ≡ place) }
+{}
+
+/// No text of an object begins another.
+pub fn no_object_begins_another()
+    ensures { (at : ℕ) (t u x y : List ℕ) (list other : List Member)
+        → IsObject at t list → IsObject at u other → t ++ x ≡ u ++ y → (t ≡ u) × (list ≡ other) × (x ≡ y) }
+{}
+
+/// What is written for a moment stands for it, and so `parse_date` gives the moment back.
+pub fn written_dates_stand_for_their_moments()
+    ensures { (text : List ℕ) (m : Moment) → IsWrittenDate text m → IsDateText text m }
+{}
+
+/// A text of a date stands for one moment.
+pub fn dates_stand_for_one_moment()
+    ensures { (text : List ℕ) (m n : Moment) → IsOffsetDateText text m → IsOffsetDateText text n → m ≡ n }
+{}
+
+/// A string that is written is, in UTF-8, a string of these characters.
+pub fn written_strings_are_read_back()
+    ensures { (text : List ℕ) → all_scalars text ≡ true → IsString (encode_utf8_all (quoted text)) text }
+{}
+
+/// What is written for an object is read back, where it nests no deeper than a reader goes: each
+/// text under its key, each object as one, in their order.
+pub fn written_objects_are_read_back()
+    ensures { (w : WrittenObject) → HasScalars w → Nests w 127
+        → (list : List Member) × (end : ℕ) × HasObject (encode_utf8_all (braced (members_text w))) list end
+        × (end ≡ length (encode_utf8_all (braced (members_text w)))) × (map told_member list ≡ told w) }
+{}

@@ -1,0 +1,31 @@
+//! JSON documents as the resolver reads and writes them: objects and their members, documents of
+//! credentials, and dates. It stands on the plain data of `cfg_types`. The layers above may call
+//! every function here: each equals the grammar that its contract names.
+#![tactic(auto)]
+
+mod blanks;
+mod credentials;
+mod dates;
+mod escapes;
+pub mod laws;
+mod lookup;
+mod member;
+mod numbers;
+mod objects;
+mod process;
+mod reading;
+mod strings;
+mod values;
+mod writer;
+
+pub use cfg_types::{Field, FieldFault, InvalidJsonCredentials, JsonCredentials, JsonError};
+pub use credentials::parse_json_credentials;
+pub use dates::reading::{parse_date, parse_offset_date};
+pub use dates::writing::write_date;
+pub use member::{Member, MemberValue, Members};
+pub use process::parse_credential_process_json_credentials;
+pub use reading::{members, only_members};
+pub use writer::ObjectWriter;
+
+#[cfg(test)]
+mod tests;

@@ -1,0 +1,77 @@
+// The last member of a name.
+ghost use Rattle.std.specs.Prelude.{◌≡◌, option_map};
+ghost use Rattle.std.specs.Str.{str_eq_ignore_ascii_case, encode_utf8_all};
+ghost use Rattle.cfg_json.specs.Gives.{or_else as first_of};
+ghost use Rattle.cfg_json.specs.Lookups.{is_named, text_under, number_under, last_text as last_text_of, last_number as last_number_of};
+
+use crate::member::{Member, MemberValue};
+use cfg_types::Text;
+
+fn is_spelled(key: &str, name: &str) -> bool
+    ensures { result ≡ str_eq_ignore_ascii_case key.now name.now }
+{
+    key.eq_ignore_ascii_case(name)
+}
+
+fn has_name(member: &Member, name: &str, other: &str) -> bool
+    ensures { result ≡ is_named name.now other.now member.now.key }
+{
+    let key = member.key.as_str();
+    is_spelled(key, name) || is_spelled(key, other)
+}
+
+fn text_of<'a>(member: &'a Member, name: &str, other: &str) -> Option<&'a Text>
+    ensures { option_map (λ t. t.now) result ≡ text_under name.now other.now member.now }
+{
+    if !has_name(member, name, other) {
+        return None;
+    }
+    match &member.value {
+        MemberValue::Text(text) => Some(text),
+        _ => None,
+    }
+}
+
+fn number_of<'a>(member: &'a Member, name: &str) -> Option<&'a Text>
+    ensures { option_map (λ t. t.now) result ≡ number_under name.now member.now }
+{
+    if !has_name(member, name, name) {
+        return None;
+    }
+    match &member.value {
+        MemberValue::Number(text) => Some(text),
+        _ => None,
+    }
+}
+
+fn or_else<'a>(text: Option<&'a Text>, other: Option<&'a Text>) -> Option<&'a Text>
+    ensures { option_map (λ t. t.now) result ≡ first_of (option_map (λ t. t.now) text.entry) (option_map (λ t. t.now) other.entry) }
+{
+    match text {
+        Some(text) => Some(text),
+        None => other,
+    }
+}
+
+/// The last text under a name, or under another one, without regard to the case of ASCII letters.
+/// Members of another kind change nothing.
+pub fn last_text<'a>(members: &'a [Member], name: &str, other: &str) -> Option<&'a Text>
+    ensures { option_map (λ t. t.now) result ≡ last_text_of name.now other.now members.now }
+{
+    let mut found = None;
+    for member in members {
+        found = or_else(text_of(member, name, other), found);
+    }
+    found
+}
+
+/// The last number under a name, as it is written.
+pub fn last_number<'a>(members: &'a [Member], name: &str) -> Option<&'a Text>
+    ensures { option_map (λ t. t.now) result ≡ last_number_of name.now members.now }
+{
+    let mut found = None;
+    for member in members {
+        found = or_else(number_of(member, name), found);
+    }
+    found
+}

@@ -1,0 +1,39 @@
+// Members of an object.
+use cfg_types::{Seq, Text};
+
+/// What a member of an object holds.
+#[derive(Debug, PartialEq, Eq, Drop)]
+pub enum MemberValue {
+    /// A string, unescaped.
+    Text(Text),
+    /// A number, as it is written.
+    Number(Text),
+    /// An object, by the place of its opening brace and the place after its closing one.
+    Object { from: usize, to: usize },
+    /// An array, and whether an object stands in it at any depth.
+    Array { has_object: bool },
+    /// True, false or null.
+    Other,
+}
+
+/// A member of an object, its key unescaped.
+#[derive(Debug, PartialEq, Eq)]
+pub struct Member {
+    pub key: Text,
+    pub value: MemberValue,
+}
+
+// A call, and not the cases of its value, where a caller lets a member go.
+impl Drop for Member {
+    fn drop(self) {
+        let Member { key: _, value: _ } = self;
+    }
+}
+
+/// The members of an object in their order, repeats kept, and how many bytes the object takes with
+/// what stands before it.
+#[derive(Debug, PartialEq, Eq, Drop)]
+pub struct Members {
+    pub list: Seq<Member>,
+    pub end: usize,
+}

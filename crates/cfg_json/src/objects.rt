@@ -1,0 +1,146 @@
+// The outer object.
+ghost use Rattle.std.specs.Prelude.{◌≡◌, length};
+ghost use Rattle.cfg_json.specs.Gives.{Gives};
+ghost use Rattle.cfg_json.specs.ReadingObjects.{text_from, number_value_at, text_value_at, nested_value_at, word_value_at, member_value_at, member_at, member_turn_at, members_at, object_at};
+
+use crate::blanks::skip_blanks;
+use crate::member::{Member, MemberValue};
+use crate::numbers::{skip_number, skip_word};
+use crate::strings::{read_string, utf8_text};
+use crate::values::{read_key, skip_value};
+use cfg_types::{JsonError, Text};
+use std::alloc::Global;
+
+/// How deep values nest inside the outer object.
+const INNER_DEPTH: u8 = 127;
+
+#[tactic(auto, unfolding(crate::specs::ReadingObjects::text_from))]
+fn text_of_bytes(alloc: Global, bytes: &[u8]) -> Result<Text, JsonError>
+    ensures { Gives (λ t. t) result (text_from bytes.now) }
+{
+    let Some(text) = utf8_text(bytes) else {
+        return Err(JsonError::Syntax);
+    };
+    Ok(Text::of(alloc, text)?)
+}
+
+#[tactic(auto, unfolding(crate::specs::ReadingObjects::number_value_at))]
+fn read_number(alloc: Global, text: &[u8]) -> Result<(MemberValue, &[u8]), JsonError>
+    ensures { Gives (λ p. (p.0, p.1.now)) result (number_value_at text.now) }
+{
+    let Some(rest) = skip_number(text) else {
+        return Err(JsonError::Syntax);
+    };
+    let length = text.len().saturating_sub(rest.len());
+    let number = text_of_bytes(alloc, text.split_at(length).0)?;
+    Ok((MemberValue::Number(number), rest))
+}
+
+#[tactic(auto, unfolding(crate::specs::ReadingObjects::text_value_at))]
+fn read_text(alloc: Global, text: &[u8]) -> Result<(MemberValue, &[u8]), JsonError>
+    ensures { Gives (λ p. (p.0, p.1.now)) result (text_value_at text.now) }
+{
+    let (text, rest) = read_string(alloc, text)?;
+    Ok((MemberValue::Text(text), rest))
+}
+
+#[tactic(auto, unfolding(crate::specs::ReadingObjects::nested_value_at))]
+fn read_nested(
+    alloc: Global,
+    text: &[u8],
+    total: usize,
+    keyed: bool,
+) -> Result<(MemberValue, &[u8]), JsonError>
+    ensures { Gives (λ p. (p.0, p.1.now)) result (nested_value_at total keyed text.now) }
+{
+    let (has_object, rest) = skip_value(alloc, text, INNER_DEPTH)?;
+    if keyed {
+        let from = total.saturating_sub(text.len());
+        let to = total.saturating_sub(rest.len());
+        Ok((MemberValue::Object { from, to }, rest))
+    } else {
+        Ok((MemberValue::Array { has_object }, rest))
+    }
+}
+
+#[tactic(auto, unfolding(crate::specs::ReadingObjects::member_value_at, crate::specs::ReadingObjects::word_value_at))]
+fn read_value(alloc: Global, text: &[u8], total: usize) -> Result<(MemberValue, &[u8]), JsonError>
+    ensures { Gives (λ p. (p.0, p.1.now)) result (member_value_at total text.now) }
+{
+    let Some((x, inside)) = text.split_first() else {
+        return Err(JsonError::Syntax);
+    };
+    if *x == b'"' {
+        return read_text(alloc, inside);
+    }
+    if *x == b'{' || *x == b'[' {
+        return read_nested(alloc, text, total, *x == b'{');
+    }
+    if let Some(rest) = skip_word(text) {
+        return Ok((MemberValue::Other, rest));
+    }
+    read_number(alloc, text)
+}
+
+#[tactic(auto, unfolding(crate::specs::ReadingObjects::member_at))]
+fn read_member(alloc: Global, text: &[u8], total: usize) -> Result<(Member, &[u8]), JsonError>
+    ensures { Gives (λ p. (p.0, p.1.now)) result (member_at total text.now) }
+{
+    let (key, rest) = read_key(alloc, text)?;
+    let (value, rest) = read_value(alloc, skip_blanks(rest), total)?;
+    Ok((Member { key, value }, skip_blanks(rest)))
+}
+
+#[tactic(auto, unfolding(crate::specs::ReadingObjects::member_turn_at))]
+fn read_turn(alloc: Global, text: &[u8], total: usize) -> Result<(Member, bool, &[u8]), JsonError>
+    ensures { Gives (λ p. (p.0, p.1, p.2.now)) result (member_turn_at total text.now) }
+{
+    let (member, after) = read_member(alloc, text, total)?;
+    let Some((x, next)) = after.split_first() else {
+        return Err(JsonError::Syntax);
+    };
+    if *x == b'}' {
+        Ok((member, true, next))
+    } else if *x == b',' {
+        Ok((member, false, next))
+    } else {
+        Err(JsonError::Syntax)
+    }
+}
+
+fn read_members(alloc: Global, text: &[u8], total: usize) -> Result<(Vec<Member>, &[u8]), JsonError>
+    ensures { Gives (λ p. (p.0.items, p.1.now)) result (members_at total (length text.now) text.now) }
+{
+    let mut members = Vec::new(alloc);
+    let mut rest = text;
+    for _ in 0..text.len() {
+        let (member, ends, next) = match read_turn(alloc, rest, total) {
+            Ok(turn) => turn,
+            Err(e) => return Err(e),
+        };
+        members.push(member)?;
+        if ends {
+            return Ok((members, next));
+        }
+        rest = next;
+    }
+    Err(JsonError::Syntax)
+}
+
+/// The members of the object whose opening brace was read, and what follows it.
+#[tactic(auto, unfolding(crate::specs::ReadingObjects::object_at))]
+pub fn read_object(
+    alloc: Global,
+    text: &[u8],
+    total: usize,
+) -> Result<(Vec<Member>, &[u8]), JsonError>
+    ensures { Gives (λ p. (p.0.items, p.1.now)) result (object_at total text.now) }
+{
+    let Some((x, rest)) = skip_blanks(text).split_first() else {
+        return Err(JsonError::Syntax);
+    };
+    if *x == b'}' {
+        return Ok((Vec::new(alloc), rest));
+    }
+    read_members(alloc, text, total)
+}

@@ -1,0 +1,130 @@
+// Strings.
+ghost use Rattle.std.specs.Prelude.{◌≡◌, ◌<◌, ◌++◌, ◌==◌, ◌&&◌, not, length, IfSome, IfOk, OnOk, true, false, Some, None, option_map, string_bytes};
+ghost use Rattle.std.specs.List.{list_all};
+ghost use Rattle.std.specs.Char.{encode_utf8};
+ghost use lib.Utf8.{scalar};
+ghost use Rattle.cfg_types.specs.Text.{characters};
+ghost use Rattle.cfg_json.specs.Gives.{Gives};
+ghost use Rattle.cfg_json.specs.Characters.{quote, backslash, is_plain as is_plain_character};
+ghost use Rattle.cfg_json.specs.Reading.{end_of, content_of, utf8_of, text_of, string_at};
+
+use crate::escapes::piece;
+use cfg_types::{JsonError, OutOfMemory, Text};
+use std::alloc::{AllocError, Global};
+
+fn ends(escaped: bool, byte: u8) -> bool
+    ensures { result ≡ (not escaped && byte == quote) }
+{
+    !escaped && byte == b'"'
+}
+
+fn escapes(escaped: bool, byte: u8) -> bool
+    ensures { result ≡ (not escaped && byte == backslash) }
+{
+    !escaped && byte == b'\\'
+}
+
+/// The place of the quotation mark that ends the string.
+fn string_end(text: &[u8]) -> Option<usize>
+    ensures value { result ≡ end_of false text.now }
+    ensures within { IfSome result (λ n. n < length text.now) }
+{
+    let mut escaped = false;
+    for (i, x) in text.iter().enumerate() {
+        if ends(escaped, *x) {
+            return Some(i);
+        }
+        escaped = escapes(escaped, *x);
+    }
+    None
+}
+
+fn is_plain(byte: u8) -> bool
+    ensures { result ≡ is_plain_character byte }
+{
+    byte >= b' ' && byte != b'"' && byte != b'\\'
+}
+
+fn all_plain(text: &str) -> bool
+    ensures { result ≡ list_all is_plain_character text.now }
+{
+    text.as_bytes().iter().all(|byte| is_plain(*byte))
+}
+
+pub fn push_character(out: &mut String, c: char) -> Result<(), OutOfMemory>
+    ensures spelled { OnOk result (string_bytes out.new ≡ string_bytes out.old ++ encode_utf8 c) }
+    ensures scalar { scalar c ≡ true }
+{
+    out.push(c)?;
+    Ok(())
+}
+
+fn unescaped(alloc: Global, text: &[char]) -> Result<String, JsonError>
+    ensures { Gives (λ s. characters (string_bytes s)) result (content_of 0 text.now) }
+{
+    let mut out = String::new(alloc);
+    let mut rest = text;
+    while let Some((_, after)) = rest.split_first() {
+        let Some((c, n)) = piece(rest) else {
+            return Err(JsonError::Syntax);
+        };
+        push_character(&mut out, c)?;
+        rest = after.split_at(n).1;
+    }
+    Ok(out)
+}
+
+pub fn characters_of(alloc: Global, text: &str) -> Result<Vec<char>, AllocError>
+    ensures { IfOk result (λ v. v.items ≡ characters text.now) }
+{
+    text.chars().collect(alloc)
+}
+
+fn unescaped_text(alloc: Global, text: &[char]) -> Result<Text, JsonError>
+    ensures { Gives (λ t. t) result (content_of 0 text.now) }
+{
+    let unescaped = unescaped(alloc, text)?;
+    Ok(Text::from_string(unescaped))
+}
+
+fn content(alloc: Global, text: &str) -> Result<Text, JsonError>
+    ensures { Gives (λ t. t) result (content_of 0 (characters text.now)) }
+{
+    if all_plain(text) {
+        return Ok(Text::of(alloc, text)?);
+    }
+    let characters = characters_of(alloc, text)?;
+    unescaped_text(alloc, characters.as_slice())
+}
+
+/// The bytes as a text, if they are UTF-8.
+pub fn utf8_text(bytes: &[u8]) -> Option<&str>
+    ensures { option_map (λ t. t.now) result ≡ utf8_of bytes.now }
+{
+    match str::from_utf8(bytes) {
+        Ok(text) => Some(text),
+        Err(_) => None,
+    }
+}
+
+#[tactic(auto, unfolding(crate::specs::Reading::text_of))]
+fn text_between(alloc: Global, bytes: &[u8]) -> Result<Text, JsonError>
+    ensures { Gives (λ t. t) result (text_of bytes.now) }
+{
+    let Some(text) = utf8_text(bytes) else {
+        return Err(JsonError::Syntax);
+    };
+    content(alloc, text)
+}
+
+/// The characters of the string whose first quotation mark was read, and what follows it.
+#[tactic(auto, unfolding(crate::specs::Reading::string_at))]
+pub fn read_string(alloc: Global, text: &[u8]) -> Result<(Text, &[u8]), JsonError>
+    ensures { Gives (λ x. (x.0, x.1.now)) result (string_at text.now) }
+{
+    let Some(end) = string_end(text) else {
+        return Err(JsonError::Syntax);
+    };
+    let text_before = text_between(alloc, text.split_at(end).0)?;
+    Ok((text_before, text.split_at(end + 1).1))
+}

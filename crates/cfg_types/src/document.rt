@@ -1,0 +1,304 @@
+// Documents of credentials, and what can be wrong with them.
+ghost use Rattle.std.specs.Prelude.{◌≡◌};
+ghost use Rattle.cfg_types.specs.Field.{field_name};
+
+use crate::instant::Instant;
+use crate::memory::OutOfMemory;
+use crate::text::Text;
+use std::alloc::{AllocError, AllocFailed};
+use std::error::Error;
+use std::fmt;
+
+/// Why some bytes are not read as a JSON object.
+#[derive(Clone, Copy, Debug, PartialEq, Eq)]
+pub enum JsonError {
+    /// The first byte that is no white space does not open an object, or there is none.
+    NotObject,
+    /// An object is opened, and no front of the bytes is one.
+    Syntax,
+    /// More than white space follows the object.
+    More,
+    OutOfMemory,
+}
+
+/// The name of a field, as it stands in a document. Names that differ in case are two.
+#[derive(Clone, Copy, Debug, PartialEq, Eq)]
+pub enum Field {
+    Code,
+    AccessKeyId,
+    SecretAccessKey,
+    Token,
+    SessionToken,
+    AccountId,
+    Expiration,
+    ExpiresAt,
+    Message,
+    Version,
+    LowerVersion,
+    AccessToken,
+    LowerAccessKeyId,
+    LowerSecretAccessKey,
+    LowerSessionToken,
+    LowerAccountId,
+    LowerExpiresAt,
+    RefreshToken,
+    ClientId,
+    ClientSecret,
+    RegistrationExpiresAt,
+    Region,
+    StartUrl,
+    TokenType,
+    IdToken,
+    DpopKey,
+}
+
+impl Field {
+    /// The name itself.
+    pub fn as_str(&self) -> &'static str
+        ensures { result.now ≡ field_name self.now }
+    {
+        match self {
+            Field::Code => "Code",
+            Field::AccessKeyId => "AccessKeyId",
+            Field::SecretAccessKey => "SecretAccessKey",
+            Field::Token => "Token",
+            Field::SessionToken => "SessionToken",
+            Field::AccountId => "AccountId",
+            Field::Expiration => "Expiration",
+            Field::ExpiresAt => "ExpiresAt",
+            Field::Message => "Message",
+            Field::Version => "Version",
+            Field::LowerVersion => "version",
+            Field::AccessToken => "accessToken",
+            Field::LowerAccessKeyId => "accessKeyId",
+            Field::LowerSecretAccessKey => "secretAccessKey",
+            Field::LowerSessionToken => "sessionToken",
+            Field::LowerAccountId => "accountId",
+            Field::LowerExpiresAt => "expiresAt",
+            Field::RefreshToken => "refreshToken",
+            Field::ClientId => "clientId",
+            Field::ClientSecret => "clientSecret",
+            Field::RegistrationExpiresAt => "registrationExpiresAt",
+            Field::Region => "region",
+            Field::StartUrl => "startUrl",
+            Field::TokenType => "tokenType",
+            Field::IdToken => "idToken",
+            Field::DpopKey => "dpopKey",
+        }
+    }
+}
+
+/// What is wrong with a field that is there.
+#[derive(Clone, Copy, Debug, PartialEq, Eq)]
+pub enum FieldFault {
+    /// It is no whole number of 32 bits.
+    Version,
+    /// It is a version that no reader knows.
+    UnknownVersion(i32),
+    /// It is no date.
+    Date,
+}
+
+/// What a document of credentials says.
+#[derive(PartialEq, Eq, Drop)]
+pub enum JsonCredentials {
+    /// Credentials, and when they end.
+    RefreshableCredentials {
+        access_key_id: Text,
+        secret_access_key: Text,
+        session_token: Text,
+        account_id: Option<Text>,
+        expiration: Instant,
+    },
+    /// Why there are none.
+    Error {
+        code: Text,
+        message: Text,
+    },
+}
+
+/// Why a text is no document of credentials.
+#[derive(Debug, PartialEq, Eq, Drop)]
+pub enum InvalidJsonCredentials {
+    /// The text is no JSON object.
+    JsonError(JsonError),
+    /// This field is not there.
+    MissingField(Field),
+    /// This field does not fit.
+    InvalidField { field: Field, fault: FieldFault },
+    /// What else is wrong, in words.
+    Other(Text),
+    OutOfMemory,
+}
+
+impl fmt::Display for JsonError {
+    ghost use Rattle.std.specs.Prelude.{Some};
+    ghost use Rattle.cfg_types.specs.Field.{json_error_text};
+
+    ghost output = { λ e. Some (json_error_text e) };
+
+    fn fmt<W: fmt::Write>(&self, f: &mut fmt::Formatter<W>) -> fmt::Result {
+        match self {
+            JsonError::NotObject => write!(f, "expected a JSON document starting with `{{`"),
+            JsonError::Syntax => write!(f, "malformed JSON"),
+            JsonError::More => write!(f, "found more JSON tokens after completing parsing"),
+            JsonError::OutOfMemory => write!(f, "out of memory"),
+        }
+    }
+}
+
+impl Error for JsonError {}
+
+impl fmt::Display for Field {
+    ghost use Rattle.std.specs.Prelude.{Some};
+    ghost use Rattle.cfg_types.specs.Field.{field_name};
+
+    ghost output = { λ e. Some (field_name e) };
+
+    fn fmt<W: fmt::Write>(&self, f: &mut fmt::Formatter<W>) -> fmt::Result {
+        let name = self.as_str();
+        write!(f, "{name}")
+    }
+}
+
+impl fmt::Display for FieldFault {
+    ghost use Rattle.std.specs.Prelude.{Some};
+    ghost use Rattle.cfg_types.specs.Field.{field_fault_text};
+
+    ghost output = { λ e. Some (field_fault_text e) };
+
+    fn fmt<W: fmt::Write>(&self, f: &mut fmt::Formatter<W>) -> fmt::Result {
+        match self {
+            FieldFault::Version => write!(f, "not a whole number of 32 bits"),
+            FieldFault::UnknownVersion(n) => {
+                let n = *n;
+                write!(f, "unknown version number: {n}")
+            }
+            FieldFault::Date => write!(f, "not a date"),
+        }
+    }
+}
+
+impl fmt::Display for InvalidJsonCredentials {
+    ghost use Rattle.std.specs.Prelude.{Some};
+    ghost use Rattle.cfg_types.specs.DocumentText.{invalid_credentials_text};
+
+    ghost output = { λ e. Some (invalid_credentials_text e) };
+
+    fn fmt<W: fmt::Write>(&self, f: &mut fmt::Formatter<W>) -> fmt::Result {
+        match self {
+            InvalidJsonCredentials::JsonError(e) => write!(f, "invalid JSON in response: {e}"),
+            InvalidJsonCredentials::MissingField(field) => {
+                write!(f, "Expected field `{field}` in response but it was missing")
+            }
+            InvalidJsonCredentials::InvalidField { field, fault } => {
+                write!(f, "Invalid field in response: `{field}`. {fault}")
+            }
+            InvalidJsonCredentials::Other(text) => {
+                let text = text.as_str();
+                write!(f, "{text}")
+            }
+            InvalidJsonCredentials::OutOfMemory => write!(f, "out of memory"),
+        }
+    }
+}
+
+impl Error for InvalidJsonCredentials {}
+
+impl From<OutOfMemory> for JsonError {
+    ghost use Rattle.std.specs.Prelude.{◌≡◌};
+    ghost use Rattle.cfg_types.specs.declared.document.JsonError.TheVariants.{OutOfMemory};
+
+    ghost from_gives = { λ _ e. e ≡ OutOfMemory };
+
+    fn from(_: OutOfMemory) -> JsonError {
+        JsonError::OutOfMemory
+    }
+}
+
+impl From<AllocError> for JsonError {
+    ghost use Rattle.std.specs.Prelude.{◌≡◌};
+    ghost use Rattle.cfg_types.specs.declared.document.JsonError.TheVariants.{OutOfMemory};
+
+    ghost from_gives = { λ _ e. e ≡ OutOfMemory };
+
+    fn from(_: AllocError) -> JsonError {
+        JsonError::OutOfMemory
+    }
+}
+
+impl<T: Drop> From<AllocFailed<T>> for JsonError {
+    ghost use Rattle.std.specs.Prelude.{◌≡◌};
+    ghost use Rattle.cfg_types.specs.declared.document.JsonError.TheVariants.{OutOfMemory};
+
+    ghost from_gives = { λ _ e. e ≡ OutOfMemory };
+
+    fn from(_: AllocFailed<T>) -> JsonError {
+        JsonError::OutOfMemory
+    }
+}
+
+impl From<OutOfMemory> for InvalidJsonCredentials {
+    ghost use Rattle.std.specs.Prelude.{◌≡◌};
+    ghost use Rattle.cfg_types.specs.declared.document.InvalidJsonCredentials.TheVariants.{OutOfMemory};
+
+    ghost from_gives = { λ _ e. e ≡ OutOfMemory };
+
+    fn from(_: OutOfMemory) -> InvalidJsonCredentials {
+        InvalidJsonCredentials::OutOfMemory
+    }
+}
+
+// The text depends on neither the secret nor the session token.
+impl fmt::Debug for JsonCredentials {
+    ghost use Rattle.std.specs.Prelude.{Some};
+    ghost use Rattle.cfg_types.specs.DocumentText.{shown_document};
+
+    ghost debug_output = { λ c. Some (shown_document c) };
+
+    fn fmt<W: fmt::Write>(&self, f: &mut fmt::Formatter<W>) -> fmt::Result {
+        match self {
+            JsonCredentials::RefreshableCredentials {
+                access_key_id,
+                secret_access_key: _,
+                session_token: _,
+                account_id,
+                expiration,
+            } => {
+                let id = access_key_id.as_str();
+                let account = ShownAccount(account_id);
+                let seconds = expiration.seconds();
+                let nanos = expiration.nanos();
+                write!(
+                    f,
+                    "RefreshableCredentials {{ access_key_id: \"{id}\", secret_access_key: \"** redacted **\", session_token: \"** redacted **\"{account}, expiration: {seconds} s {nanos} ns }}"
+                )
+            }
+            JsonCredentials::Error { code, message } => {
+                let code = code.as_str();
+                let message = message.as_str();
+                write!(f, "Error {{ code: \"{code}\", message: \"{message}\" }}")
+            }
+        }
+    }
+}
+
+#[derive(Drop)]
+struct ShownAccount<'a>(&'a Option<Text>);
+
+impl fmt::Display for ShownAccount<'_> {
+    ghost use Rattle.std.specs.Prelude.{Some};
+    ghost use Rattle.cfg_types.specs.Shown.{shown_account};
+
+    ghost output = { λ a. Some (shown_account a.0.now) };
+
+    fn fmt<W: fmt::Write>(&self, f: &mut fmt::Formatter<W>) -> fmt::Result {
+        match self.0 {
+            None => Ok(()),
+            Some(account) => {
+                let id = account.as_str();
+                write!(f, ", account_id: \"{id}\"")
+            }
+        }
+    }
+}
