@@ -1,7 +1,6 @@
 -- The map is empty where the tree is.
-use Rattle.std.proofs.Common.{◌≡◌, ap, sym, ◌∙◌}
+use Rattle.std.proofs.Common.{ap, sym, ◌∙◌}
 use Rattle.std.specs.FinMap.{len}
-use Rattle.cfg_types.specs.TextMap.{map_of}
 use Rattle.cfg_types.proofs.MapLookups.{len-map_of, no_entries}
 use Rattle.cfg_types.proofs.text_map.TextMap.is_empty.Goals as goal
 
