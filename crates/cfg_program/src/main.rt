@@ -9,6 +9,8 @@ mod output;
 mod resolve;
 mod run;
 mod status;
+#[cfg(test)]
+mod tests;
 mod words;
 
 use crate::run::run;
