@@ -28,6 +28,7 @@ use Rattle.cfg_chain.specs.EnvironmentKeys.{required_by, secret_or, optional, us
 use Rattle.cfg_chain.specs.Members.{reading, is_not_loaded, is_not_loaded_level, turn, attempt}
 use Rattle.cfg_chain.specs.Chains.{Attempts, none_loaded}
 use Rattle.cfg_chain.specs.Resolves.{Resolves, AreParts, default_members}
+use Rattle.cfg_chain.specs.Valid.{IsValid}
 use Rattle.cfg_chain.specs.Causes.{HasCause, is_passed_over, environment_is_passed_over, unreadable_variable, plan_is_passed_over, fault_of_plan, fault, first_failure, named_variable, is_not_loaded_answer, told_fault, fault_in_level, tells_role, is_role_level, is_memory, is_memory_level}
 use Rattle.cfg_chain.proofs.DerivationCauses.{Derived, derived}
 
@@ -247,3 +248,12 @@ has_cause conf found journal out m (none, inl (part, rest, e, parts, passed, inl
 has_cause conf found journal out m (none, inl (part, rest, e, parts, passed, inr decided)) =
     after_environment conf part rest journal e out (quiet conf part (Err e) passed.reads) passed.not_loaded parts (profile_decides conf rest out m decided.reads)
 has_cause conf found journal out m (none, inr decided) = environment_decides conf journal out (quiet conf journal out decided.reads) decided.answers
+
+-- where nothing stands in the way, there are credentials
+pub valid_loaded : (conf : Configuration) (part : List Pair) (out : Result Keys CredentialsError) → HasCause conf part out → IsValid conf part → is_ok out ≡ true
+valid_loaded conf part out c v =
+    c.loaded
+    ∙ ap (λ b. not b && (is_none (unreadable_variable conf.environment) && (is_none (fault conf) && is_none (first_failure part)))) v.loaded
+    ∙ ap (λ o. is_none o && (is_none (fault conf) && is_none (first_failure part))) v.readable
+    ∙ ap (λ o. is_none o && is_none (first_failure part)) v.right
+    ∙ ap is_none v.granted

@@ -13,5 +13,6 @@ pub mod Members
 pub mod Chains
 pub mod Resolves
 pub mod Causes
+pub mod Valid
 pub mod Provides
 pub mod Regions

@@ -1,5 +1,5 @@
 -- What a call of the default chain leaves of the world's journal.
-use Rattle.std.specs.Prelude.{List, Result}
+use Rattle.std.specs.Prelude.{◌≡◌, List, true, is_ok, Result}
 use Rattle.cfg_types.specs.Keys.{Keys}
 use Rattle.cfg_types.specs.declared.errors.CredentialsError.{CredentialsError}
 use Rattle.cfg_world.specs.declared.devices.Devices.{Ghosts}
@@ -10,10 +10,13 @@ use Rattle.cfg_chain.specs.declared.kept.Kept.{Kept}
 use Rattle.cfg_chain.specs.Configuration.{Configuration}
 use Rattle.cfg_chain.specs.Resolves.{Resolves, found_by}
 use Rattle.cfg_chain.specs.Causes.{HasCause}
+use Rattle.cfg_chain.specs.Valid.{IsValid}
 
--- It grew by exactly the part of such a call, whose answer has its cause.
+-- It grew by exactly the part of such a call, whose answer has its cause. Where nothing stands in the
+-- way, the answer is credentials.
 pub record Provides {D : Type 0} (d : Ghosts D) (conf : Configuration) (kept : Kept) (old new : Held D) (out : Result Keys CredentialsError) : Type 0 where
   pub part : List Pair
   pub grows : Grows d part old new
   pub resolves : Resolves conf (found_by kept part) part out
   pub cause : HasCause conf part out
+  pub valid : IsValid conf part → is_ok out ≡ true

@@ -17,6 +17,7 @@ use Rattle.cfg_chain.specs.SectionSets.{sections_by_name}
 use Rattle.cfg_chain.specs.Configuration.{Configuration}
 use Rattle.cfg_chain.specs.Resolves.{Resolves}
 use Rattle.cfg_chain.specs.Causes.{HasCause}
+use Rattle.cfg_chain.specs.Valid.{IsValid}
 use Rattle.cfg_script.specs.Script.{Plain, Section}
 use Rattle.cfg_script.specs.Devices.{lists_of}
 use Rattle.cfg_program.specs.Lines.{shown}
@@ -54,6 +55,7 @@ pub record AnswersOver (conf : Configuration) (lists : DeviceLists) (is_credenti
   pub out : Result Keys CredentialsError
   pub resolves : Resolves conf [] journal out
   pub cause : HasCause conf journal out
+  pub valid : IsValid conf journal → is_credentials ≡ true
   pub agrees : Given lists start journal
   pub credentials : is_credentials ≡ is_ok out
   pub shows : line ≡ shown out journal

@@ -3,7 +3,7 @@ use Rattle.std.proofs.Common.{[], subst}
 use Rattle.cfg_chain.specs.Resolves.{Resolves}
 use Rattle.cfg_chain.specs.Causes.{HasCause}
 use Rattle.cfg_chain.proofs.Providing.{resolved}
-use Rattle.cfg_chain.proofs.CauseCases.{has_cause}
+use Rattle.cfg_chain.proofs.CauseCases.{has_cause, valid_loaded}
 use Rattle.cfg_chain.proofs.default_provider.credentials.DefaultCredentialsChain.provide_credentials.Goals as goal
 
 pub returns-in-Ok-clause-provides : goal.returns-in-Ok-clause-provides
@@ -11,9 +11,11 @@ returns-in-Ok-clause-provides g c = λ no_want.
     let e = c.in-Ok.ensures in
     let out = c.in-Ok.outcome in
     let parts = resolved c.self.inside.config e.part out e.reads in
+    let cause = subst (λ conf. HasCause conf e.part out) c.self.view_is (has_cause c.self.inside.config [] e.part out no_want parts) in
     record {
       part = e.part;
       grows = record { journal = e.grows; same = e.same; counted = e.counted; stands = e.stands };
       resolves = subst (λ conf. Resolves conf [] e.part out) c.self.view_is parts;
-      cause = subst (λ conf. HasCause conf e.part out) c.self.view_is (has_cause c.self.inside.config [] e.part out no_want parts);
+      cause = cause;
+      valid = valid_loaded _ e.part out cause;
     }
