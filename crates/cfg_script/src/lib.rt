@@ -1,6 +1,6 @@
 //! The program's script: one JSON object that says what the outside world answers. It stands on
-//! cfg_types and serde_json. The layer above reads bytes with `read_script` alone, and its contract
-//! says what they are by one definition over the value that serde_json reads.
+//! cfg_types, cfg_world and serde_json. The layer above reads bytes with `read_script` alone, and its
+//! contract says what they are by one definition over the value that serde_json reads.
 #![tactic(auto)]
 
 mod moments;

@@ -121,7 +121,6 @@ fn read(alloc: Global, bytes: &[u8]) -> Result<Script, Unread>
 
 /// What the bytes say as a script. Each error comes exactly where `reading` says so, but for want
 /// of memory, which may come in place of any answer.
-
 pub fn read_script(alloc: Global, bytes: &[u8]) -> Result<Script, Unread>
     ensures script { IfOk result (λ s. reading bytes.now ≡ Ok (plain s)) }
     ensures fits { IfOk result (λ s. AllFit (lists_of (plain s))) }
