@@ -1,10 +1,17 @@
 // What no clause says: that the definitions are the ones that were meant, and that calls succeed.
 ghost use Rattle.std.specs.Prelude.{◌<◌};
+ghost use Rattle.cfg_world.specs.Script.{AllFit};
+ghost use Rattle.cfg_script.specs.Script.{plain};
+ghost use Rattle.cfg_script.specs.Devices.{lists_of};
 
 use crate::run::run;
 use crate::status::Status;
 use crate::words::{HELP, VERSION};
-use cfg_types::{OutOfMemory, Seq};
+use cfg_chain::{
+    DefaultCredentialsChain, ProfileSet, ProfileSource, ProviderConfig, RegionSource, Section,
+};
+use cfg_script::{Script, read_script};
+use cfg_types::{OutOfMemory, Region, Seq};
 use cfg_world::{DeviceLists, MemorySink, MemorySource, ScriptDevices, World};
 use std::alloc::Global;
 use std::test::Fail;
@@ -253,6 +260,97 @@ fn scripts_with_an_error(rt: HostRuntime) -> Result<(), Fail> {
         assert_eq!(rt; ended.status, Status::Refused, "{name}");
         assert_eq!(rt; ended.written.as_slice(), line.as_bytes(), "{name}");
     }
+    Ok(())
+}
+
+fn sections(
+    alloc: Global,
+    profiles: Vec<(String, Vec<(String, String)>)>,
+) -> Result<ProfileSource, OutOfMemory> {
+    let mut sections = Vec::new(alloc);
+    for (name, properties) in profiles {
+        sections.push(Section::new(alloc, name.as_str(), properties)?)?;
+    }
+    let set = ProfileSet::new(alloc, sections, Vec::new(alloc), "default")?;
+    Ok(ProfileSource::Sections(set))
+}
+
+// The answer of the call over a script's profiles, and the questions that it asked, in words.
+fn call_in_words(alloc: Global, script: Script) -> Result<String, OutOfMemory>
+    requires { AllFit (lists_of (plain script)) }
+{
+    let Script {
+        variables: _,
+        profiles,
+        selected: _,
+        region: _,
+        clock,
+        assume_role,
+    } = script;
+    let lists = DeviceLists {
+        clock: Seq::of(clock),
+        assume_role: Seq::of(assume_role),
+    };
+    let mut world = World::new(alloc, ScriptDevices::new(alloc, lists));
+    let profiles = sections(alloc, profiles)?;
+    let region = Region::new(alloc, "eu-west-1")?;
+    let mut builder = DefaultCredentialsChain::builder(alloc)?;
+    builder.set_region(Some(RegionSource::Fixed(Some(region))));
+    let config = ProviderConfig::empty(alloc)?.with_profiles(profiles);
+    let chain = builder.configure(config).build(&mut world)?;
+    let mut kept = chain.new_kept()?;
+    let answer = chain.provide_credentials(&mut kept, &mut world);
+    let mut words = format!(in alloc; "{answer:?}")?;
+    for entry in world.journal() {
+        let question = entry.question();
+        let question = format!(in alloc; " {question:?}")?;
+        words.push_str(question.as_str())?;
+    }
+    Ok(words)
+}
+
+fn profile_call(alloc: Global, script: &str) -> Result<String, OutOfMemory> {
+    match read_script(alloc, script.as_bytes()) {
+        Ok(script) => call_in_words(alloc, script),
+        Err(_) => Ok(String::new(alloc)),
+    }
+}
+
+// The request for the role `r` by the keys `K`, in words.
+fn request_in_words(
+    alloc: Global,
+    session: &str,
+    external_id: &str,
+) -> Result<String, OutOfMemory> {
+    let words = format!(in alloc;
+        "Send(AssumeRole(AssumeRole {{ signer: Credentials {{ provider_name: \"ProfileFile\", access_key_id: \"K\", secret_access_key: \"** redacted **\", expires_after: never }}, role_arn: Text {{ inner: \"r\" }}, session_name: Text {{ inner: \"{session}\" }}, external_id: {external_id}, policy: None, policy_arns: None, duration_seconds: None, tags: None, settings: CallSettings {{ region: Some(Region {{ name: Text {{ inner: \"eu-west-1\" }} }}), use_fips: None, use_dual_stack: None, max_attempts: 3, timeouts: Timeouts {{ connect_ms: None, read_ms: None, operation_ms: None, attempt_ms: None }} }} }}))"
+    )?;
+    Ok(words)
+}
+
+#[test]
+fn a_role_is_signed_by_the_keys_of_its_source(rt: HostRuntime) -> Result<(), Fail> {
+    let script =
+        "{\"profiles\":[[\"default\",[[\"role_arn\",\"r\"],[\"source_profile\",\"b\"]]],[\"b\",[[\"aws_access_key_id\",\"K\"],[\"aws_secret_access_key\",\"S\"]]]],\"clock\":[7],\"replies\":{\"assume-role\":[{\"id\":\"KA\",\"secret\":\"SA\",\"token\":\"TA\",\"expires\":2000,\"arn\":\"a:b:c:d:e:f\"}]}}";
+    let told = profile_call(rt.alloc(), script)?;
+    let request = request_in_words(rt.alloc(), "assume-role-from-profile-7000", "None")?;
+    let wanted = format!(in rt.alloc();
+        "Ok(Credentials {{ provider_name: \"AssumeRoleProvider\", access_key_id: \"KA\", secret_access_key: \"** redacted **\", expires_after: 2000 s 0 ns, account_id: \"e\" }}) Now {request}"
+    )?;
+    assert_eq!(rt; told.as_str(), wanted.as_str());
+    Ok(())
+}
+
+#[test]
+fn a_refusal_of_a_role_is_told(rt: HostRuntime) -> Result<(), Fail> {
+    let script =
+        "{\"profiles\":[[\"default\",[[\"role_arn\",\"r\"],[\"source_profile\",\"b\"],[\"role_session_name\",\"s\"],[\"external_id\",\"x\"]]],[\"b\",[[\"aws_access_key_id\",\"K\"],[\"aws_secret_access_key\",\"S\"]]]],\"replies\":{\"assume-role\":[{\"refused\":\"RegionDisabled\",\"message\":\"no\"}]}}";
+    let told = profile_call(rt.alloc(), script)?;
+    let request = request_in_words(rt.alloc(), "s", "Some(Text { inner: \"x\" })")?;
+    let wanted = format!(in rt.alloc();
+        "Err(ProviderError(Role(Boxed {{ inner: ProviderError(Refused(Refusal {{ kind: RegionDisabled, message: Text {{ inner: \"no\" }} }})) }}))) {request}"
+    )?;
+    assert_eq!(rt; told.as_str(), wanted.as_str());
     Ok(())
 }
 
