@@ -1,5 +1,5 @@
 // What no clause says: that the definitions are the ones that were meant, and that calls succeed.
-ghost use Rattle.std.specs.Prelude.{◌<◌};
+ghost use Rattle.std.specs.Prelude.{◌<◌, ◌≡◌};
 ghost use Rattle.cfg_world.specs.Script.{AllFit};
 ghost use Rattle.cfg_script.specs.Script.{plain};
 ghost use Rattle.cfg_script.specs.Devices.{lists_of};
@@ -11,8 +11,8 @@ use cfg_chain::{
     DefaultCredentialsChain, ProfileSet, ProfileSource, ProviderConfig, RegionSource, Section,
 };
 use cfg_script::{Script, read_script};
-use cfg_types::{OutOfMemory, Region, Seq};
-use cfg_world::{DeviceLists, MemorySink, MemorySource, ScriptDevices, World};
+use cfg_types::{Credentials, CredentialsError, OutOfMemory, Region, Seq};
+use cfg_world::{DeviceLists, Entry, MemorySink, MemorySource, ScriptDevices, World};
 use std::alloc::Global;
 use std::test::Fail;
 
@@ -275,6 +275,36 @@ fn sections(
     Ok(ProfileSource::Sections(set))
 }
 
+// The chain over these profiles, in a region.
+fn chain_over(
+    alloc: Global,
+    profiles: Vec<(String, Vec<(String, String)>)>,
+    world: &mut World<ScriptDevices>,
+) -> Result<DefaultCredentialsChain, OutOfMemory>
+    ensures { world.new ≡ world.old }
+{
+    let profiles = sections(alloc, profiles)?;
+    let region = Region::new(alloc, "eu-west-1")?;
+    let config = ProviderConfig::empty(alloc)?.with_profiles(profiles);
+    let mut builder = DefaultCredentialsChain::builder(alloc)?.configure(config);
+    builder.set_region(Some(RegionSource::Fixed(Some(region))));
+    builder.build(world)
+}
+
+fn in_words(
+    alloc: Global,
+    answer: &Result<Credentials, CredentialsError>,
+    journal: &[Entry],
+) -> Result<String, OutOfMemory> {
+    let mut words = format!(in alloc; "{answer:?}")?;
+    for entry in journal {
+        let question = entry.question();
+        let question = format!(in alloc; " {question:?}")?;
+        words.push_str(question.as_str())?;
+    }
+    Ok(words)
+}
+
 // The answer of the call over a script's profiles, and the questions that it asked, in words.
 fn call_in_words(alloc: Global, script: Script) -> Result<String, OutOfMemory>
     requires { AllFit (lists_of (plain script)) }
@@ -292,21 +322,10 @@ fn call_in_words(alloc: Global, script: Script) -> Result<String, OutOfMemory>
         assume_role: Seq::of(assume_role),
     };
     let mut world = World::new(alloc, ScriptDevices::new(alloc, lists));
-    let profiles = sections(alloc, profiles)?;
-    let region = Region::new(alloc, "eu-west-1")?;
-    let mut builder = DefaultCredentialsChain::builder(alloc)?;
-    builder.set_region(Some(RegionSource::Fixed(Some(region))));
-    let config = ProviderConfig::empty(alloc)?.with_profiles(profiles);
-    let chain = builder.configure(config).build(&mut world)?;
+    let chain = chain_over(alloc, profiles, &mut world)?;
     let mut kept = chain.new_kept()?;
     let answer = chain.provide_credentials(&mut kept, &mut world);
-    let mut words = format!(in alloc; "{answer:?}")?;
-    for entry in world.journal() {
-        let question = entry.question();
-        let question = format!(in alloc; " {question:?}")?;
-        words.push_str(question.as_str())?;
-    }
-    Ok(words)
+    in_words(alloc, &answer, world.journal())
 }
 
 fn profile_call(alloc: Global, script: &str) -> Result<String, OutOfMemory> {
