@@ -42,6 +42,13 @@ impl Section {
         })
     }
 
+    /// A section of this name, without a copy of it.
+    pub fn of(name: String, properties: Vec<(String, String)>) -> Section
+        ensures { result ≡ record { name = string_bytes name; properties = map bytes_of properties.items } }
+    {
+        Section { name, properties }
+    }
+
     /// The section's name.
     pub fn name(&self) -> &str
         ensures { result.now ≡ self.now.name }

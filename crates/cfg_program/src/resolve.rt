@@ -139,7 +139,7 @@ fn sections(
 {
     let mut sections = Vec::new(alloc);
     for (name, properties) in profiles {
-        sections.push(Section::new(alloc, name.as_str(), properties)?)?;
+        sections.push(Section::of(name, properties))?;
     }
     Ok(sections)
 }

@@ -269,7 +269,7 @@ fn sections(
 ) -> Result<ProfileSource, OutOfMemory> {
     let mut sections = Vec::new(alloc);
     for (name, properties) in profiles {
-        sections.push(Section::new(alloc, name.as_str(), properties)?)?;
+        sections.push(Section::of(name, properties))?;
     }
     let set = ProfileSet::new(alloc, sections, Vec::new(alloc), "default")?;
     Ok(ProfileSource::Sections(set))
