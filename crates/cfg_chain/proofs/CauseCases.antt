@@ -1,7 +1,6 @@
 -- Which answer comes where, by the readings of the variables.
 use Rattle.std.proofs.Common.{◌≡◌, ℕ, List, [], ◌∷◌, ◌++◌, append-nil, Bool, true, false, cond, Option, Some, None, Result, Ok, Err, inl, inr, refl, sym, ap, ◌∙◌, subst}
 use Rattle.std.specs.Prelude.{not, ◌&&◌, ◌||◌, IfSome, is_some, is_none, is_ok, codes, if◌then◌else◌}
-use Rattle.std.specs.List.{list_all}
 use Rattle.cfg_types.specs.Keys.{Keys}
 use Rattle.cfg_types.specs.declared.errors.CredentialsError.{CredentialsError}
 use Rattle.cfg_types.specs.declared.errors.CredentialsError as errors
@@ -25,11 +24,11 @@ use Rattle.cfg_chain.specs.declared.member.Turn.TheVariants.{PassedOver, Answers
 use Rattle.cfg_chain.specs.Configuration.{Configuration}
 use Rattle.cfg_chain.specs.Gives.{◌>>=◌}
 use Rattle.cfg_chain.specs.EnvironmentKeys.{required_by, secret_or, optional, usable, is_not_unicode, environment}
-use Rattle.cfg_chain.specs.Members.{reading, is_not_loaded, is_not_loaded_level, turn, attempt}
+use Rattle.cfg_chain.specs.Members.{reading, is_not_loaded, is_not_loaded_level, turn}
 use Rattle.cfg_chain.specs.Chains.{Attempts, none_loaded}
-use Rattle.cfg_chain.specs.Resolves.{Resolves, AreParts, default_members}
+use Rattle.cfg_chain.specs.Resolves.{Resolves}
 use Rattle.cfg_chain.specs.Valid.{IsValid}
-use Rattle.cfg_chain.specs.Causes.{HasCause, is_passed_over, environment_is_passed_over, unreadable_variable, plan_is_passed_over, fault_of_plan, fault, first_failure, named_variable, is_not_loaded_answer, told_fault, fault_in_level, tells_role, is_role_level, is_memory, is_memory_level}
+use Rattle.cfg_chain.specs.Causes.{HasCause, environment_is_passed_over, unreadable_variable, plan_is_passed_over, fault_of_plan, fault, first_failure, named_variable, is_not_loaded_answer, told_fault, fault_in_level, tells_role, is_role_level, is_memory, is_memory_level}
 use Rattle.cfg_chain.proofs.DerivationCauses.{Derived, derived}
 
 abbrev id_name : List ℕ

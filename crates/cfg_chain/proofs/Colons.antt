@@ -1,5 +1,5 @@
 -- Parts of a text that is cut at colons.
-use Rattle.std.proofs.Common.{◌≡◌, ◌≢◌, ℕ, suc, ◌+◌, ◌<◌, List, [], ◌∷◌, ◌++◌, cond, true, false, length, get_or, Option, Some, None, refl, sym, ap, ◌∙◌, arith, tests}
+use Rattle.std.proofs.Common.{◌≡◌, ◌≢◌, ℕ, suc, ◌<◌, List, [], ◌∷◌, ◌++◌, cond, false, length, get_or, Some, None, refl, ap, ◌∙◌, arith, tests}
 use Rattle.std.specs.Prelude.{◌==◌}
 use Rattle.cfg_chain.specs.Sts.{behind_colon, before_colon}
 

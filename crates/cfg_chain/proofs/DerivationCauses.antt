@@ -1,5 +1,5 @@
 -- What the answer of a derivation tells of its part of the journal.
-use Rattle.std.proofs.Common.{◌≡◌, ℕ, Bool, true, false, List, [], ◌∷◌, ◌++◌, Option, Some, None, Result, Ok, Err, refl, sym, ap, ◌∙◌, subst, append-nil}
+use Rattle.std.proofs.Common.{◌≡◌, ℕ, false, List, [], ◌∷◌, ◌++◌, Option, Some, None, Result, Ok, Err, refl, sym, ap, ◌∙◌, subst, append-nil}
 use Rattle.std.specs.Prelude.{IfSome, is_some, is_none, is_ok}
 use Rattle.cfg_types.specs.Keys.{Keys}
 use Rattle.cfg_types.specs.declared.errors.CredentialsError.{CredentialsError}
@@ -7,11 +7,8 @@ use Rattle.cfg_types.specs.declared.errors.CredentialsError as errors
 use Rattle.cfg_types.specs.declared.errors.ProviderCause as causes
 use denote.Hole.Carrier as carrier
 use Rattle.cfg_types.specs.declared.request.Request.{Request}
-use Rattle.cfg_world.specs.declared.ask.Question.{Question}
-use Rattle.cfg_world.specs.declared.ask.Question.TheVariants.{Now, Send}
-use Rattle.cfg_world.specs.declared.ask.Answer.{Answer}
 use Rattle.cfg_world.specs.Fits.{Pair}
-use Rattle.cfg_world.specs.Inquiry.{Inquiry, Done, Reads, after, if_ok, ◌>>=◌}
+use Rattle.cfg_world.specs.Inquiry.{Done, Reads, after, if_ok}
 use Rattle.cfg_world.specs.Leaves.{clock, sending, reply_of}
 use Rattle.cfg_world.proofs.Inquiries.{split_after}
 use Rattle.cfg_chain.specs.declared.profile_chain.RoleArn.{RoleArn}

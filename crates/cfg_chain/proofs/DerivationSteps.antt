@@ -1,5 +1,5 @@
 -- What is left of a derivation after each role.
-use Rattle.std.proofs.Common.{◌≡◌, ℕ, suc, ◌+◌, ◌<◌, ◌≤◌, List, [], ◌∷◌, Option, Some, None, Result, Ok, Err, get_or, drop, length, refl, ap, sym, ◌∙◌, subst, rules, add-one}
+use Rattle.std.proofs.Common.{◌≡◌, ℕ, ◌+◌, ◌<◌, ◌≤◌, List, Option, None, Result, Ok, Err, get_or, drop, length, refl, ap, sym, ◌∙◌, subst, add-one}
 use Rattle.std.proofs.Math.Seq.{drop-cons}
 use Rattle.std.proofs.Math.ListN.{drop_of_length-le}
 use Rattle.cfg_types.specs.Keys.{Keys}

@@ -1,5 +1,5 @@
 -- The environment's keys, one step after another.
-use Rattle.std.proofs.Common.{◌≡◌, ℕ, List, [], ◌∷◌, Option, Some, None, Result, Ok, Err, refl, sym, ap, ◌∙◌, subst}
+use Rattle.std.proofs.Common.{◌≡◌, ℕ, List, [], ◌∷◌, Option, None, Result, Ok, refl, subst}
 use Rattle.std.specs.Prelude.{codes}
 use Rattle.cfg_types.specs.Keys.{Keys, bare_keys}
 use Rattle.cfg_types.specs.declared.credentials.AwsCredentialFeature.{AwsCredentialFeature}
@@ -7,8 +7,8 @@ use Rattle.cfg_types.specs.declared.credentials.AwsCredentialFeature.TheVariants
 use Rattle.cfg_types.specs.declared.errors.CredentialsError.{CredentialsError}
 use Rattle.cfg_types.specs.Environment.{Variables, variable}
 use Rattle.cfg_world.specs.declared.asking.Halt.{Halt}
-use Rattle.cfg_chain.specs.Gives.{◌>>=◌, Gives}
-use Rattle.cfg_chain.specs.EnvironmentKeys.{access_key_id, secret, secret_or, optional, environment}
+use Rattle.cfg_chain.specs.Gives.{Gives}
+use Rattle.cfg_chain.specs.EnvironmentKeys.{access_key_id, secret, optional, environment}
 
 pub said_so : {X Y : Type 0} (view : X → Y) (r : Result X (Halt CredentialsError)) (x y : Result Y CredentialsError) → x ≡ y → Gives view r x → Gives view r y
 said_so view r x y e g = subst (λ said. Gives view r said) e g

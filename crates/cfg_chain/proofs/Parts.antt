@@ -1,17 +1,17 @@
 -- A chain's journal is its members' parts, in order.
-use Rattle.std.proofs.Common.{◌≡◌, Bool, true, false, cond, List, [], ◌∷◌, ◌++◌, Result, Ok, Err, ◌⊎◌, inl, inr, refl, sym, ap, ◌∙◌, subst, append-nil}
+use Rattle.std.proofs.Common.{◌≡◌, Bool, true, false, cond, List, [], ◌∷◌, ◌++◌, Result, Ok, Err, inl, inr, refl, sym, ap, ◌∙◌, subst, append-nil}
 use Rattle.cfg_types.specs.Keys.{Keys}
 use Rattle.cfg_types.specs.declared.errors.CredentialsError.{CredentialsError}
 use Rattle.cfg_world.specs.Fits.{Pair}
-use Rattle.cfg_world.specs.Inquiry.{Inquiry, Done, Reads, after}
-use Rattle.cfg_world.proofs.Inquiries.{Split, split_after, reads_after}
+use Rattle.cfg_world.specs.Inquiry.{Done, Reads}
+use Rattle.cfg_world.proofs.Inquiries.{split_after, reads_after}
 use Rattle.cfg_chain.specs.declared.member.Member.{Member}
 use Rattle.cfg_chain.specs.declared.member.Turn.{Turn}
 use Rattle.cfg_chain.specs.declared.member.Turn.TheVariants.{PassedOver, Answers}
 use Rattle.cfg_chain.specs.Configuration.{Configuration}
 use Rattle.cfg_chain.specs.Members.{reading, is_not_loaded, turn, attempt}
 use Rattle.cfg_chain.specs.Chains.{Attempts, chain, go_on, none_loaded}
-use Rattle.cfg_chain.specs.Resolves.{AreParts, IsPassedOver, Decides}
+use Rattle.cfg_chain.specs.Resolves.{AreParts}
 
 chosen_passes : (b : Bool) (e x : CredentialsError) → cond b (PassedOver e) (Answers (Err e)) ≡ PassedOver x → (b ≡ true) × (e ≡ x)
 chosen_passes true e x h = (refl, cc)

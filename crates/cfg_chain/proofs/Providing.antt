@@ -1,5 +1,5 @@
 -- A call that follows the default chain provides what the chain's parts read.
-use Rattle.std.proofs.Common.{◌≡◌, List, [], Result, refl}
+use Rattle.std.proofs.Common.{List, [], Result, refl}
 use Rattle.cfg_types.specs.Keys.{Keys}
 use Rattle.cfg_types.specs.declared.errors.CredentialsError.{CredentialsError}
 use Rattle.cfg_world.specs.Fits.{Pair}

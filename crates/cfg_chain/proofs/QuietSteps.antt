@@ -1,7 +1,7 @@
 -- A part in which nothing is asked.
 use Rattle.std.proofs.Common.{◌≡◌, subst}
 use Rattle.cfg_world.specs.declared.asking.Asking.{Ghosts}
-use Rattle.cfg_world.specs.Inquiry.{Inquiry, Done}
+use Rattle.cfg_world.specs.Inquiry.{Done}
 use Rattle.cfg_world.specs.Follows.{Ends}
 use Rattle.cfg_world.proofs.Inquiries.{ends_done, breaks_here}
 

@@ -1,12 +1,11 @@
 -- A chain asks its members in order.
-use Rattle.std.specs.Prelude.{◌≡◌, List, [], ◌∷◌, ◌++◌, Result, Ok, Err, ◌⊎◌}
+use Rattle.std.specs.Prelude.{List, [], ◌∷◌, ◌++◌, Result, Err}
 use Rattle.cfg_types.specs.Keys.{Keys}
 use Rattle.cfg_types.specs.declared.errors.CredentialsError.{CredentialsError}
 use Rattle.cfg_types.specs.declared.errors.CredentialsError.TheVariants.{CredentialsNotLoaded}
 use Rattle.cfg_types.specs.declared.errors.NotLoadedCause.TheVariants.{Chain}
 use Rattle.cfg_types.specs.declared.errors.ProviderAttempt.{ProviderAttempt}
-use Rattle.cfg_world.specs.Fits.{Pair}
-use Rattle.cfg_world.specs.Inquiry.{Inquiry, Done, Reads, after}
+use Rattle.cfg_world.specs.Inquiry.{Inquiry, Done, after}
 use Rattle.cfg_chain.specs.declared.member.Member.{Member}
 use Rattle.cfg_chain.specs.declared.member.Turn.{Turn}
 use Rattle.cfg_chain.specs.declared.member.Turn.TheVariants.{PassedOver, Answers}

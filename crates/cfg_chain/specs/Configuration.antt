@@ -1,15 +1,13 @@
 -- What providers are given, as contracts see it.
-use Rattle.std.specs.Prelude.{ℕ, List, [], Bool, Option, None, refl, codes}
+use Rattle.std.specs.Prelude.{ℕ, List, Bool, Option, None, refl, codes}
 use Rattle.std.specs.Coded.{Coded, code_by, coded×, coded_ℕ, coded_bool, coded_list, coded_option}
 use Rattle.std.specs.FinMap.{empty}
 use Rattle.cfg_types.specs.TextMap.{Named, named_code}
-use Rattle.cfg_types.specs.Entries.{each_set}
 use Rattle.cfg_types.specs.declared.environment.EnvText.{EnvText}
 use Rattle.cfg_types.specs.contracts.environment.EnvText as variable
 use Rattle.cfg_chain.specs.declared.profile.ProfileSource.{ProfileSource}
 use Rattle.cfg_chain.specs.declared.profile.ProfileSource.TheVariants.{Sections}
 use Rattle.cfg_chain.specs.contracts.profile.ProfileSource as source
-use Rattle.cfg_chain.specs.SectionSets.{sections_by_name}
 
 pub record Configuration : Type 0 where
   -- by the bytes of their names

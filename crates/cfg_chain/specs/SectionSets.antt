@@ -1,5 +1,5 @@
 -- Profiles and sessions as contracts see them.
-use Rattle.std.specs.Prelude.{ℕ, List, map, Option, Some, None, refl, option_and_then}
+use Rattle.std.specs.Prelude.{ℕ, List, map, Option, refl, option_and_then}
 use Rattle.std.specs.Coded.{Coded, code_by, coded×, coded_ℕ, coded_list}
 use Rattle.std.specs.FinMap.{get}
 use Rattle.cfg_types.specs.TextMap.{Named, named_code}

@@ -1,5 +1,5 @@
 -- Look-up of keys in sections.
-use Rattle.std.specs.Prelude.{ℕ, List, [], ◌∷◌, Option, Some, None, fold, if◌then◌else◌}
+use Rattle.std.specs.Prelude.{ℕ, List, Option, Some, None, fold, if◌then◌else◌}
 use Rattle.std.specs.Str.{str_eq_ignore_ascii_case}
 use Rattle.cfg_chain.specs.SectionParts.{SectionParts}
 pub use Rattle.cfg_chain.specs.SectionParts.{bytes_of}

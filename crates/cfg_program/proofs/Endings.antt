@@ -1,5 +1,5 @@
 -- How a run ends whose script was read and whose call was made.
-use Rattle.std.proofs.Common.{◌≡◌, ℕ, List, Bool, true, false, subst, inr}
+use Rattle.std.proofs.Common.{ℕ, List, Bool, subst, inr}
 use Rattle.cfg_script.specs.Script.{Plain}
 use Rattle.cfg_program.specs.declared.status.Status.{Status}
 use Rattle.cfg_program.specs.declared.status.Status.TheVariants as status

@@ -1,5 +1,5 @@
 -- How a run ends: by its status, what was read, what was written, and why.
-use Rattle.std.specs.Prelude.{◌≡◌, ℕ, ◌≤◌, ◌<◌, List, length, Bool, true, false, Option, Some, None, Result, Ok, Err, codes, ◌⊎◌}
+use Rattle.std.specs.Prelude.{◌≡◌, ℕ, ◌≤◌, ◌<◌, List, length, Bool, true, false, Option, Some, None, Ok, Err, ◌⊎◌}
 use Rattle.std.specs.Io.KnownBytes.{Appends}
 use Rattle.cfg_world.specs.Faults.{Rose}
 use Rattle.cfg_script.specs.Script.{Plain, NoScript, NotBuilt}

@@ -1,6 +1,5 @@
 -- Each key where it belongs.
-use Rattle.std.proofs.Common.{ap, sym, ◌∙◌}
-use Rattle.std.specs.Prelude.{option_map}
+use Rattle.std.proofs.Common.{◌∙◌}
 use Rattle.cfg_chain.proofs.EnvironmentSteps.{environment_is, built_is}
 use Rattle.cfg_chain.proofs.environment.environment_credentials.Goals as goal
 

@@ -1,5 +1,5 @@
 -- A key that is there settles it.
-use Rattle.std.proofs.Common.{◌≡◌, ℕ, List, true, Option, Some, None, option_map, Bor, refl, sym, ap, ◌∙◌}
+use Rattle.std.proofs.Common.{◌≡◌, ℕ, List, Option, Some, None, option_map, Bor, refl, sym, ap, ◌∙◌}
 use Rattle.std.specs.Prelude.{is_some}
 use Rattle.std.specs.List.{list_any}
 use Rattle.std.proofs.lemmas.List.Folds.{list_any_at}
