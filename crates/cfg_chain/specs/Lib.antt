@@ -15,4 +15,4 @@ pub mod Resolves
 pub mod Causes
 pub mod Valid
 pub mod Provides
-pub mod Regions
+pub mod Setups

@@ -28,8 +28,7 @@ pub fn environment_credentials(
     let account = account_of(alloc, optional_variable(env, "AWS_ACCOUNT_ID"))?;
     let origin = Seq::of_slice(alloc, &[AwsCredentialFeature::CredentialsEnvVars])?;
     let mut builder = CredentialsBuilder::new(alloc, id, secret, "EnvironmentVariable")?;
-    builder.set_session_token(token);
-    builder.set_account_id(account);
+    builder.set_session_token(token).set_account_id(account);
     Ok(builder.features(origin).build())
 }
 

@@ -169,7 +169,7 @@ impl ProfileSet {
 fn by_name(alloc: Global, sections: Vec<Section>) -> Result<TextMap<Section>, OutOfMemory>
     ensures { IfOk result (λ m. m ≡ each_set (map named_section sections.items)) }
 {
-    let mut named = TextMap::new(alloc);
+    let mut named = TextMap::with_capacity(alloc, sections.len())?;
     for section in sections {
         let name = String::from_str(alloc, section.name())?;
         named.set(name, section)?;

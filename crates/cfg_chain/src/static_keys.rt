@@ -25,8 +25,7 @@ pub fn static_keys(alloc: Global, section: &Section) -> Result<Credentials, Halt
     let token = text_property(alloc, section, "aws_session_token")?;
     let account = account_property(alloc, section, "aws_account_id")?;
     let mut builder = CredentialsBuilder::new(alloc, id, secret, "ProfileFile")?;
-    builder.set_session_token(token);
-    builder.set_account_id(account);
+    builder.set_session_token(token).set_account_id(account);
     Ok(builder.build())
 }
 

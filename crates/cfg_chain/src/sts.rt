@@ -30,9 +30,10 @@ pub fn into_credentials(
     let id = keys.access_key_id.as_str();
     let secret = keys.secret_access_key.as_str();
     let mut builder = CredentialsBuilder::new(alloc, id, secret, provider)?;
-    builder.set_session_token(Some(token));
-    builder.set_expiry(Some(keys.expiration));
-    builder.set_account_id(account);
+    builder
+        .set_session_token(Some(token))
+        .set_expiry(Some(keys.expiration))
+        .set_account_id(account);
     Ok(Ok(builder.build()))
 }
 

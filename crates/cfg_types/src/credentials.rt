@@ -349,24 +349,30 @@ impl CredentialsBuilder {
     }
 
     /// Sets the session token, or none.
-    pub fn set_session_token(&mut self, token: Option<Text>)
-        ensures { self.new ≡ record self.old { session_token = token } }
+    pub fn set_session_token(&mut self, token: Option<Text>) -> &mut CredentialsBuilder
+        ensures value { result.now ≡ record self.old { session_token = token } }
+        ensures lent { result.ghost_name ≡ self.entry.ghost_name }
     {
         self.built.session_token = token;
+        self
     }
 
     /// Sets the end, or none.
-    pub fn set_expiry(&mut self, expiry: Option<Instant>)
-        ensures { self.new ≡ record self.old { expiry = expiry } }
+    pub fn set_expiry(&mut self, expiry: Option<Instant>) -> &mut CredentialsBuilder
+        ensures value { result.now ≡ record self.old { expiry = expiry } }
+        ensures lent { result.ghost_name ≡ self.entry.ghost_name }
     {
         self.built.expiry = expiry;
+        self
     }
 
     /// Sets the account, or none.
-    pub fn set_account_id(&mut self, account_id: Option<AccountId>)
-        ensures { self.new ≡ record self.old { account_id = account_id } }
+    pub fn set_account_id(&mut self, account_id: Option<AccountId>) -> &mut CredentialsBuilder
+        ensures value { result.now ≡ record self.old { account_id = account_id } }
+        ensures lent { result.ghost_name ≡ self.entry.ghost_name }
     {
         self.built.account_id = account_id;
+        self
     }
 
     /// With this end.

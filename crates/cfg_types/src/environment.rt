@@ -50,7 +50,7 @@ impl Env {
     pub fn new(alloc: Global, vars: Vec<(String, EnvText)>) -> Result<Env, OutOfMemory>
         ensures { IfOk result (λ env. env ≡ each_set (map named vars.items)) }
     {
-        let mut variables = TextMap::new(alloc);
+        let mut variables = TextMap::with_capacity(alloc, vars.len())?;
         for (name, value) in vars {
             variables.set(name, value)?;
         }

@@ -1,5 +1,7 @@
 // Errors of the resolver, each with its cause.
 ghost use Rattle.std.specs.Prelude.{◌≡◌, IfOk};
+ghost use Rattle.std.specs.Str.{encode_utf8_all};
+ghost use Rattle.cfg_types.specs.Text.{characters};
 ghost use Rattle.cfg_types.specs.declared.errors.CredentialsError.TheVariants as error;
 
 use crate::boxed::Boxed;
@@ -30,10 +32,11 @@ impl<E> ProviderAttempt<E> {
     }
 
     /// The member's name.
-    pub fn name(&self) -> &Text
-        ensures { result.now ≡ self.now.name }
+    pub fn name(&self) -> &str
+        ensures chars { characters result.now ≡ self.now.name }
+        ensures bytes { result.now ≡ encode_utf8_all self.now.name }
     {
-        &self.name
+        self.name.as_str()
     }
 
     /// What the member answered.

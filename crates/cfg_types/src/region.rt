@@ -1,5 +1,6 @@
 // Names of regions.
 ghost use Rattle.std.specs.Prelude.{◌≡◌, IfOk};
+ghost use Rattle.std.specs.Str.{encode_utf8_all};
 ghost use Rattle.cfg_types.specs.Text.{characters};
 
 use crate::copies::TryCopy;
@@ -36,7 +37,8 @@ impl Region {
 
     /// The name, lent.
     pub fn as_str(&self) -> &str
-        ensures { characters result.now ≡ self.now }
+        ensures chars { characters result.now ≡ self.now }
+        ensures bytes { result.now ≡ encode_utf8_all self.now }
     {
         self.name.as_str()
     }

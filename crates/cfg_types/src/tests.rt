@@ -336,7 +336,7 @@ fn not_set(alloc: Global, name: &str) -> Result<CredentialsError, OutOfMemory> {
 fn errors_have_their_causes(rt: HostRuntime) -> Result<(), Fail> {
     let name = Text::of(rt.alloc(), "AWS_ACCESS_KEY_ID")?;
     let attempt = ProviderAttempt::new(name, FailKind::Timeout);
-    assert_eq!(rt; attempt.name().as_str(), "AWS_ACCESS_KEY_ID");
+    assert_eq!(rt; attempt.name(), "AWS_ACCESS_KEY_ID");
     assert_eq!(rt; *attempt.error(), FailKind::Timeout);
     let attempts = ProviderChainError::new(Seq::of(vec![in rt.alloc(); attempt]?));
     assert_eq!(rt; attempts.attempts().len(), 1);

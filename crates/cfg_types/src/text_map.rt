@@ -1,17 +1,17 @@
 // Values by name.
-ghost use Rattle.std.specs.Prelude.{◌≡◌, ◌↔◌, IsTrue, OnOk, OnErr, string_bytes};
+ghost use Rattle.std.specs.Prelude.{◌≡◌, ◌↔◌, IsTrue, IfOk, OnOk, OnErr, string_bytes};
 ghost use Rattle.std.specs.Option.{option_copied};
 ghost use Rattle.std.specs.FinMap.{get, insert, empty, len};
 
 use crate::memory::OutOfMemory;
 use std::alloc::Global;
-use std::collections::BTreeMap;
+use std::collections::HashMap;
 use std::marker::Model;
 
 /// Values by name. Contracts see the finite map from the names' bytes to the values.
 #[derive(Drop)]
 pub struct TextMap<V> {
-    tree: BTreeMap<String, V>,
+    entries: HashMap<String, V>,
 }
 
 impl<V> Model for TextMap<V> {
@@ -21,7 +21,7 @@ impl<V> Model for TextMap<V> {
 
     ghost coded = { named_code V.code };
 
-    ghost view = { λ m. map_of m.tree.entries };
+    ghost view = { λ m. map_of m.entries.entries };
 }
 
 impl<V: Drop> TextMap<V> {
@@ -30,8 +30,17 @@ impl<V: Drop> TextMap<V> {
         ensures { result ≡ empty }
     {
         TextMap {
-            tree: BTreeMap::new(alloc),
+            entries: HashMap::new(alloc),
         }
+    }
+
+    /// A map of nothing, with room for so many names.
+    pub fn with_capacity(alloc: Global, names: usize) -> Result<TextMap<V>, OutOfMemory>
+        ensures { IfOk result (λ map. map ≡ empty) }
+    {
+        Ok(TextMap {
+            entries: HashMap::with_capacity(alloc, names)?,
+        })
     }
 
     /// Sets the value of a name, in place of the one that it had. Where memory runs out the map
@@ -40,7 +49,7 @@ impl<V: Drop> TextMap<V> {
         ensures ok { OnOk result (self.new ≡ insert self.old (string_bytes name) value) }
         ensures err { OnErr result (self.new ≡ self.old) }
     {
-        let _before = self.tree.insert(name, value)?;
+        let _before = self.entries.insert(name, value)?;
         Ok(())
     }
 
@@ -48,13 +57,13 @@ impl<V: Drop> TextMap<V> {
     pub fn get(&self, name: &str) -> Option<&V>
         ensures { option_copied result ≡ get self.now name.now }
     {
-        self.tree.get(name)
+        self.entries.get(name)
     }
 
     /// Whether no name has a value.
     pub fn is_empty(&self) -> bool
         ensures { IsTrue result ↔ (len self.now ≡ 0) }
     {
-        self.tree.is_empty()
+        self.entries.is_empty()
     }
 }

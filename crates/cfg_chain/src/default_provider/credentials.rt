@@ -1,10 +1,9 @@
 //! The default chain of credentials providers.
-ghost use Rattle.std.specs.Prelude.{◌≡◌, IfOk, None, true, false};
+ghost use Rattle.std.specs.Prelude.{◌≡◌, IfOk, true, false};
 ghost use Rattle.cfg_world.specs.Grows.{Stopped};
 ghost use Rattle.cfg_chain.specs.Provides.{Provides};
 ghost use Rattle.cfg_chain.specs.Causes.{is_memory};
-ghost use Rattle.cfg_chain.specs.Configuration.{nothing_configured};
-ghost use Rattle.cfg_chain.specs.Regions.{region_given};
+ghost use Rattle.cfg_chain.specs.Setups.{nothing_set, built_by};
 
 use crate::chain::follow_chain;
 use crate::kept::Kept;
@@ -22,7 +21,7 @@ pub enum RegionSource {
     Fixed(Option<Region>),
 }
 
-/// Sets up the default chain.
+/// Sets up the default chain. Contracts see its configuration and the source of its region.
 #[derive(Drop)]
 pub struct Builder {
     alloc: Global,
@@ -30,10 +29,20 @@ pub struct Builder {
     region: Option<RegionSource>,
 }
 
+impl Model for Builder {
+    ghost use Rattle.cfg_chain.specs.Setups.{Setup, setup_code};
+
+    ghost Value = { Setup };
+
+    ghost coded = { setup_code };
+
+    ghost view = { λ b. record { configuration = b.config; region_source = b.region } };
+}
+
 impl Builder {
     /// With this configuration, in place of the one that it had.
     pub fn configure(mut self, config: ProviderConfig) -> Builder
-        ensures { result ≡ record self { config = config } }
+        ensures { result ≡ record self { configuration = config } }
     {
         self.config = config;
         self
@@ -42,7 +51,7 @@ impl Builder {
     /// Sets the source of the region, or none.
     pub fn set_region(&mut self, region: Option<RegionSource>) -> &mut Builder
         ensures same { result.ghost_name ≡ self.entry.ghost_name }
-        ensures value { result.now ≡ record self.entry.now { region = region } }
+        ensures value { result.now ≡ record self.entry.now { region_source = region } }
     {
         self.region = region;
         self
@@ -54,7 +63,7 @@ impl Builder {
         self,
         _world: &mut World<D>,
     ) -> Result<DefaultCredentialsChain, OutOfMemory>
-        ensures chain { IfOk result (λ chain. chain ≡ record self.config { region = region_given self.region self.config.region }) }
+        ensures chain { IfOk result (λ chain. chain ≡ built_by self) }
         ensures world { _world.new ≡ _world.old }
     {
         let Builder {
@@ -93,7 +102,7 @@ const MEMBERS: [Member; 2] = [Member::Environment, Member::Profile];
 impl DefaultCredentialsChain {
     /// A builder with no variables, no sections and no region.
     pub fn builder(alloc: Global) -> Result<Builder, OutOfMemory>
-        ensures { IfOk result (λ b. (b.config ≡ nothing_configured true) × (b.region ≡ None)) }
+        ensures { IfOk result (λ b. b ≡ nothing_set true) }
     {
         Ok(Builder {
             alloc,
