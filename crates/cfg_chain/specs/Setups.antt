@@ -1,6 +1,6 @@
 -- What a builder of the default chain was set to.
 use Rattle.std.specs.Prelude.{ℕ, List, Bool, Option, Some, None, refl}
-use Rattle.std.specs.Coded.{Coded, code_by, coded×, coded_ℕ, coded_list, coded_option}
+use Rattle.std.specs.Coded.{Coded, code_by, coded×, coded_option}
 use Rattle.cfg_chain.specs.declared.default_provider.credentials.RegionSource.{RegionSource}
 use Rattle.cfg_chain.specs.declared.default_provider.credentials.RegionSource.TheVariants.{Fixed}
 use Rattle.cfg_chain.specs.contracts.default_provider.credentials.RegionSource as source

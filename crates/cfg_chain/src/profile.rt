@@ -147,7 +147,8 @@ impl ProfileSet {
         self.sessions.get(name)
     }
 
-    /// The name of the selected profile.
+    /// The name of the profile that these sections select. The default chain selects by its own
+    /// configuration, and does not read it.
     pub fn selected_profile(&self) -> &str
         ensures { result.now ≡ self.now.selected }
     {

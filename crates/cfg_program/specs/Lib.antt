@@ -7,3 +7,4 @@ pub mod Calls
 pub mod Plans
 pub mod Written
 pub mod Run
+pub mod Exclusion

@@ -4,6 +4,7 @@
 #![tactic(auto)]
 
 mod input;
+mod laws;
 mod lines;
 mod output;
 mod resolve;

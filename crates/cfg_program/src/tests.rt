@@ -472,33 +472,44 @@ fn the_longest_script_and_one_byte_more(rt: HostRuntime) -> Result<(), Fail> {
     Ok(())
 }
 
+// A script of keys, and its line.
+const KEYS: &str =
+    "{\"variables\":[[\"AWS_ACCESS_KEY_ID\",\"A\"],[\"AWS_SECRET_ACCESS_KEY\",\"S\"]]}";
+
+const LINE: &str = "credentials =A =EnvironmentVariable none -\n";
+
+// The reads of each byte in turn, and of the end.
 #[test]
-fn a_source_that_fails(rt: HostRuntime) -> Result<(), Fail> {
-    for call in [1, 2, 3] {
-        let ended = run_in_pieces(rt.alloc(), &["resolve"], b"{}", 1, &[call], &[])?;
+fn a_source_that_fails_at_any_read(rt: HostRuntime) -> Result<(), Fail> {
+    for at in 0..=KEYS.len() {
+        let call = at as u64 + 1;
+        let ended = run_in_pieces(rt.alloc(), &["resolve"], KEYS.as_bytes(), 1, &[call], &[])?;
         assert_eq!(rt; ended.status, Status::SourceFault);
         assert_eq!(rt; ended.written.len(), 0);
     }
     Ok(())
 }
 
+// The writes of each byte in turn.
 #[test]
 fn a_sink_that_fails_has_a_front_of_the_line(rt: HostRuntime) -> Result<(), Fail> {
-    let script =
-        b"{\"profiles\":[[\"default\",[[\"aws_access_key_id\",\"K\"],[\"aws_secret_access_key\",\"S\"]]]]}".as_slice();
-    for (call, front) in [(1, ""), (2, "c"), (4, "cre")] {
-        let ended = run_in_pieces(rt.alloc(), &["resolve"], script, 1, &[], &[call])?;
+    let line = LINE.as_bytes();
+    for at in 0..line.len() {
+        let call = at as u64 + 1;
+        let ended = run_in_pieces(rt.alloc(), &["resolve"], KEYS.as_bytes(), 1, &[], &[call])?;
         assert_eq!(rt; ended.status, Status::SinkFault);
-        assert_eq!(rt; ended.written.as_slice(), front.as_bytes());
+        assert_eq!(rt; ended.written.as_slice(), line.split_at(at).0);
     }
+    let ended = run_in_pieces(rt.alloc(), &["resolve"], KEYS.as_bytes(), 3, &[], &[2])?;
+    assert_eq!(rt; ended.status, Status::SinkFault);
+    assert_eq!(rt; ended.written.as_slice(), b"cre".as_slice());
     Ok(())
 }
 
 #[test]
 fn bytes_come_in_pieces(rt: HostRuntime) -> Result<(), Fail> {
-    let script =
-        b"{\"variables\":[[\"AWS_ACCESS_KEY_ID\",\"A\"],[\"AWS_SECRET_ACCESS_KEY\",\"S\"]]}".as_slice();
-    let line = b"credentials =A =EnvironmentVariable none -\n".as_slice();
+    let script = KEYS.as_bytes();
+    let line = LINE.as_bytes();
     let ended = run_in_pieces(rt.alloc(), &["resolve"], script, 1, &[], &[])?;
     assert_eq!(rt; ended.written.as_slice(), line);
     let ended = run_in_pieces(rt.alloc(), &["resolve"], script, 7, &[], &[])?;

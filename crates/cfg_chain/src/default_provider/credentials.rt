@@ -117,11 +117,20 @@ impl DefaultCredentialsChain {
     }
 
     /// Asks the members in order, and answers what the first one that was loaded gives. Members that
-    /// were not loaded are passed over, and any other error is the answer. Where no member was
-    /// loaded, the answer tells of each.
+    /// were not loaded are passed over, and any other error is the answer.
     ///
-    /// The world's journal gains the members' parts and nothing else. Where memory runs out it has
-    /// gained the beginning of such a part, and what is kept stays as it was.
+    /// The world's journal gains the members' parts and nothing else. What is kept stays as it was,
+    /// whatever the answer.
+    ///
+    /// # Errors
+    ///
+    /// - `CredentialsNotLoaded` where no member was loaded. It tells of each member, in order.
+    /// - `InvalidConfiguration` where the environment was passed over and the selected profile has a
+    ///   fault: half of its keys, or a role without a source that can be used.
+    /// - `ProviderError` where the exchange for a role failed or was refused, or its reply cannot be
+    ///   used.
+    /// - `Unhandled` where a variable that the environment needs is not Unicode.
+    /// - `OutOfMemory` where memory runs out. The journal then has gained the beginning of such parts.
     pub fn provide_credentials<D: Devices>(
         &self,
         kept: &mut Kept,
