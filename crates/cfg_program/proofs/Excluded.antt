@@ -1,5 +1,5 @@
 -- One run meets the cause of one status alone.
-use Rattle.std.proofs.Common.{◌≡◌, ℕ, List, [], ◌∷◌, ◌++◌, length, Bool, true, false, Option, Some, None, Result, Ok, Err, ◌⊎◌, inl, inr, ◌∙◌, sym, ap, subst, refl, cond, arith}
+use Rattle.std.proofs.Common.{◌≡◌, ℕ, List, [], ◌∷◌, length, true, false, Option, Some, None, Result, Ok, Err, ◌⊎◌, inl, inr, ◌∙◌, sym, ap, subst, refl, cond, arith}
 use Rattle.std.specs.Prelude.{◌<◌, IsSome, IsTrue, is_ok, nat_lt}
 use Rattle.std.specs.Io.KnownBytes.{Appends}
 use Rattle.std.proofs.lemmas.List.{append_cancel_left}
@@ -17,7 +17,7 @@ use Rattle.cfg_program.specs.declared.words.TheConstants.{HELP, VERSION}
 use Rattle.cfg_program.specs.Lines.{shown}
 use Rattle.cfg_program.specs.Streams.{Told, limit}
 use Rattle.cfg_program.specs.Plans.{plan_is_built}
-use Rattle.cfg_program.specs.Run.{Seen, WasRead, IsScript, IsNotBuilt, WritesLine, EndsResolving, EndsForWords, Tells, Ends}
+use Rattle.cfg_program.specs.Run.{Seen, WasRead, IsScript, WritesLine, EndsResolving, EndsForWords, Tells, Ends}
 use Rattle.cfg_program.specs.Exclusion.{tells_of_input, AllTold}
 
 -- the status that bytes call for, where credentials and an error count as one answer
