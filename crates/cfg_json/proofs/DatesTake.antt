@@ -1,15 +1,15 @@
 -- What is read as a moment stands for it.
 use Rattle.std.proofs.Common.{◌≡◌, ℕ, ◌+◌, ◌-◌, ◌*◌, ◌/◌, ◌%◌, ◌<◌, ◌≤◌, ◌⊎◌, inl, inr, List, [], ◌∷◌, ◌++◌, length, Bool, true, false, cond, Option, Some, None, refl, sym, ap, subst, ◌∙◌, arith}
-use Rattle.std.specs.Prelude.{◌&&◌, ◌||◌, nat_le, nat_lt, ◌==◌, ℤ, pos, neg_ℤ, ◌-ℤ◌, IfSome}
+use Rattle.std.specs.Prelude.{◌↔◌, ◌&&◌, ◌||◌, nat_le, nat_lt, ◌==◌, ℤ, pos, neg_ℤ, ◌-ℤ◌, IfSome}
 use Rattle.std.specs.Char.{is_ascii_digit}
-use Rattle.std.specs.Str.{IsAscii, IsUtf8}
+use Rattle.std.specs.Str.{IsAscii, IsUtf8, encode_utf8_all, all_scalars}
 use Rattle.jiff_core.proofs.CalendarLemmas.{days_in_month_bounds}
 use Rattle.std.proofs.lemmas.Bool.{and_parts, eqb-true, eqb-false, or_cases}
 use Rattle.std.proofs.lemmas.Str.{IsAscii-append, chars-IsAscii, encodes-IsAscii}
 use borrow.Author.Tests.{ltb-true, leb-true}
 use Rattle.cfg_types.specs.Moment.{Moment}
 use Rattle.cfg_types.specs.Text.{characters}
-use Rattle.cfg_types.proofs.TextLemmas.{characters-chars, encodes-chars}
+use Rattle.cfg_types.proofs.TextLemmas.{characters-chars, characters-encodes, encodes-chars}
 use Rattle.cfg_json.specs.Gives.{◌>>=◌}
 use Rattle.cfg_json.specs.Numbers.{AllDigits}
 use Rattle.cfg_json.specs.Reading.{mark_at}
@@ -402,3 +402,10 @@ only_is offsets bytes m u h =
 
 pub one_moment : (t : List ℕ) (m n : Moment) → IsTimeText (Zones true) t m → IsTimeText (Zones true) t n → m ≡ n
 one_moment t m n h k = given_is m n (sym (moment_again true t m h) ∙ moment_again true t n k)
+
+-- a text of scalars reads as the moment that it stands for
+pub reads_as : (offsets : Bool) (text : List ℕ) (m : Moment) → all_scalars text ≡ true → (moment_at offsets (encode_utf8_all text) ≡ Some m) ↔ IsTimeText (Zones offsets) text m
+reads_as offsets text m ok = (
+    λ e. subst (λ (t : List ℕ). IsTimeText (Zones offsets) t m) (characters-encodes text ok) (found_is offsets (encode_utf8_all text) (Some m) (sym e)),
+    λ h. ap (moment_at offsets) (encodes-IsAscii text (time_ascii offsets text m h)) ∙ moment_again offsets text m h,
+  )

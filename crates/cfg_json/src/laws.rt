@@ -1,9 +1,10 @@
 //! Laws of the grammar, each on a call that shows it.
-ghost use Rattle.std.specs.Prelude.{◌≡◌, ℕ, List, ◌++◌, map, length, true};
+ghost use Rattle.std.specs.Prelude.{◌≡◌, ◌↔◌, ℕ, List, Some, ◌++◌, map, length, true};
 ghost use Rattle.std.specs.Str.{encode_utf8_all, all_scalars};
 ghost use Rattle.cfg_json.specs.declared.member.Member.{Member};
 ghost use Rattle.cfg_types.specs.Moment.{Moment};
 ghost use Rattle.cfg_json.specs.Dates.{IsDateText, IsOffsetDateText, IsWrittenDate};
+ghost use Rattle.cfg_json.specs.Documents.{date_in, offset_date_in};
 ghost use Rattle.cfg_json.specs.Strings.{IsString};
 ghost use Rattle.cfg_json.specs.Writing.{quoted, braced};
 ghost use Rattle.cfg_json.specs.WrittenObjects.{WrittenObject, members_text, HasScalars, Nests, told, told_member};
@@ -29,6 +30,13 @@ pub fn written_dates_stand_for_their_moments()
 /// A text of a date stands for one moment.
 pub fn dates_stand_for_one_moment()
     ensures { (text : List ℕ) (m n : Moment) → IsOffsetDateText text m → IsOffsetDateText text n → m ≡ n }
+{}
+
+/// A document's date is the moment that its text stands for, in UTC, and in a process document also
+/// with an offset.
+pub fn documents_read_dates_as_they_stand()
+    ensures utc { (text : List ℕ) (m : Moment) → all_scalars text ≡ true → (date_in text ≡ Some m) ↔ IsDateText text m }
+    ensures offset { (text : List ℕ) (m : Moment) → all_scalars text ≡ true → (offset_date_in text ≡ Some m) ↔ IsOffsetDateText text m }
 {}
 
 /// A string that is written is, in UTF-8, a string of these characters.
