@@ -1,4 +1,5 @@
 -- What the answer of a derivation tells of its part of the journal.
+use Rattle.std.specs.Option.{option_or}
 use Rattle.std.proofs.Common.{◌≡◌, ℕ, false, List, [], ◌∷◌, ◌++◌, Option, Some, None, Result, Ok, Err, refl, sym, ap, ◌∙◌, subst, append-nil}
 use Rattle.std.specs.Prelude.{IfSome, is_some, is_none, is_ok}
 use Rattle.cfg_types.specs.Keys.{Keys}
@@ -14,7 +15,7 @@ use Rattle.cfg_world.proofs.Inquiries.{split_after}
 use Rattle.cfg_chain.specs.declared.profile_chain.RoleArn.{RoleArn}
 use Rattle.cfg_chain.specs.Configuration.{Configuration}
 use Rattle.cfg_chain.specs.Derivation.{session_name, request, granted, in_role, exchange, assumes, derives}
-use Rattle.cfg_chain.specs.Causes.{or_else, error_of, exchange_failure, first_failure, named_variable, is_not_loaded_answer, told_fault, tells_role}
+use Rattle.cfg_chain.specs.Causes.{error_of, exchange_failure, first_failure, named_variable, is_not_loaded_answer, told_fault, tells_role}
 
 -- the answer of one role
 record Assumed (part : List Pair) (out : Result Keys CredentialsError) : Type 0 where
@@ -22,17 +23,17 @@ record Assumed (part : List Pair) (out : Result Keys CredentialsError) : Type 0 
   is : out ≡ in_role given
   failure : first_failure part ≡ error_of given
 
-or_none : {T : Type 0} (o : Option T) → or_else o None ≡ o
+or_none : {T : Type 0} (o : Option T) → option_or o None ≡ o
 or_none None = refl
 or_none (Some x) = refl
 
-or_else-assoc : {T : Type 0} (a b c : Option T) → or_else a (or_else b c) ≡ or_else (or_else a b) c
-or_else-assoc None b c = refl
-or_else-assoc (Some x) b c = refl
+option_or-assoc : {T : Type 0} (a b c : Option T) → option_or a (option_or b c) ≡ option_or (option_or a b) c
+option_or-assoc None b c = refl
+option_or-assoc (Some x) b c = refl
 
-first_failure-append : (p q : List Pair) → first_failure (p ++ q) ≡ or_else (first_failure p) (first_failure q)
+first_failure-append : (p q : List Pair) → first_failure (p ++ q) ≡ option_or (first_failure p) (first_failure q)
 first_failure-append [] q = refl
-first_failure-append (e ∷ p) q = ap (or_else (exchange_failure e.0 e.1)) (first_failure-append p q) ∙ or_else-assoc (exchange_failure e.0 e.1) (first_failure p) (first_failure q)
+first_failure-append (e ∷ p) q = ap (option_or (exchange_failure e.0 e.1)) (first_failure-append p q) ∙ option_or-assoc (exchange_failure e.0 e.1) (first_failure p) (first_failure q)
 
 sent : (r : Request) (part : List Pair) (out : Result Keys CredentialsError) → Reads (after (sending r) (λ answer. Done (in_role (granted answer)))) part out → Assumed part out
 unfolding sending
@@ -40,7 +41,7 @@ sent r [] out h = absurd h
 sent r (e ∷ []) out h = record {
   given = granted (reply_of e.1);
   is = sym h.1;
-  failure = ap (λ q. or_else (exchange_failure q e.1) None) h.0 ∙ or_none (error_of (granted (reply_of e.1)));
+  failure = ap (λ q. option_or (exchange_failure q e.1) None) h.0 ∙ or_none (error_of (granted (reply_of e.1)));
 }
 sent r (e ∷ f ∷ part) out h = absurd h.1
 
@@ -51,7 +52,7 @@ assumed_named conf role signer (Some name) part out h = sent (request conf role 
 assumed_named conf role signer None [] out h = absurd h
 assumed_named conf role signer None (e ∷ part) out h =
     let a = sent _ part out h.1 in
-    record { given = a.given; is = a.is; failure = ap (λ q. or_else (exchange_failure q e.1) (first_failure part)) h.0 ∙ a.failure }
+    record { given = a.given; is = a.is; failure = ap (λ q. option_or (exchange_failure q e.1) (first_failure part)) h.0 ∙ a.failure }
 
 assumed : (conf : Configuration) (signer : Keys) (role : RoleArn) (part : List Pair) (out : Result Keys CredentialsError) → Reads (assumes conf signer role) part out → Assumed part out
 unfolding assumes
@@ -94,7 +95,7 @@ then_others : (conf : Configuration) (roles : List RoleArn) (journal part rest :
     Reads (if_ok (derives conf roles) (in_role given)) rest out → Derived journal out
 then_others conf roles journal part rest (Ok keys) out parts failure others h =
     let d = others keys h in
-    let same : first_failure rest ≡ first_failure journal = sym (ap first_failure parts ∙ first_failure-append part rest ∙ ap (λ o. or_else o (first_failure rest)) failure) in
+    let same : first_failure rest ≡ first_failure journal = sym (ap first_failure parts ∙ first_failure-append part rest ∙ ap (λ o. option_or o (first_failure rest)) failure) in
     record {
       not_loaded = d.not_loaded;
       named = d.named;

@@ -1,4 +1,5 @@
 -- Which answer of the default chain comes where.
+use Rattle.std.specs.Option.{option_or}
 use Rattle.std.specs.Prelude.{◌≡◌, ℕ, List, [], ◌∷◌, Bool, true, false, not, ◌&&◌, ◌||◌, Option, Some, None, IfSome, is_some, is_none, is_ok, Result, Ok, Err, codes, if◌then◌else◌}
 use Rattle.std.specs.List.{list_all}
 use Rattle.cfg_types.specs.Keys.{Keys}
@@ -72,10 +73,6 @@ fault_of_plan (Err e) = if is_not_loaded_error e then None else Some e
 abbrev pub fault : Configuration → Option ProfileFileError
 fault conf = if environment_is_passed_over conf.environment then fault_of_plan (plan conf) else None
 
-abbrev pub or_else : {T : Type 0} → Option T → Option T → Option T
-or_else (Some x) other = Some x
-or_else None other = other
-
 abbrev pub error_of : Result Keys CredentialsError → Option CredentialsError
 error_of (Ok keys) = None
 error_of (Err e) = Some e
@@ -88,7 +85,7 @@ exchange_failure (Send request) answer = error_of (granted (reply_of answer))
 -- the first exchange of a journal's part that gives no credentials
 abbrev pub first_failure : List Pair → Option CredentialsError
 first_failure [] = None
-first_failure (e ∷ part) = or_else (exchange_failure e.0 e.1) (first_failure part)
+first_failure (e ∷ part) = option_or (exchange_failure e.0 e.1) (first_failure part)
 
 -- the variable that stops the environment, since it is not Unicode
 abbrev pub unreadable_variable : Variables → Option (List ℕ)

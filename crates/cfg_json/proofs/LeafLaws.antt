@@ -1,4 +1,5 @@
 -- Keys, and values that do not nest, are read as the grammar says, and what is read is one.
+use Rattle.std.specs.Option.{option_or}
 use Rattle.std.proofs.Common.{◌≡◌, ℕ, ◌⊎◌, inl, inr, List, [], ◌∷◌, ◌++◌, length, drop, Bool, true, false, Option, Some, None, refl, sym, ap, subst, ◌∙◌, append_assoc}
 use Rattle.std.specs.Prelude.{◌==◌, nat_eq, codes}
 use Rattle.std.specs.Char.{is_ascii_digit}
@@ -8,7 +9,7 @@ use Rattle.std.proofs.lemmas.Bool.Decides.{Decides-eqb}
 use Rattle.std.proofs.lemmas.Slice.Eq.{starts_is}
 use Rattle.cfg_json.specs.Blanks.{is_blank, AreBlanks}
 use Rattle.cfg_json.specs.Characters.{quote}
-use Rattle.cfg_json.specs.Gives.{◌>>=◌, or_else}
+use Rattle.cfg_json.specs.Gives.{◌>>=◌}
 use Rattle.cfg_json.specs.Numbers.{IsWhole, IsMinus, IsNumber}
 use Rattle.cfg_json.specs.Strings.{IsString}
 use Rattle.cfg_json.specs.Values.{colon, IsWord, IsKey, IsValue}
@@ -30,7 +31,7 @@ front_takes front t r e =
 pub word_takes : (t r : List ℕ) → word_at t ≡ given r → (w : List ℕ) × (t ≡ w ++ r) × IsWord w
 unfolding word_at
 word_takes t r e =
-    elim (either (after_front (codes "true") t) (or_else (after_front (codes "false") t) (after_front (codes "null") t)) r e) [
+    elim (either (after_front (codes "true") t) (option_or (after_front (codes "false") t) (after_front (codes "null") t)) r e) [
       | inl a ↦ (codes "true", front_takes (codes "true") t r a, inl refl)
       | inr b ↦ (elim (either (after_front (codes "false") t) (after_front (codes "null") t) r b) [
         | inl a ↦ (codes "false", front_takes (codes "false") t r a, inr (inl refl))

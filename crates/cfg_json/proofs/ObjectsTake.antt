@@ -1,4 +1,5 @@
 -- What is read as an object is spelled so.
+use Rattle.std.specs.Option.{option_or}
 use Rattle.std.proofs.Common.{◌≡◌, ℕ, zero, suc, ◌+◌, ◌-◌, inl, inr, List, [], ◌∷◌, ◌++◌, length, take, Bool, true, false, cond, Option, Some, refl, sym, ap, subst, ◌∙◌, append_assoc, arith, length-append}
 use Rattle.std.specs.Prelude.{◌||◌, ◌==◌}
 use Rattle.std.proofs.lemmas.Bool.{or_cases, eqb-true}
@@ -7,7 +8,7 @@ use Rattle.std.proofs.lemmas.List.{take_at}
 use Rattle.cfg_types.specs.Text.{characters}
 use Rattle.cfg_types.proofs.TextLemmas.{characters-chars}
 use Rattle.cfg_json.specs.Characters.{quote}
-use Rattle.cfg_json.specs.Gives.{◌>>=◌, or_else}
+use Rattle.cfg_json.specs.Gives.{◌>>=◌}
 use Rattle.cfg_json.specs.Values.{comma, IsValue}
 use Rattle.cfg_json.specs.Objects.{inner_depth, IsMemberValue, IsMember, AreMembers, IsObject}
 use Rattle.cfg_json.specs.Reading.{after_blanks, number_at, word_at, string_at, utf8_of}
@@ -134,9 +135,9 @@ pub value_takes_at : (total at : ℕ) (t : List ℕ) (r : ReadValue) → total �
 unfolding member_value_at
 value_takes_at total at [] r is e = absurd (none_is r e)
 value_takes_at total at (x ∷ t) r is e =
-    elim (chosen (x == quote) (text_value_at t) (cond ((x == 123) || (x == 91)) (nested_value_at total (x == 123) (x ∷ t)) (or_else (word_value_at (x ∷ t)) (number_value_at (x ∷ t)))) (given r) e) [
+    elim (chosen (x == quote) (text_value_at t) (cond ((x == 123) || (x == 91)) (nested_value_at total (x == 123) (x ∷ t)) (option_or (word_value_at (x ∷ t)) (number_value_at (x ∷ t)))) (given r) e) [
       | inl w ↦ subst (λ (y : ℕ). ValueFront at (y ∷ t) r.0 r.1) (sym (eqb-true x quote w.0)) (text_takes at t r w.1)
-      | inr w ↦ (elim (chosen ((x == 123) || (x == 91)) (nested_value_at total (x == 123) (x ∷ t)) (or_else (word_value_at (x ∷ t)) (number_value_at (x ∷ t))) (given r) w.1) [
+      | inr w ↦ (elim (chosen ((x == 123) || (x == 91)) (nested_value_at total (x == 123) (x ∷ t)) (option_or (word_value_at (x ∷ t)) (number_value_at (x ∷ t))) (given r) w.1) [
         | inl v ↦ nested_takes total at x t r is v.0 v.1
         | inr v ↦ (elim (either (word_value_at (x ∷ t)) (number_value_at (x ∷ t)) r v.1) [
           | inl a ↦ word_value_takes at (x ∷ t) r a

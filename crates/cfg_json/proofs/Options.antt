@@ -1,6 +1,7 @@
 -- What follows from what an option is.
+use Rattle.std.specs.Option.{option_or}
 use Rattle.std.proofs.Common.{◌≡◌, ◌⊎◌, inl, inr, Bool, true, false, cond, Option, Some, None, refl}
-use Rattle.cfg_json.specs.Gives.{◌>>=◌, or_else}
+use Rattle.cfg_json.specs.Gives.{◌>>=◌}
 
 abbrev pub given : {A : Type 0} → A → Option A
 given x = Some x
@@ -26,6 +27,6 @@ pub tested : {A : Type 0} (b : Bool) (x y : A) → cond b (given x) nothing ≡ 
 tested true x y e = (refl, given_is x y e)
 tested false x y e = absurd (none_is y e)
 
-pub either : {A : Type 0} (r s : Option A) (y : A) → or_else r s ≡ given y → (r ≡ Some y) ⊎ (s ≡ Some y)
+pub either : {A : Type 0} (r s : Option A) (y : A) → option_or r s ≡ given y → (r ≡ Some y) ⊎ (s ≡ Some y)
 either (Some x) s y e = inl e
 either None s y e = inr e

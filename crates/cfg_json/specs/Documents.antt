@@ -1,8 +1,8 @@
 -- Documents of credentials: their fields, over the last text of a name.
+use Rattle.std.specs.Option.{option_or}
 use Rattle.std.specs.Prelude.{◌≡◌, ℕ, ◌⊎◌, List, [], true, false, Option, Some, None, Result, Ok, Err, codes, unwrap_or, if◌then◌else◌, ℤ, FitsSigned, pos}
 use Rattle.std.specs.Int.{w32}
 use Rattle.std.specs.Ordering.{int_eq}
-use Rattle.cfg_json.specs.Gives.{or_else}
 use Rattle.std.specs.Str.{encode_utf8_all, bytes_eq}
 use Rattle.std.specs.Str.Parse.{IsNumeral, without_leading_sign, signed_digits_value}
 use Rattle.cfg_types.specs.Moment.{Moment}
@@ -170,7 +170,7 @@ process_of ms version account =
       secret_access_key = secret;
       session_token = field_text ms field.SessionToken field.SessionToken;
       expiry = end;
-      account_id = or_else (field_text ms field.AccountId field.AccountId) account;
+      account_id = option_or (field_text ms field.AccountId field.AccountId) account;
       provider_name = codes "CredentialProcess";
       features = [];
     })

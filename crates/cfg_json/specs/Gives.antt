@@ -8,11 +8,6 @@ abbrev pub ◌>>=◌ : {A B : Type 0} → Option A → (A → Option B) → Opti
 (Some x) >>= f = f x
 None >>= f = None
 
--- the first that is there
-abbrev pub or_else : {A : Type 0} → Option A → Option A → Option A
-or_else (Some x) other = Some x
-or_else None other = other
-
 -- a refusal stands for nothing read, or for want of memory
 abbrev pub Fails : {Y : Type 0} → JsonError → Option Y → Type 0
 Fails json.NotObject read = ⊥

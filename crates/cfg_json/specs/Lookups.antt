@@ -1,7 +1,7 @@
 -- The last member of a name.
+use Rattle.std.specs.Option.{option_or}
 use Rattle.std.specs.Prelude.{ℕ, List, [], ◌∷◌, Bool, ◌||◌, Option, Some, None, if◌then◌else◌}
 use Rattle.std.specs.Str.{encode_utf8_all, str_eq_ignore_ascii_case}
-use Rattle.cfg_json.specs.Gives.{or_else}
 use Rattle.cfg_json.specs.declared.member.Member.{Member}
 use Rattle.cfg_json.specs.declared.member.MemberValue.{MemberValue}
 use Rattle.cfg_json.specs.declared.member.MemberValue.TheVariants as value
@@ -35,7 +35,7 @@ number_under name m = if is_named name name m.key then number_in m.value else No
 -- what the last member gives that gives something
 abbrev pub last_given : {A : Type 0} → (Member → Option A) → List Member → Option A
 last_given give [] = None
-last_given give (m ∷ ms) = or_else (last_given give ms) (give m)
+last_given give (m ∷ ms) = option_or (last_given give ms) (give m)
 
 -- the last text under a name, or under another one
 abbrev pub last_text : List ℕ → List ℕ → List Member → Option (List ℕ)

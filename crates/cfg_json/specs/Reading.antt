@@ -1,10 +1,11 @@
 -- Reading from left to right: white space, numbers, words and strings.
+use Rattle.std.specs.Option.{option_or}
 use Rattle.std.specs.Prelude.{ℕ, zero, suc, ◌+◌, List, [], ◌∷◌, Bool, false, not, ◌&&◌, ◌||◌, ◌==◌, Option, Some, None, option_map, if◌then◌else◌, take, drop, length, codes, nat_eq}
 use Rattle.std.specs.Char.{is_ascii_digit}
 use Rattle.std.specs.List.{starts_with}
 use Rattle.std.specs.Str.{is_utf8}
 use Rattle.cfg_types.specs.Text.{characters}
-use Rattle.cfg_json.specs.Gives.{◌>>=◌, or_else}
+use Rattle.cfg_json.specs.Gives.{◌>>=◌}
 use Rattle.cfg_json.specs.Characters.{quote, backslash, lower_u, is_plain, short_escape, code_unit, is_high, is_low, pair_char}
 use Rattle.cfg_json.specs.Blanks.{is_blank}
 
@@ -57,7 +58,7 @@ after_front front t = if starts_with nat_eq t front then Some (drop (length fron
 
 -- what follows the word at the front
 unfoldable pub word_at : List ℕ → Option (List ℕ)
-word_at t = or_else (after_front (codes "true") t) (or_else (after_front (codes "false") t) (after_front (codes "null") t))
+word_at t = option_or (after_front (codes "true") t) (option_or (after_front (codes "false") t) (after_front (codes "null") t))
 
 -- Strings. The characters are those between the quotation marks.
 

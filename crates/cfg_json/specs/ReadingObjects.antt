@@ -1,9 +1,10 @@
 -- Reading the outer object from left to right. Places are told by how many bytes are left, of the total.
+use Rattle.std.specs.Option.{option_or}
 use Rattle.std.specs.Prelude.{ℕ, zero, suc, ◌-◌, List, [], ◌∷◌, ◌++◌, length, take, Bool, true, false, ◌||◌, ◌==◌, Option, Some, None, Result, Ok, Err, if◌then◌else◌}
 use Rattle.cfg_types.specs.Text.{characters}
 use Rattle.cfg_types.specs.declared.document.JsonError.{JsonError}
 use Rattle.cfg_types.specs.declared.document.JsonError.TheVariants as json
-use Rattle.cfg_json.specs.Gives.{◌>>=◌, or_else}
+use Rattle.cfg_json.specs.Gives.{◌>>=◌}
 use Rattle.cfg_json.specs.Characters.{quote}
 use Rattle.cfg_json.specs.Values.{comma}
 use Rattle.cfg_json.specs.Objects.{inner_depth}
@@ -35,7 +36,7 @@ word_value_at t = word_at t >>= λ r. Some (value.Other, r)
 
 unfoldable pub member_value_at : ℕ → List ℕ → Option ReadValue
 member_value_at total [] = None
-member_value_at total (x ∷ t) = if x == quote then text_value_at t else (if (x == 123) || (x == 91) then nested_value_at total (x == 123) (x ∷ t) else or_else (word_value_at (x ∷ t)) (number_value_at (x ∷ t)))
+member_value_at total (x ∷ t) = if x == quote then text_value_at t else (if (x == 123) || (x == 91) then nested_value_at total (x == 123) (x ∷ t) else option_or (word_value_at (x ∷ t)) (number_value_at (x ∷ t)))
 
 unfoldable pub member_at : ℕ → List ℕ → Option (Member × List ℕ)
 member_at total t = key_at t >>= λ k. member_value_at total (after_blanks k.1) >>= λ v. Some (record { key = k.0; value = v.0 }, after_blanks v.1)

@@ -1,6 +1,7 @@
 -- Reading a value from left to right: whether an object stands in it, and what follows it.
+use Rattle.std.specs.Option.{option_or}
 use Rattle.std.specs.Prelude.{ℕ, zero, suc, List, [], ◌∷◌, length, Bool, true, false, ◌||◌, ◌==◌, Option, Some, None, if◌then◌else◌}
-use Rattle.cfg_json.specs.Gives.{◌>>=◌, or_else}
+use Rattle.cfg_json.specs.Gives.{◌>>=◌}
 use Rattle.cfg_json.specs.Characters.{quote}
 use Rattle.cfg_json.specs.Values.{comma, colon, close_of}
 use Rattle.cfg_json.specs.Reading.{after_blanks, mark_at, number_at, word_at, string_at}
@@ -13,7 +14,7 @@ or_front has read = read >>= λ q. Some (has || q.0, q.1)
 
 -- a number or a word
 unfoldable pub scalar_at : List ℕ → Option (List ℕ)
-scalar_at t = or_else (word_at t) (number_at t)
+scalar_at t = option_or (word_at t) (number_at t)
 
 -- a value that does not nest
 unfoldable pub leaf_at : List ℕ → Option Read

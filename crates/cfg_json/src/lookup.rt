@@ -1,7 +1,7 @@
 // The last member of a name.
 ghost use Rattle.std.specs.Prelude.{◌≡◌, option_map};
 ghost use Rattle.std.specs.Str.{str_eq_ignore_ascii_case, encode_utf8_all};
-ghost use Rattle.cfg_json.specs.Gives.{or_else as first_of};
+ghost use Rattle.std.specs.Option.{option_or};
 ghost use Rattle.cfg_json.specs.Lookups.{is_named, text_under, number_under, last_text as last_text_of, last_number as last_number_of};
 
 use crate::member::{Member, MemberValue};
@@ -45,7 +45,7 @@ fn number_of<'a>(member: &'a Member, name: &str) -> Option<&'a Text>
 }
 
 fn or_else<'a>(text: Option<&'a Text>, other: Option<&'a Text>) -> Option<&'a Text>
-    ensures { option_map (λ t. t.now) result ≡ first_of (option_map (λ t. t.now) text.entry) (option_map (λ t. t.now) other.entry) }
+    ensures { option_map (λ t. t.now) result ≡ option_or (option_map (λ t. t.now) text.entry) (option_map (λ t. t.now) other.entry) }
 {
     match text {
         Some(text) => Some(text),

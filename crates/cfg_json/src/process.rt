@@ -1,7 +1,7 @@
 // Documents that a credential process prints.
+ghost use Rattle.std.specs.Option.{option_or};
 ghost use Rattle.std.specs.Prelude.{◌≡◌, IfOk, option_map, None, codes, []};
 ghost use Rattle.cfg_types.specs.Field.{field_name};
-ghost use Rattle.cfg_json.specs.Gives.{or_else};
 ghost use Rattle.cfg_json.specs.Lookups.{last_number as last_number_of};
 ghost use Rattle.cfg_json.specs.Documents.{UnlessMemory, AnswersDocument, ReadsWhole, ReadsVersion, field_text, dated, offset_date_in, known_version, optional_end as end_of, process_of, IsProcessTable};
 
@@ -78,7 +78,7 @@ fn account_of(
     members: &[Member],
     profile: Option<&AccountId>,
 ) -> Result<Option<AccountId>, OutOfMemory>
-    ensures { IfOk result (λ o. o ≡ or_else (field_text members.now Field.AccountId Field.AccountId) (option_map (λ a. a.now) profile.entry)) }
+    ensures { IfOk result (λ o. o ≡ option_or (field_text members.now Field.AccountId Field.AccountId) (option_map (λ a. a.now) profile.entry)) }
 {
     if let Some(text) = find_text(members, Field::AccountId, Field::AccountId) {
         let account = AccountId::new(alloc, text.as_str())?;
