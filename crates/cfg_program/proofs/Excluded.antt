@@ -13,7 +13,7 @@ use Rattle.cfg_program.specs.declared.status.Status.{Status}
 use Rattle.cfg_program.specs.declared.status.Status.TheVariants as status
 use Rattle.cfg_program.specs.declared.words.Word.{Word}
 use Rattle.cfg_program.specs.declared.words.Word.TheVariants.{Help, Version, Resolve}
-use Rattle.cfg_program.specs.declared.words.TheConstants.{HELP, VERSION}
+use Rattle.cfg_program.specs.Texts.{help_text, version_text}
 use Rattle.cfg_program.specs.Lines.{shown}
 use Rattle.cfg_program.specs.Streams.{Told, limit}
 use Rattle.cfg_program.specs.Plans.{plan_is_built}
@@ -152,6 +152,6 @@ words_are_faulty seen status.NotBuilt ends = absurd ends
 
 pub exclude_one_another : (seen : Seen) (word : Option Word) (one other : Status) → AllTold seen → IsTrue (tells_of_input one) → IsTrue (tells_of_input other) → Ends seen word one → Ends seen word other → one ≡ other
 exclude_one_another seen None one other told t u a b = words_are_faulty seen one a ∙ sym (words_are_faulty seen other b)
-exclude_one_another seen (Some Help) one other told t u a b = text_is_done seen HELP.now one t a ∙ sym (text_is_done seen HELP.now other u b)
-exclude_one_another seen (Some Version) one other told t u a b = text_is_done seen VERSION.now one t a ∙ sym (text_is_done seen VERSION.now other u b)
+exclude_one_another seen (Some Help) one other told t u a b = text_is_done seen help_text one t a ∙ sym (text_is_done seen help_text other u b)
+exclude_one_another seen (Some Version) one other told t u a b = text_is_done seen version_text one t a ∙ sym (text_is_done seen version_text other u b)
 exclude_one_another seen (Some Resolve) one other told t u a b = resolving seen one other told t u a b

@@ -1,5 +1,6 @@
 pub mod Statuses
 pub mod Words
+pub mod Texts
 pub mod Streams
 pub mod Inputs
 pub mod Lines

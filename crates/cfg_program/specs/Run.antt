@@ -8,7 +8,7 @@ use Rattle.cfg_program.specs.declared.status.Status.{Status}
 use Rattle.cfg_program.specs.declared.status.Status.TheVariants as status
 use Rattle.cfg_program.specs.declared.words.Word.{Word}
 use Rattle.cfg_program.specs.declared.words.Word.TheVariants.{Help, Version, Resolve}
-use Rattle.cfg_program.specs.declared.words.TheConstants.{HELP, VERSION}
+use Rattle.cfg_program.specs.Texts.{help_text, version_text}
 use Rattle.cfg_program.specs.Streams.{Told, GrowsByFront, limit}
 use Rattle.cfg_program.specs.Calls.{Answers}
 use Rattle.cfg_program.specs.Plans.{plan_is_built}
@@ -86,6 +86,6 @@ EndsForWords seen _ = ⊥
 -- how a run ends that is asked for this, or for nothing that is known
 abbrev pub Ends : Seen → Option Word → Status → Type 0
 Ends seen None ended = EndsForWords seen ended
-Ends seen (Some Help) ended = Tells seen HELP.now ended
-Ends seen (Some Version) ended = Tells seen VERSION.now ended
+Ends seen (Some Help) ended = Tells seen help_text ended
+Ends seen (Some Version) ended = Tells seen version_text ended
 Ends seen (Some Resolve) ended = EndsResolving seen ended

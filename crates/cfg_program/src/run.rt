@@ -1,5 +1,5 @@
 // The top call.
-ghost use Rattle.std.specs.Prelude.{◌≡◌, map, string_bytes};
+ghost use Rattle.std.specs.Prelude.{◌≡◌, ◌≢◌, Some, None, map, string_bytes};
 ghost use Rattle.cfg_script.specs.Reading.{reading};
 ghost use Rattle.cfg_program.specs.Words.{word_named};
 ghost use Rattle.cfg_program.specs.Written.{TextWritten, LineWritten};
@@ -36,6 +36,8 @@ pub fn run<S: Source, K: Sink, D: Devices>(
       sink_faults = K.faults sink.old;
       sink_faults_after = K.faults sink.new;
     }) (word_named (map (λ w. string_bytes w) words.now)) result }
+    ensures unread { word_named (map (λ w. string_bytes w) words.now) ≢ Some Word.Resolve → source.new ≡ source.old }
+    ensures unwritten { word_named (map (λ w. string_bytes w) words.now) ≡ None → sink.new ≡ sink.old }
     ensures world { world.new ≡ world.old }
 {
     match word_of(words) {

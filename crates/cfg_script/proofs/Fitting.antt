@@ -1,6 +1,6 @@
 -- What a script says fits the devices that it is said of.
-use Rattle.std.proofs.Common.{◌≡◌, ℕ, List, [], ◌∷◌, Bool, true, false, cond, Option, Some, None, Result, Ok, Err, refl, sym, ap, ◌∙◌, subst, arith, rules}
-use Rattle.std.specs.Prelude.{ℤ, pos, negsuc, ◌≤ℤ◌, All, bytes_eq, codes, option_map, ok_or, int_lt, IfOk, if◌then◌else◌}
+use Rattle.std.proofs.Common.{◌≡◌, ℕ, List, [], ◌∷◌, Bool, true, false, cond, Option, Some, None, Result, Ok, Err, refl, ap, subst, arith}
+use Rattle.std.specs.Prelude.{ℤ, pos, negsuc, ◌≤ℤ◌, bytes_eq, codes, option_map, ok_or, int_lt, IfOk, if◌then◌else◌}
 use Rattle.std.proofs.lemmas.Int.{ints}
 use Rattle.std.specs.List.{AllByRecursion}
 use Rattle.std.proofs.lemmas.List.Elements.{All-from_recursion}
@@ -17,7 +17,7 @@ use Rattle.cfg_script.specs.Names.{every_name, is_built, is_built_reply, names_u
 use Rattle.cfg_script.specs.Moments.{moment_from, clock_from}
 use Rattle.cfg_script.specs.Variables.{variable_from, section_from}
 use Rattle.cfg_script.specs.Replies.{fail_kind, reply_from, object_reply, replies_in, replies_from}
-use Rattle.cfg_script.specs.Script.{Plain, Refused, NoScript, NotBuilt, plain}
+use Rattle.cfg_script.specs.Script.{Plain, NoScript, NotBuilt, plain}
 use Rattle.cfg_script.specs.Reading.{ScriptParts, script_parts_in, plain_of, plain_from, members_reading, object_reading, json_value, reading}
 use Rattle.cfg_script.specs.Devices.{lists_of}
 use Rattle.cfg_script.specs.Gives.{Tells}

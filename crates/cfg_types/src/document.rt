@@ -137,12 +137,14 @@ impl fmt::Display for JsonError {
 
     ghost output = { λ e. Some (json_error_text e) };
 
+    ghost styled_output = { λ e _. Some (json_error_text e) };
+
     fn fmt<W: fmt::Write>(&self, f: &mut fmt::Formatter<W>) -> fmt::Result {
         match self {
-            JsonError::NotObject => write!(f, "expected a JSON document starting with `{{`"),
-            JsonError::Syntax => write!(f, "malformed JSON"),
-            JsonError::More => write!(f, "found more JSON tokens after completing parsing"),
-            JsonError::OutOfMemory => write!(f, "out of memory"),
+            JsonError::NotObject => f.write_str("expected a JSON document starting with `{`"),
+            JsonError::Syntax => f.write_str("malformed JSON"),
+            JsonError::More => f.write_str("found more JSON tokens after completing parsing"),
+            JsonError::OutOfMemory => f.write_str("out of memory"),
         }
     }
 }
@@ -155,9 +157,10 @@ impl fmt::Display for Field {
 
     ghost output = { λ e. Some (field_name e) };
 
+    ghost styled_output = { λ e _. Some (field_name e) };
+
     fn fmt<W: fmt::Write>(&self, f: &mut fmt::Formatter<W>) -> fmt::Result {
-        let name = self.as_str();
-        write!(f, "{name}")
+        f.write_str(self.as_str())
     }
 }
 

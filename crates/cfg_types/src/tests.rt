@@ -313,8 +313,13 @@ fn secrets_are_not_shown(rt: HostRuntime) -> Result<(), Fail> {
     let shown = format!(in rt.alloc(); "{one:?}")?;
     assert_eq!(rt; shown.as_str(), format!(in rt.alloc(); "{two:?}")?.as_str());
     assert!(rt; shown.as_str().contains("AKID") && shown.as_str().contains("Environment"));
+    let lines = format!(in rt.alloc(); "{one:#?}")?;
+    let one = Boxed::new(rt.alloc(), one)?;
+    let nested = format!(in rt.alloc(); "{one:#?}")?;
     for hidden in ["wJalr", "FwoG", "other"] {
         assert!(rt; !shown.as_str().contains(hidden), "{hidden}");
+        assert!(rt; !lines.as_str().contains(hidden), "{hidden}");
+        assert!(rt; !nested.as_str().contains(hidden), "{hidden}");
     }
     Ok(())
 }

@@ -3,6 +3,7 @@ ghost use Rattle.std.specs.Prelude.{◌≡◌, ◌+◌, ◌≤◌, length, min, 
 ghost use Rattle.cfg_world.specs.Faults.{full_count};
 ghost use Rattle.cfg_world.specs.Script.{AllFit, no_faults, start, step, reading_at, sent_at, sent};
 
+use crate::ask::{Answer, Question};
 use crate::devices::{Devices, Fault};
 use cfg_types::{FailKind, Instant, Reply, Request, Seq, TryCopy};
 use std::alloc::Global;
@@ -60,6 +61,9 @@ impl ScriptDevices {
 }
 
 impl Devices for ScriptDevices {
+    ghost use Rattle.std.specs.Prelude.{Some, Err};
+    ghost use Rattle.cfg_types.specs.declared.reply.FailKind.{FailKind as Kind};
+    ghost use Rattle.cfg_world.specs.Asked.{Asked, answer_of};
     ghost use Rattle.cfg_world.specs.Script.{Allows, Stands};
 
     ghost faults = { λ s. s.faults };
@@ -68,13 +72,21 @@ impl Devices for ScriptDevices {
 
     ghost stands = { Stands };
 
-    fn now(&mut self) -> Instant {
+    fn now(&mut self) -> Instant
+        ensures asked { Asked self.old.faults self.new.faults (Allows self.old) (Allows self.new) (Stands self.old) (Stands self.new) Question.Now (Some (Answer.Moment result)) }
+        ensures quiet { self.new.faults ≡ self.old.faults }
+    {
         let moment = reading(&self.lists.clock, self.clock);
         self.clock = stepped(self.clock, &self.lists.clock);
         moment
     }
 
-    fn send(&mut self, request: &Request) -> Result<Reply, Fault> {
+    fn send(&mut self, request: &Request) -> Result<Reply, Fault>
+        ensures asked { Asked self.old.faults self.new.faults (Allows self.old) (Allows self.new) (Stands self.old) (Stands self.new) (Question.Send request.now) (answer_of Answer.Replied result) }
+        ensures quiet { IfOk result (λ reply. self.new.faults ≡ self.old.faults) }
+        ensures once { (kind : Kind) → result ≡ Err (Fault.Failed kind) → self.new.faults ≡ record self.old.faults { transport = min (self.old.faults.transport + 1) full_count } }
+        ensures memory { result ≡ Err Fault.OutOfMemory → self.new ≡ self.old }
+    {
         match request {
             Request::AssumeRole(_) => {
                 let sent = taken(self.alloc, &self.lists.assume_role, self.assume_role)?;

@@ -1,7 +1,6 @@
 //! The default chain of credentials providers.
 ghost use Rattle.std.specs.Prelude.{◌≡◌, IfOk, true, false};
-ghost use Rattle.cfg_world.specs.Grows.{Stopped};
-ghost use Rattle.cfg_chain.specs.Provides.{Provides};
+ghost use Rattle.cfg_chain.specs.Provides.{Provides, Interrupted};
 ghost use Rattle.cfg_chain.specs.Causes.{is_memory};
 ghost use Rattle.cfg_chain.specs.Setups.{nothing_set, built_by};
 
@@ -137,7 +136,7 @@ impl DefaultCredentialsChain {
         world: &mut World<D>,
     ) -> Result<Credentials, CredentialsError>
         ensures provides { is_memory result ≡ false → Provides ⟦<D as Devices>⟧ self.now kept.old world.old world.new result }
-        ensures stays { is_memory result ≡ true → Stopped ⟦<D as Devices>⟧ world.old world.new }
+        ensures stays { is_memory result ≡ true → Interrupted ⟦<D as Devices>⟧ self.now world.old world.new }
         ensures kept { kept.new ≡ kept.old }
     {
         match follow_chain(self.alloc, &self.config, &MEMBERS, world) {

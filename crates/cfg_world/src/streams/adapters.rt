@@ -1,7 +1,7 @@
 // The standard library's readers and writers as sources and sinks.
-ghost use Rattle.std.specs.Prelude.{◌≡◌, ◌≤◌, ◌<◌, Err, IfOk, IfErr, length};
+ghost use Rattle.std.specs.Prelude.{◌≡◌, ◌+◌, ◌≤◌, ◌<◌, min, Ok, Err, IfOk, IfErr, length};
 ghost use Rattle.std.specs.Io.KnownBytes.{ReadConsumes, WriteAppends};
-ghost use Rattle.cfg_world.specs.Faults.{Rose};
+ghost use Rattle.cfg_world.specs.Faults.{Rose, full_count};
 
 use crate::streams::{Sink, Source, StreamFault};
 use std::io::{Read, Write};
@@ -37,6 +37,8 @@ impl<R: Read + Drop> Source for ReaderSource<R> {
         ensures bytes { ReadConsumes (R.remaining (reader_of self.old)) (R.remaining (reader_of self.new)) result into.new }
         ensures counted { reader_faults self.old ≤ reader_faults self.new }
         ensures failed { result ≡ Err StreamFault.Failed → Rose (reader_faults self.old) (reader_faults self.new) }
+        ensures quiet { IfOk result (λ n. reader_faults self.new ≡ reader_faults self.old) }
+        ensures once { IfErr result (λ e. reader_faults self.new ≡ min (reader_faults self.old + 1) full_count) }
         ensures memory { IfErr result (λ e. e ≡ StreamFault.Failed) }
     {
         match self.reader.read(into) {
@@ -47,7 +49,7 @@ impl<R: Read + Drop> Source for ReaderSource<R> {
 }
 
 /// A writer as a sink. Each error of the writer is a fault, and so is each write that takes nothing
-/// of something.
+/// of something. Of nothing, the writer is not asked to take any.
 #[derive(Drop)]
 pub struct WriterSink<W: Write + Drop> {
     writer: W,
@@ -79,10 +81,16 @@ impl<W: Write + Drop> Sink for WriterSink<W> {
         ensures bytes { WriteAppends (W.contents (writer_of self.old)) (W.contents (writer_of self.new)) result bytes.now }
         ensures counted { writer_faults self.old ≤ writer_faults self.new }
         ensures failed { result ≡ Err StreamFault.Failed → Rose (writer_faults self.old) (writer_faults self.new) }
+        ensures quiet { IfOk result (λ n. writer_faults self.new ≡ writer_faults self.old) }
+        ensures once { IfErr result (λ e. writer_faults self.new ≡ min (writer_faults self.old + 1) full_count) }
         ensures memory { IfErr result (λ e. e ≡ StreamFault.Failed) }
+        ensures empty { length bytes.now ≡ 0 → result ≡ Ok 0 }
     {
+        if bytes.is_empty() {
+            return Ok(0);
+        }
         match self.writer.write(bytes) {
-            Ok(n) if n > 0 || bytes.is_empty() => Ok(n),
+            Ok(n) if n > 0 => Ok(n),
             Ok(_) => Err(count(&mut self.faults)),
             Err(_) => Err(count(&mut self.faults)),
         }
@@ -94,6 +102,7 @@ pub(crate) fn count(faults: &mut u64) -> StreamFault
     ensures failed { result ≡ StreamFault.Failed }
     ensures later { faults.old ≤ faults.new }
     ensures rose { Rose faults.old faults.new }
+    ensures once { faults.new ≡ min (faults.old + 1) full_count }
 {
     *faults = faults.saturating_add(1);
     StreamFault::Failed

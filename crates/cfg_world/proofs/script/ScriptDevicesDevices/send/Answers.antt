@@ -8,16 +8,16 @@ use Rattle.cfg_world.proofs.script.ScriptDevicesDevices.send.Goals as goal
 abbrev at : ℕ → ℕ → Place
 at clock assume_role = record { clock = clock; assume_role = assume_role }
 
-pub returns-in-Ok : goal.returns-in-Ok
-returns-in-Ok c =
+pub returns-in-Ok-clause-asked : goal.returns-in-Ok-clause-asked
+returns-in-Ok-clause-asked c =
     let place = at c.self.inside.clock c.self.inside.assume_role in
     answered _ _ _ _ _ c.self.view_is (answer.Replied c.in-Ok.reply) c.self.invariant
     (ap sent (sym c.in-Ok.is) ∙ c.in_ok-sent.ensures.item ∙ sym (sends c.self.inside.lists place c.args.request.now))
     (ap (at c.self.inside.clock) c.stepped-self-inside.ensures ∙ sym (moves c.self.inside.lists place c.args.request.now))
     (nothing_counted _ _ _ refl)
 
-pub returns-in-Err : goal.returns-in-Err
-returns-in-Err c =
+pub returns-in-Err-clause-asked : goal.returns-in-Err-clause-asked
+returns-in-Err-clause-asked c =
     let place = at c.self.inside.clock c.self.inside.assume_role in
     answered _ _ _ _ _ c.self.view_is (answer.Failed c.in-Err.kind) c.self.invariant
     (ap sent (sym c.in-Err.is) ∙ c.in_ok-sent.ensures.item ∙ sym (sends c.self.inside.lists place c.args.request.now))

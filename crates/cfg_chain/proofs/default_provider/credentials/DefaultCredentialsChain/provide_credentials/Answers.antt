@@ -1,8 +1,10 @@
 -- The world's journal gained the parts of the chain, and so the answer has its cause.
 use Rattle.std.proofs.Common.{[], subst}
-use Rattle.cfg_chain.specs.Resolves.{Resolves}
+use Rattle.cfg_world.specs.Inquiry.{Begun}
+use Rattle.cfg_chain.specs.Chains.{chain}
+use Rattle.cfg_chain.specs.Resolves.{Resolves, default_members}
 use Rattle.cfg_chain.specs.Causes.{HasCause}
-use Rattle.cfg_chain.proofs.Providing.{resolved}
+use Rattle.cfg_chain.proofs.Providing.{resolved, read_is_begun}
 use Rattle.cfg_chain.proofs.CauseCases.{has_cause, valid_loaded}
 use Rattle.cfg_chain.proofs.default_provider.credentials.DefaultCredentialsChain.provide_credentials.Goals as goal
 
@@ -18,4 +20,13 @@ returns-in-Ok-clause-provides g c = λ no_want.
       resolves = subst (λ conf. Resolves conf [] e.part out) c.self.view_is parts;
       cause = cause;
       valid = valid_loaded _ e.part out cause;
+    }
+
+pub returns-in-Ok-clause-stays : goal.returns-in-Ok-clause-stays
+returns-in-Ok-clause-stays g c = λ no_memory.
+    let e = c.in-Ok.ensures in
+    record {
+      part = e.part;
+      stays = record { journal = e.grows; same = e.same; counted = e.counted };
+      begun = subst (λ conf. Begun (chain conf default_members []) e.part) c.self.view_is (read_is_begun (chain c.self.inside.config default_members []) e.part c.in-Ok.outcome e.reads);
     }
