@@ -406,6 +406,6 @@ one_moment t m n h k = given_is m n (sym (moment_again true t m h) ∙ moment_ag
 -- a text of scalars reads as the moment that it stands for
 pub reads_as : (offsets : Bool) (text : List ℕ) (m : Moment) → all_scalars text ≡ true → (moment_at offsets (encode_utf8_all text) ≡ Some m) ↔ IsTimeText (Zones offsets) text m
 reads_as offsets text m ok = (
-    λ e. subst (λ (t : List ℕ). IsTimeText (Zones offsets) t m) (characters-encodes text ok) (found_is offsets (encode_utf8_all text) (Some m) (sym e)),
-    λ h. ap (moment_at offsets) (encodes-IsAscii text (time_ascii offsets text m h)) ∙ moment_again offsets text m h,
-  )
+  λ e. subst (λ (t : List ℕ). IsTimeText (Zones offsets) t m) (characters-encodes text ok) (found_is offsets (encode_utf8_all text) (Some m) (sym e)),
+  λ h. ap (moment_at offsets) (encodes-IsAscii text (time_ascii offsets text m h)) ∙ moment_again offsets text m h,
+)

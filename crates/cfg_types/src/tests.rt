@@ -237,6 +237,10 @@ fn values_stand_under_their_names(rt: HostRuntime) -> Result<(), Fail> {
     ] {
         assert_eq!(rt; map.get(name).copied(), value, "{name}");
     }
+    let mut map = TextMap::with_capacity(rt.alloc(), 100)?;
+    assert!(rt; map.is_empty());
+    map.set(String::from_str(rt.alloc(), "a")?, 5)?;
+    assert_eq!(rt; map.get("a").copied(), Some(5));
     Ok(())
 }
 
@@ -276,6 +280,17 @@ fn credentials_have_what_was_set(rt: HostRuntime) -> Result<(), Fail> {
     );
     assert!(rt; credentials.copy(rt.alloc())? == credentials);
     assert!(rt; bare(rt.alloc())?.build() != credentials);
+    Ok(())
+}
+
+#[test]
+fn features_are_added_at_the_end(rt: HostRuntime) -> Result<(), Fail> {
+    let mut credentials = whole(rt.alloc())?;
+    credentials.add_feature(AwsCredentialFeature::CredentialsProfile)?;
+    let features = credentials.features();
+    let last = features.last().copied();
+    assert_eq!(rt; features.len(), 2);
+    assert_eq!(rt; last, Some(AwsCredentialFeature::CredentialsProfile));
     Ok(())
 }
 
