@@ -18,7 +18,7 @@ use Rattle.cfg_program.specs.Lines.{shown}
 use Rattle.cfg_program.specs.Streams.{Told, limit}
 use Rattle.cfg_program.specs.Plans.{plan_is_built}
 use Rattle.cfg_program.specs.Run.{Seen, WasRead, IsScript, WritesLine, EndsResolving, EndsForWords, Tells, Ends}
-use Rattle.cfg_program.specs.Exclusion.{tells_of_input, AllTold}
+use Rattle.cfg_program.specs.Exclusion.{tells_of_input, AllTold, CallsFor}
 
 -- the status that bytes call for, where credentials and an error count as one answer
 abbrev called_for_by : Result Plain Refused → Status
@@ -126,6 +126,40 @@ resolving seen one other told t u a b =
     (λ h k. one_line seen written.0 written.1 (subst (λ s. EndsResolving seen s) h a) (subst (λ s. EndsResolving seen s) k b))
     (λ h k. one_line seen written.0 written.1 (subst (λ s. EndsResolving seen s) k b) (subst (λ s. EndsResolving seen s) h a))
     (as_it_is one) (as_it_is other)
+
+-- a refusal that the input calls for
+refusal_is_called_for : (seen : Seen) (all : List ℕ) → seen.left ≡ Some all → (cause : Status) → CallsFor seen cause → called_for all ≡ cause
+refusal_is_called_for seen all e status.Done h = absurd h
+refusal_is_called_for seen all e status.Refused h = absurd h
+refusal_is_called_for seen all e status.Words h = absurd h
+refusal_is_called_for seen all e status.NoScript h = read_calls_for seen all e h.0 h.1 (Err NoScript) h.2
+refusal_is_called_for seen all e status.SourceFault h = absurd h
+refusal_is_called_for seen all e status.SinkFault h = absurd h
+refusal_is_called_for seen all e status.OutOfMemory h = absurd h
+refusal_is_called_for seen all e status.TooLong h =
+    ap (λ b. cond b status.TooLong (called_for_by (reading all))) (lt-ltb limit (length all) (told_is seen.left all (λ b. limit < length b) e h))
+refusal_is_called_for seen all e status.NotBuilt h = not_built_calls_for seen all e h.bytes h.read h.cause
+
+-- no refusal is credentials or an error
+no_answer : (seen : Seen) (cause : Status) → CallsFor seen cause → one_answer status.Refused ≡ cause → ⊥
+no_answer seen status.Done h e = h
+no_answer seen status.Refused h e = h
+no_answer seen status.Words h e = h
+no_answer seen status.NoScript h e = cc
+no_answer seen status.SourceFault h e = h
+no_answer seen status.SinkFault h e = h
+no_answer seen status.OutOfMemory h e = h
+no_answer seen status.TooLong h e = cc
+no_answer seen status.NotBuilt h e = cc
+
+by_itself : (seen : Seen) (cause ended : Status) → CallsFor seen cause → one_answer ended ≡ cause → (ended ≡ status.Refused) ⊎ (one_answer ended ≡ ended) → ended ≡ cause
+by_itself seen cause ended h e (inl refused) = absurd (no_answer seen cause h (sym (ap one_answer refused) ∙ e))
+by_itself seen cause ended h e (inr same) = sym same ∙ e
+
+pub comes_where_called_for : (seen : Seen) (cause ended : Status) → IsSome seen.left → CallsFor seen cause → IsTrue (tells_of_input ended) → EndsResolving seen ended → ended ≡ cause
+comes_where_called_for seen cause ended told h t ends =
+    let left = some_of seen.left told in
+    by_itself seen cause ended h (sym (is_called_for seen left.0 left.1 ended t ends) ∙ refusal_is_called_for seen left.0 left.1 cause h) (as_it_is ended)
 
 -- a text that was told of ends as done
 text_is_done : (seen : Seen) (text : List ℕ) (s : Status) → IsTrue (tells_of_input s) → Tells seen text s → s ≡ status.Done

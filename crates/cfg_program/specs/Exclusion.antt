@@ -1,8 +1,11 @@
--- Which statuses tell of the words and of the input, and when their causes can be told apart.
-use Rattle.std.specs.Prelude.{Bool, true, false, IsSome}
+-- Which statuses tell of the words and of the input, and what in the input causes a refusal.
+use Rattle.std.specs.Prelude.{◌≡◌, ℕ, ◌<◌, List, length, Bool, true, false, Err, IsSome}
+use Rattle.cfg_script.specs.Script.{NoScript}
+use Rattle.cfg_script.specs.Reading.{reading}
 use Rattle.cfg_program.specs.declared.status.Status.{Status}
 use Rattle.cfg_program.specs.declared.status.Status.TheVariants as status
-use Rattle.cfg_program.specs.Run.{Seen}
+use Rattle.cfg_program.specs.Streams.{Told, limit}
+use Rattle.cfg_program.specs.Run.{Seen, WasRead, IsNotBuilt}
 
 -- all but the statuses of a fault and of memory
 abbrev pub tells_of_input : Status → Bool
@@ -20,3 +23,10 @@ tells_of_input status.NotBuilt = true
 pub record AllTold (seen : Seen) : Type 0 where
   pub left : IsSome seen.left
   pub written : IsSome seen.written
+
+-- the bytes of the input call for this refusal
+abbrev pub CallsFor : Seen → Status → Type 0
+CallsFor seen status.NoScript = (bytes : List ℕ) × WasRead seen bytes × (reading bytes ≡ Err NoScript)
+CallsFor seen status.TooLong = Told seen.left (λ b. limit < length b)
+CallsFor seen status.NotBuilt = IsNotBuilt seen
+CallsFor seen _ = ⊥

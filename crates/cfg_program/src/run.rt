@@ -16,8 +16,9 @@ use cfg_world::{Devices, Sink, Source, StreamFault, World};
 use std::alloc::Global;
 
 /// Does what the words ask for: tells a text, or reads a script from the source and writes the line
-/// of its call to the sink. The words are tested first. Nothing is written before the script was
-/// read to its end. The environment and the world that are handed in are for words that are not
+/// of its call to the sink. The words are tested first: without `resolve` the source stays as it
+/// was, and for faulty words the sink too. Nothing is written before the script was read to its end.
+/// The environment and the world that are handed in are for words that are not
 /// built yet: no word asks them anything.
 pub fn run<S: Source, K: Sink, D: Devices>(
     alloc: Global,

@@ -3,7 +3,7 @@ use crate::laws::{instants_are_equal_as_numbers, instants_are_ordered_as_numbers
 use crate::{
     AccountId, AssumeRole, AwsCredentialFeature, Boxed, Bytes, CallSettings, ConfigCause,
     Credentials, CredentialsBuilder, CredentialsError, Env, EnvText, FailKind, Instant,
-    NotLoadedCause, OutOfMemory, ProfileFileError, ProviderAttempt, ProviderCause,
+    JsonCredentials, NotLoadedCause, OutOfMemory, ProfileFileError, ProviderAttempt, ProviderCause,
     ProviderChainError, Refusal, RefusalKind, Region, Reply, Request, Seq, StsCredentials,
     StsReply, Tag, Text, TextMap, Timeouts, TryCopy, UnhandledCause, VarError, copy_option,
     is_blank, trimmed,
@@ -335,6 +335,25 @@ fn secrets_are_not_shown(rt: HostRuntime) -> Result<(), Fail> {
         assert!(rt; !shown.as_str().contains(hidden), "{hidden}");
         assert!(rt; !lines.as_str().contains(hidden), "{hidden}");
         assert!(rt; !nested.as_str().contains(hidden), "{hidden}");
+    }
+    Ok(())
+}
+
+#[test]
+fn documents_show_no_secrets(rt: HostRuntime) -> Result<(), Fail> {
+    let document = JsonCredentials::RefreshableCredentials {
+        access_key_id: Text::of(rt.alloc(), "AKID")?,
+        secret_access_key: Text::of(rt.alloc(), "wJalr")?,
+        session_token: Text::of(rt.alloc(), "FwoG")?,
+        account_id: None,
+        expiration: Instant::epoch(),
+    };
+    let shown = format!(in rt.alloc(); "{document:?}")?;
+    let lines = format!(in rt.alloc(); "{document:#?}")?;
+    assert!(rt; shown.as_str().contains("AKID"));
+    for hidden in ["wJalr", "FwoG"] {
+        assert!(rt; !shown.as_str().contains(hidden), "{hidden}");
+        assert!(rt; !lines.as_str().contains(hidden), "{hidden}");
     }
     Ok(())
 }

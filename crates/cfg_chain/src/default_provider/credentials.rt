@@ -124,8 +124,8 @@ impl DefaultCredentialsChain {
     /// # Errors
     ///
     /// - `CredentialsNotLoaded` where no member was loaded. It tells of each member, in order.
-    /// - `InvalidConfiguration` where the environment was passed over and the selected profile has a
-    ///   fault: half of its keys, or a role without a source that can be used.
+    /// - `InvalidConfiguration` where the environment was passed over and the sections were refused, or
+    ///   the selected profile has half of its keys, or needs a provider that is not built.
     /// - `ProviderError` where the exchange for a role failed or was refused, or its reply cannot be
     ///   used.
     /// - `Unhandled` where a variable that the environment needs is not Unicode.
