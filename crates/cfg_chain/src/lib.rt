@@ -16,8 +16,6 @@ mod profile_provider;
 pub mod provider_config;
 mod static_keys;
 mod sts;
-#[cfg(test)]
-mod tests;
 
 pub use default_provider::credentials::{DefaultCredentialsChain, RegionSource};
 pub use kept::{Found, Kept};

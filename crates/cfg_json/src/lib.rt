@@ -26,6 +26,3 @@ pub use member::{Member, MemberValue, Members};
 pub use process::parse_credential_process_json_credentials;
 pub use reading::{members, only_members};
 pub use writer::ObjectWriter;
-
-#[cfg(test)]
-mod tests;

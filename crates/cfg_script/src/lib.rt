@@ -9,8 +9,6 @@ mod part;
 mod reading;
 mod replies;
 mod script;
-#[cfg(test)]
-mod tests;
 mod value;
 mod variables;
 

@@ -18,8 +18,6 @@ pub mod reply;
 pub mod request;
 pub mod seq;
 pub mod settings;
-#[cfg(test)]
-mod tests;
 pub mod text;
 pub mod text_map;
 pub mod white_space;

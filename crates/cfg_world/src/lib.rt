@@ -11,8 +11,6 @@ pub mod entry;
 pub mod leaves;
 pub mod script;
 pub mod streams;
-#[cfg(test)]
-mod tests;
 pub mod world;
 
 pub use ask::{Answer, Question};

@@ -1,5 +1,5 @@
 // What no clause says: that the definitions are the ones that were meant, and that calls succeed.
-use crate::{
+use cfg_chain::{
     DefaultCredentialsChain, ProfileSet, ProfileSource, ProviderConfig, RegionSource, Section,
     has_other_source, is_built,
 };

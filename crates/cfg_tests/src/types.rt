@@ -1,6 +1,6 @@
 // What no clause says: that the definitions are the ones that were meant, and that calls succeed.
-use crate::laws::{instants_are_equal_as_numbers, instants_are_ordered_as_numbers};
-use crate::{
+use cfg_types::laws::{instants_are_equal_as_numbers, instants_are_ordered_as_numbers};
+use cfg_types::{
     AccountId, AssumeRole, AwsCredentialFeature, Boxed, Bytes, CallSettings, ConfigCause,
     Credentials, CredentialsBuilder, CredentialsError, Env, EnvText, FailKind, Instant,
     JsonCredentials, NotLoadedCause, OutOfMemory, ProfileFileError, ProviderAttempt, ProviderCause,

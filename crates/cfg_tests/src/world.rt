@@ -1,10 +1,10 @@
 // What no clause says: that the definitions are the ones that were meant, and that calls succeed.
-use crate::{
+use cfg_types::{CredentialsBuilder, Instant, OutOfMemory, Seq, Text, TryCopy};
+use cfg_world::{
     Answer, AssumeRole, CallSettings, DeviceLists, Entry, FailKind, MemorySink, MemorySource,
     Question, ReaderSource, Receipt, Refusal, RefusalKind, Reply, Request, ScriptDevices, Sink,
     Source, StreamFault, StsReply, Timeouts, World, WriterSink, read_clock, send,
 };
-use cfg_types::{CredentialsBuilder, Instant, OutOfMemory, Seq, Text, TryCopy};
 use std::alloc::Global;
 use std::io;
 use std::io::{Read, Write};

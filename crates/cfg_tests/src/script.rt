@@ -1,5 +1,5 @@
 // What no clause says: that the definition is the script that was meant, and that reading succeeds.
-use crate::{Unread, read_script};
+use cfg_script::{Unread, read_script};
 use cfg_types::{FailKind, Instant, Refusal, RefusalKind, Reply, StsCredentials, StsReply, Text};
 use std::alloc::{AllocError, Global};
 use std::test::Fail;

@@ -1,6 +1,9 @@
 // Worked examples, and cases that suites of JSON parsers have.
-use super::*;
-use cfg_types::{AccountId, Credentials, Instant};
+use cfg_json::{
+    MemberValue, ObjectWriter, members, only_members, parse_credential_process_json_credentials,
+    parse_date, parse_json_credentials, parse_offset_date, write_date,
+};
+use cfg_types::{AccountId, Credentials, Instant, InvalidJsonCredentials, JsonCredentials};
 use std::test::Fail;
 
 // The words of a list of members, and how it ends.
