@@ -9,4 +9,6 @@ pub mod Shown
 pub mod WhiteSpace
 pub mod Field
 pub mod DocumentText
+pub mod Classes
+pub mod Gives
 pub mod formers

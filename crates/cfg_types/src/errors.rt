@@ -2,6 +2,7 @@
 ghost use Rattle.std.specs.Prelude.{◌≡◌, IfOk};
 ghost use Rattle.std.specs.Str.{encode_utf8_all};
 ghost use Rattle.cfg_types.specs.Text.{characters};
+ghost use Rattle.cfg_types.specs.Classes.{class_of, class_name};
 ghost use Rattle.cfg_types.specs.declared.errors.CredentialsError.TheVariants as error;
 
 use crate::boxed::Boxed;
@@ -139,6 +140,47 @@ pub enum CredentialsError {
     ProviderError(ProviderCause),
     Unhandled(UnhandledCause),
     OutOfMemory,
+}
+
+impl CredentialsError {
+    /// What kind of error it is, without its cause.
+    pub fn class(&self) -> Class
+        ensures { result ≡ class_of self.now }
+    {
+        match self {
+            CredentialsError::CredentialsNotLoaded(_) => Class::CredentialsNotLoaded,
+            CredentialsError::InvalidConfiguration(_) => Class::InvalidConfiguration,
+            CredentialsError::ProviderError(_) => Class::ProviderError,
+            CredentialsError::Unhandled(_) => Class::Unhandled,
+            CredentialsError::OutOfMemory => Class::OutOfMemory,
+        }
+    }
+}
+
+/// The kinds of [`CredentialsError`], without their causes.
+#[derive(Clone, Copy, Debug, PartialEq, Eq)]
+pub enum Class {
+    CredentialsNotLoaded,
+    InvalidConfiguration,
+    ProviderError,
+    Unhandled,
+    OutOfMemory,
+}
+
+impl Class {
+    /// The name of the kind, as it stands in [`CredentialsError`].
+    pub fn name(self) -> &'static str
+        ensures chars { characters result.now ≡ class_name self }
+        ensures bytes { result.now ≡ class_name self }
+    {
+        match self {
+            Class::CredentialsNotLoaded => "CredentialsNotLoaded",
+            Class::InvalidConfiguration => "InvalidConfiguration",
+            Class::ProviderError => "ProviderError",
+            Class::Unhandled => "Unhandled",
+            Class::OutOfMemory => "OutOfMemory",
+        }
+    }
 }
 
 impl From<OutOfMemory> for CredentialsError {

@@ -29,7 +29,7 @@ pub use credentials::{AccountId, AwsCredentialFeature, Credentials, CredentialsB
 pub use document::{Field, FieldFault, InvalidJsonCredentials, JsonCredentials, JsonError};
 pub use environment::{Env, EnvText, VarError};
 pub use errors::{
-    ConfigCause, CredentialsError, NotLoadedCause, ProfileFileError, ProviderAttempt,
+    Class, ConfigCause, CredentialsError, NotLoadedCause, ProfileFileError, ProviderAttempt,
     ProviderCause, ProviderChainError, UnhandledCause,
 };
 pub use instant::Instant;
