@@ -2,3 +2,5 @@ pub mod Counts
 pub mod Inquiries
 pub mod Scripted
 pub mod Pieces
+pub mod Agreeing
+pub mod Beginnings

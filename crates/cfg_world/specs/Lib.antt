@@ -8,5 +8,7 @@ pub mod Inquiry
 pub mod Follows
 pub mod Leaves
 pub mod Script
+pub mod Agreeing
+pub mod Beginnings
 pub mod Memory
 pub mod Adapters

@@ -8,6 +8,7 @@ pub mod ask;
 pub mod asking;
 pub mod devices;
 pub mod entry;
+pub mod laws;
 pub mod leaves;
 pub mod script;
 pub mod streams;
