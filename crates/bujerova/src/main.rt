@@ -1,22 +1,9 @@
-//! The program `resolve`: it reads a script from standard input, resolves credentials as the script
-//! says, and writes one line per call. It stands on cfg_chain and on cfg_script. Its top call is
-//! `run`, over any source, sink and world.
+//! The program `bujerova`: it hands `cfg_program::run` the words after its name, standard input and
+//! output, and the variables that are set, and ends with the number of the status.
 #![tactic(auto)]
 
-mod input;
-mod laws;
-mod lines;
-mod output;
-mod resolve;
-mod run;
-mod status;
-#[cfg(test)]
-mod tests;
-mod words;
-
-use crate::run::run;
-use crate::status::Status;
-use crate::words::USAGE;
+use cfg_program::run::run;
+use cfg_program::{Status, USAGE};
 use cfg_types::{EnvText, OutOfMemory, Seq, Text};
 use cfg_world::{DeviceLists, ReaderSource, ScriptDevices, World, WriterSink};
 use std::alloc::Global;
@@ -24,7 +11,6 @@ use std::env;
 use std::env::VarError;
 use std::io::ErrorKind;
 use std::process::ExitCode;
-use std::rt::Env;
 
 fn main(rt: HostRuntime) -> ExitCode {
     let status = match words_of(&rt) {
@@ -53,7 +39,7 @@ fn main(rt: HostRuntime) -> ExitCode {
 }
 
 // The words after the program's name. Words that are no texts are faulty ones.
-fn words_of(rt: &(impl Env + AllocGlobal)) -> Result<Vec<String>, Status> {
+fn words_of(rt: &(impl std::rt::Env + AllocGlobal)) -> Result<Vec<String>, Status> {
     let given = match env::args(rt) {
         Ok(given) => given,
         Err(error) => return Err(status_of(error.kind())),
@@ -85,7 +71,7 @@ const ASKED: [&str; 6] = [
 ];
 
 // The variables that are set, of those that providers ask for.
-fn variables_of(rt: &(impl Env + AllocGlobal)) -> Result<Vec<(String, EnvText)>, OutOfMemory> {
+fn variables_of(rt: &(impl std::rt::Env + AllocGlobal)) -> Result<Vec<(String, EnvText)>, OutOfMemory> {
     let mut vars = Vec::new(rt.alloc());
     for name in ASKED {
         let value = match env::var(rt, name) {

@@ -1,0 +1,18 @@
+//! The program without its process: `run` does what the words ask for, over any source, sink and
+//! world, and answers how it ended. It stands on cfg_chain and on cfg_script.
+#![tactic(auto)]
+
+mod input;
+pub mod laws;
+mod lines;
+mod output;
+mod resolve;
+pub mod run;
+mod status;
+#[cfg(test)]
+mod tests;
+mod words;
+
+pub use input::LIMIT;
+pub use status::Status;
+pub use words::{HELP, USAGE, VERSION, Word};
