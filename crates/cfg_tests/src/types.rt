@@ -1,403 +1,193 @@
-// What no clause says: that the definitions are the ones that were meant, and that calls succeed.
-use cfg_types::laws::{instants_are_equal_as_numbers, instants_are_ordered_as_numbers};
+// What no clause says: worked examples of the definitions, printed texts, and that calls succeed.
 use cfg_types::{
-    AccountId, AssumeRole, AwsCredentialFeature, Boxed, Bytes, CallSettings, ConfigCause,
-    Credentials, CredentialsBuilder, CredentialsError, Env, EnvText, FailKind, Instant,
-    JsonCredentials, NotLoadedCause, OutOfMemory, ProfileFileError, ProviderAttempt, ProviderCause,
-    ProviderChainError, Refusal, RefusalKind, Region, Reply, Request, Seq, StsCredentials,
-    StsReply, Tag, Text, TextMap, Timeouts, TryCopy, UnhandledCause, VarError, copy_option,
+    AccountId, AssumeRole, AwsCredentialFeature, Boxed, Bytes, CallSettings, Credentials,
+    CredentialsBuilder, Env, EnvText, Instant, OutOfMemory, Refusal, RefusalKind, Region, Reply,
+    Request, Seq, StsCredentials, StsReply, Tag, Text, TextMap, Timeouts, TryCopy, copy_option,
     is_blank, trimmed,
 };
 use std::alloc::{AllocError, Global};
-use std::cmp::Ordering;
 use std::test::Fail;
 
-#[test]
-fn moments_have_less_than_a_second_of_nanoseconds(rt: HostRuntime) -> Result<(), Fail> {
-    assert_eq!(rt; Instant::new(0, 1_000_000_000), None);
-    assert_eq!(rt; Instant::new(i64::MAX, u32::MAX), None);
-    for (seconds, nanos) in [(0, 0), (-1, 999_999_999), (i64::MAX, 5), (i64::MIN, 0)] {
-        let moment = Instant::new(seconds, nanos).ok_or("no moment")?;
-        assert_eq!(rt; moment.seconds(), seconds);
-        assert_eq!(rt; moment.nanos(), nanos);
-        assert_eq!(rt; moment.copy(rt.alloc())?, moment);
-    }
-    assert_eq!(rt; Some(Instant::epoch()), Instant::new(0, 0));
-    Ok(())
+// Seconds and nanoseconds of the moment later by so much, whether it is one, those of the moment
+// earlier by as much, and the milliseconds.
+fn moment_words(alloc: Global, seconds: i64, nanos: u32, by: u64) -> Result<String, AllocError> {
+    let Some(moment) = Instant::new(seconds, nanos) else {
+        return String::from_str(alloc, "none");
+    };
+    let fits = moment.checked_plus(by).is_some();
+    let later = moment.plus(by);
+    let later_seconds = later.seconds();
+    let later_nanos = later.nanos();
+    let earlier = moment.minus(by);
+    let earlier_seconds = earlier.seconds();
+    let earlier_nanos = earlier.nanos();
+    let millis = moment.millis();
+    format!(in alloc;
+        "{later_seconds}.{later_nanos} {fits} {earlier_seconds}.{earlier_nanos} {millis}"
+    )
 }
 
 #[test]
-fn later_moments_stop_at_the_last(rt: HostRuntime) -> Result<(), Fail> {
-    for (seconds, nanos, by, later, checked) in [
-        (0, 7, 3, (3, 7), true),
-        (-1, 500, 1, (0, 500), true),
-        (i64::MAX, 5, 0, (i64::MAX, 5), true),
-        (i64::MAX, 5, 1, (i64::MAX, 999_999_999), false),
-        (i64::MIN, 0, u64::MAX, (i64::MAX, 0), true),
-        (i64::MIN + 1, 0, u64::MAX, (i64::MAX, 999_999_999), false),
-        (0, 0, 9_223_372_036_854_775_807, (i64::MAX, 0), true),
+fn moments(rt: HostRuntime) -> Result<(), Fail> {
+    let table: &[(i64, u32, u64, &str)] = &[
+        (0, 1_000_000_000, 0, "none"),
+        (i64::MAX, u32::MAX, 0, "none"),
+        (0, 7, 3, "3.7 true -3.7 0"),
+        (-1, 999_000_000, 1, "0.999000000 true -2.999000000 -1"),
+        (7, 1_999_999, 0, "7.1999999 true 7.1999999 7001"),
         (
+            i64::MAX,
+            5,
             1,
-            0,
-            9_223_372_036_854_775_807,
-            (i64::MAX, 999_999_999),
-            false,
+            "9223372036854775807.999999999 false 9223372036854775806.5 9223372036854775807000",
         ),
-    ] {
-        let moment = Instant::new(seconds, nanos).ok_or("no moment")?;
-        let later = Instant::new(later.0, later.1).ok_or("no moment")?;
-        assert_eq!(rt; moment.plus(by), later, "{seconds} {nanos} plus {by}");
-        let sum = if checked { Some(later) } else { None };
-        assert_eq!(rt; moment.checked_plus(by), sum, "{seconds} {nanos} plus {by}");
+        (
+            i64::MIN,
+            5,
+            u64::MAX,
+            "9223372036854775807.5 true -9223372036854775808.0 -9223372036854775808000",
+        ),
+    ];
+    for (seconds, nanos, by, want) in table {
+        let words = moment_words(rt.alloc(), *seconds, *nanos, *by)?;
+        assert_eq!(rt; words.as_str(), *want, "{seconds} {nanos} by {by}");
     }
-    Ok(())
-}
-
-#[test]
-fn earlier_moments_stop_at_the_first(rt: HostRuntime) -> Result<(), Fail> {
-    for (seconds, nanos, by, earlier) in [
-        (0, 7, 3, (-3, 7)),
-        (i64::MIN, 0, 1, (i64::MIN, 0)),
-        (i64::MIN, 5, 1, (i64::MIN, 0)),
-        (i64::MIN, 5, 0, (i64::MIN, 5)),
-        (i64::MAX, 9, u64::MAX, (i64::MIN, 9)),
-    ] {
-        let moment = Instant::new(seconds, nanos).ok_or("no moment")?;
-        assert_eq!(rt;
-            Some(moment.minus(by)),
-            Instant::new(earlier.0, earlier.1),
-            "{seconds} {nanos} minus {by}"
-        );
-    }
-    Ok(())
-}
-
-#[test]
-fn milliseconds_are_cut_downwards(rt: HostRuntime) -> Result<(), Fail> {
-    for (seconds, nanos, millis) in [
-        (7, 0, 7000),
-        (0, 999_999, 0),
-        (0, 1_000_000, 1),
-        (-1, 999_000_000, -1),
-        (-1, 0, -1000),
-        (i64::MAX, 999_999_999, 9_223_372_036_854_775_807_999),
-        (i64::MIN, 0, -9_223_372_036_854_775_808_000),
-    ] {
-        let moment = Instant::new(seconds, nanos).ok_or("no moment")?;
-        assert!(rt; moment.millis() == millis, "{seconds} {nanos}");
-    }
-    Ok(())
-}
-
-#[test]
-fn moments_are_ordered_as_numbers(rt: HostRuntime) -> Result<(), Fail> {
-    for (a, b, order) in [
-        ((-1, 999_999_999), (0, 0), Ordering::Less),
-        ((-2, 0), (-1, 999_999_999), Ordering::Less),
-        ((0, 1), (0, 1), Ordering::Equal),
-        ((1, 0), (0, 999_999_999), Ordering::Greater),
-    ] {
-        let a = Instant::new(a.0, a.1).ok_or("no moment")?;
-        let b = Instant::new(b.0, b.1).ok_or("no moment")?;
-        assert_eq!(rt; instants_are_ordered_as_numbers(a, b), order);
-        assert_eq!(rt;
-            instants_are_equal_as_numbers(a, b),
-            order == Ordering::Equal
-        );
-    }
-    Ok(())
-}
-
-#[test]
-fn texts_are_kept(rt: HostRuntime) -> Result<(), Fail> {
-    for (text, other) in [("", " "), ("access", "Access"), ("a\0é€𝄞", "a\0é€")] {
-        let kept = Text::of(rt.alloc(), text)?;
-        assert_eq!(rt; kept.as_str(), text);
-        assert!(rt; kept.is(text) && !kept.is(other));
-        assert!(rt; kept.copy(rt.alloc())? == kept);
-        assert!(rt; Text::of(rt.alloc(), other)? != kept);
-        assert!(rt; Text::from_string(String::from_str(rt.alloc(), text)?) == kept);
-        let string = kept.into_string();
-        assert_eq!(rt; string.as_str(), text);
-    }
-    let region = Region::new(rt.alloc(), "eu-west-1")?;
-    assert_eq!(rt; region.as_str(), "eu-west-1");
-    assert!(rt; region.copy(rt.alloc())? == region);
-    assert!(rt; Region::new(rt.alloc(), "eu-west-2")? != region);
-    let account = AccountId::new(rt.alloc(), "123456789012")?;
-    assert_eq!(rt; account.as_str(), "123456789012");
-    assert!(rt; account.copy(rt.alloc())? == account);
-    assert!(rt; AccountId::new(rt.alloc(), "")? != account);
-    Ok(())
-}
-
-#[test]
-fn sequences_are_kept(rt: HostRuntime) -> Result<(), Fail> {
-    let bytes = Bytes::of(rt.alloc(), b"\x00\xff=")?;
-    assert_eq!(rt; bytes.as_slice(), b"\x00\xff=".as_slice());
-    assert!(rt; bytes.copy(rt.alloc())? == bytes);
-    assert!(rt; Bytes::of(rt.alloc(), b"\x00\xff")? != bytes);
-    let bytes = bytes.into_vec();
-    assert_eq!(rt; bytes.as_slice(), b"\x00\xff=".as_slice());
-    let numbers = Seq::of_slice(rt.alloc(), &[3, 1, 3])?;
-    assert_eq!(rt; numbers.as_slice(), [3, 1, 3].as_slice());
-    assert!(rt; numbers.copy(rt.alloc())? == numbers);
-    assert!(rt; Seq::of(vec![in rt.alloc(); 3, 1]?) != numbers);
-    let numbers: Vec<u64> = numbers.into_vec();
-    assert_eq!(rt; numbers.as_slice(), [3, 1, 3].as_slice());
-    let boxed = Boxed::new(rt.alloc(), 7u64)?;
-    assert_eq!(rt; *boxed.get(), 7);
-    assert!(rt; boxed == Boxed::new(rt.alloc(), 7)? && boxed != Boxed::new(rt.alloc(), 8)?);
-    assert_eq!(rt; boxed.into_inner(), 7);
-    assert_eq!(rt; copy_option(rt.alloc(), &Some(7u64))?, Some(7));
-    assert_eq!(rt; copy_option::<u64>(rt.alloc(), &None)?, None);
     Ok(())
 }
 
 // White_Space of Unicode's PropList.txt.
+const WHITE: &str =
+    "\u{9}\u{a}\u{b}\u{c}\u{d}\u{20}\u{85}\u{a0}\u{1680}\u{2000}\u{2001}\u{2002}\u{2003}\u{2004}\u{2005}\u{2006}\u{2007}\u{2008}\u{2009}\u{200a}\u{2028}\u{2029}\u{202f}\u{205f}\u{3000}";
+
 #[test]
 fn white_space_is_that_of_unicode(rt: HostRuntime) -> Result<(), Fail> {
-    for c in [
-        '\u{9}', '\u{a}', '\u{b}', '\u{c}', '\u{d}', '\u{20}', '\u{85}', '\u{a0}', '\u{1680}',
-        '\u{2000}', '\u{2001}', '\u{2002}', '\u{2003}', '\u{2004}', '\u{2005}', '\u{2006}',
-        '\u{2007}', '\u{2008}', '\u{2009}', '\u{200a}', '\u{2028}', '\u{2029}', '\u{202f}',
-        '\u{205f}', '\u{3000}',
+    assert!(rt; is_blank("") && is_blank(WHITE));
+    let within = format!(in rt.alloc(); "x{WHITE}y")?;
+    let around = format!(in rt.alloc(); "{WHITE}x{WHITE}y{WHITE}")?;
+    assert_eq!(rt; trimmed(around.as_str()), within.as_str());
+    for other in [
+        "\0", "\u{1c}", "\u{1d}", "\u{1e}", "\u{1f}", "\u{180e}", "\u{200b}", "\u{2060}",
+        "\u{feff}",
     ] {
-        let alone = format!(in rt.alloc(); "{c}")?;
-        let within = format!(in rt.alloc(); "x{c}y")?;
-        let around = format!(in rt.alloc(); "{c} x{c}y{c}{c}")?;
-        assert!(rt; is_blank(alone.as_str()), "{alone:?}");
-        assert!(rt; !is_blank(around.as_str()), "{alone:?}");
-        assert_eq!(rt; trimmed(around.as_str()), within.as_str(), "{alone:?}");
+        assert!(rt; !is_blank(other), "{other:?}");
     }
-    for c in [
-        '\u{0}', '\u{1c}', '\u{1d}', '\u{1e}', '\u{1f}', '\u{180e}', '\u{200b}', '\u{2060}',
-        '\u{feff}',
-    ] {
-        let text = format!(in rt.alloc(); "{c}x{c}")?;
-        let alone = format!(in rt.alloc(); "{c}")?;
-        assert!(rt; !is_blank(alone.as_str()), "{alone:?}");
-        assert_eq!(rt; trimmed(text.as_str()), text.as_str(), "{alone:?}");
-    }
-    assert!(rt; is_blank("") && is_blank(" \t\r\n"));
-    assert_eq!(rt; trimmed(" \u{3000}"), "");
     Ok(())
 }
 
-fn set_to(alloc: Global, text: &str) -> Result<EnvText, OutOfMemory> {
-    Ok(EnvText::Text(Text::of(alloc, text)?))
+fn env(alloc: Global, rows: &[(&str, Option<&str>)]) -> Result<Env, OutOfMemory> {
+    let mut variables = Vec::new(alloc);
+    for (name, value) in rows {
+        let value = match value {
+            Some(text) => EnvText::Text(Text::of(alloc, text)?),
+            None => EnvText::NotUnicode,
+        };
+        variables.push((String::from_str(alloc, name)?, value))?;
+    }
+    Env::new(alloc, variables)
 }
 
 #[test]
 fn the_later_of_two_variables_counts(rt: HostRuntime) -> Result<(), Fail> {
-    let mut variables = Vec::new(rt.alloc());
-    for (name, value) in [
-        ("A", Some("1")),
-        ("B", Some("2")),
-        ("C", None),
-        ("A", Some("")),
-        ("B", None),
-        ("C", Some("3")),
-        ("a", Some("4")),
-        ("", Some("5")),
+    let env = env(
+        rt.alloc(),
+        &[
+            ("A", Some("1")),
+            ("B", Some("2")),
+            ("C", None),
+            ("A", Some("")),
+            ("B", None),
+            ("C", Some("3")),
+            ("a", Some("4")),
+            ("", Some("5")),
+        ],
+    )?;
+    for (name, want) in [
+        ("A", "Ok(\"\")"),
+        ("B", "Err(NotUnicode)"),
+        ("C", "Ok(\"3\")"),
+        ("a", "Ok(\"4\")"),
+        ("", "Ok(\"5\")"),
+        ("b", "Err(NotPresent)"),
+        ("AA", "Err(NotPresent)"),
     ] {
-        let value = match value {
-            Some(text) => set_to(rt.alloc(), text)?,
-            None => EnvText::NotUnicode,
-        };
-        variables.push((String::from_str(rt.alloc(), name)?, value))?;
-    }
-    let env = Env::new(rt.alloc(), variables)?;
-    for (name, value) in [
-        ("A", Ok("")),
-        ("B", Err(VarError::NotUnicode)),
-        ("C", Ok("3")),
-        ("a", Ok("4")),
-        ("", Ok("5")),
-        ("b", Err(VarError::NotPresent)),
-        ("AA", Err(VarError::NotPresent)),
-    ] {
-        assert_eq!(rt; env.get(name), value, "{name}");
+        let words = format!(in rt.alloc(); "{:?}", env.get(name))?;
+        assert_eq!(rt; words.as_str(), want, "{name}");
     }
     Ok(())
 }
 
 #[test]
 fn values_stand_under_their_names(rt: HostRuntime) -> Result<(), Fail> {
-    let mut map = TextMap::new(rt.alloc());
-    for (name, value) in [("b", 1), ("a", 2), ("b", 3), ("\0", 4)] {
-        map.set(String::from_str(rt.alloc(), name)?, value)?;
-    }
-    for (name, value) in [
-        ("a", Some(2)),
-        ("b", Some(3)),
-        ("\0", Some(4)),
-        ("c", None),
-        ("", None),
-    ] {
-        assert_eq!(rt; map.get(name).copied(), value, "{name}");
-    }
     let mut map = TextMap::with_capacity(rt.alloc(), 100)?;
-    assert!(rt; map.is_empty());
     map.set(String::from_str(rt.alloc(), "a")?, 5)?;
     assert_eq!(rt; map.get("a").copied(), Some(5));
     Ok(())
 }
 
-fn bare(alloc: Global) -> Result<CredentialsBuilder, OutOfMemory> {
-    CredentialsBuilder::new(alloc, "AKID", "wJalr", "Environment")
+// A copy of a text, and of a region and an account of that name, in words.
+fn text_words(alloc: Global, text: &str) -> Result<String, OutOfMemory> {
+    let text = Text::of(alloc, text)?.copy(alloc)?;
+    let region = Region::new(alloc, text.as_str())?.copy(alloc)?;
+    let account = AccountId::new(alloc, text.as_str())?.copy(alloc)?;
+    Ok(format!(in alloc; "{text:?} {region:?} {account:?}")?)
 }
 
-fn whole(alloc: Global) -> Result<Credentials, OutOfMemory> {
+#[test]
+fn texts_are_copied_whole(rt: HostRuntime) -> Result<(), Fail> {
+    for (text, want) in [
+        ("", "\"\" Region { name: \"\" } AccountId { id: \"\" }"),
+        (
+            "a\0é𝄞\"",
+            "\"a\\0é𝄞\\\"\" Region { name: \"a\\0é𝄞\\\"\" } AccountId { id: \"a\\0é𝄞\\\"\" }",
+        ),
+    ] {
+        let words = text_words(rt.alloc(), text)?;
+        assert_eq!(rt; words.as_str(), want);
+    }
+    Ok(())
+}
+
+// Copies of bytes, of numbers, of a number that may be there, and one number in a box, in words.
+fn sequence_words(alloc: Global) -> Result<String, OutOfMemory> {
+    let bytes = Bytes::of(alloc, b"\x00\xff=")?.copy(alloc)?;
+    let mut numbers = Seq::of_slice(alloc, &[3, 1])?.copy(alloc)?;
+    numbers.push(4)?;
+    let number = copy_option(alloc, &Some(7u64))?;
+    let boxed = Boxed::new(alloc, 8u64)?;
+    Ok(format!(in alloc; "{bytes:?} {numbers:?} {number:?} {boxed:?}")?)
+}
+
+#[test]
+fn sequences_are_copied_whole(rt: HostRuntime) -> Result<(), Fail> {
+    let words = sequence_words(rt.alloc())?;
+    assert_eq!(rt; words.as_str(), "[0, 255, 61] [3, 1, 4] Some(7) 8");
+    Ok(())
+}
+
+fn keys(alloc: Global) -> Result<Credentials, OutOfMemory> {
+    let builder = CredentialsBuilder::new(alloc, "AKID", "wJalr", "Environment")?;
+    let builder = builder.session_token("FwoG")?.expiry(Instant::epoch());
     let account = AccountId::new(alloc, "123456789012")?;
-    let features = Seq::of_slice(alloc, &[AwsCredentialFeature::CredentialsEnvVars])?;
-    let builder = bare(alloc)?.session_token("FwoG")?;
-    let builder = builder.expiry(Instant::epoch()).account_id(account);
-    Ok(builder.features(features).build())
+    Ok(builder.account_id(account).build())
+}
+
+// Credentials with one more feature, and with their secrets, in words.
+fn key_words(alloc: Global) -> Result<String, OutOfMemory> {
+    let mut keys = keys(alloc)?.copy(alloc)?;
+    keys.add_feature(AwsCredentialFeature::CredentialsProfile)?;
+    let secret = keys.secret_access_key();
+    let token = keys.session_token();
+    let features = keys.features();
+    Ok(format!(in alloc; "{keys:#?} {secret} {token:?} {features:?}")?)
 }
 
 #[test]
-fn credentials_have_what_was_set(rt: HostRuntime) -> Result<(), Fail> {
-    let credentials = bare(rt.alloc())?.build();
-    assert_eq!(rt; credentials.access_key_id(), "AKID");
-    assert_eq!(rt; credentials.secret_access_key(), "wJalr");
-    assert_eq!(rt; credentials.provider_name(), "Environment");
-    assert_eq!(rt; credentials.session_token(), None);
-    assert_eq!(rt; credentials.expiry(), None);
-    assert!(rt; credentials.account_id().is_none());
-    assert!(rt; credentials.features().is_empty());
-    let credentials = whole(rt.alloc())?;
-    assert_eq!(rt; credentials.access_key_id(), "AKID");
-    assert_eq!(rt; credentials.session_token(), Some("FwoG"));
-    assert_eq!(rt; credentials.expiry(), Some(Instant::epoch()));
+fn credentials_are_copied_whole(rt: HostRuntime) -> Result<(), Fail> {
+    let words = key_words(rt.alloc())?;
     assert_eq!(rt;
-        credentials.account_id().map(|a| a.as_str()),
-        Some("123456789012")
+        words.as_str(),
+        "Credentials { provider_name: \"Environment\", access_key_id: \"AKID\", secret_access_key: \"** redacted **\", expires_after: 0 s 0 ns, account_id: \"123456789012\" } wJalr Some(\"FwoG\") [CredentialsProfile]"
     );
-    assert_eq!(rt;
-        credentials.features(),
-        [AwsCredentialFeature::CredentialsEnvVars].as_slice()
-    );
-    assert!(rt; credentials.copy(rt.alloc())? == credentials);
-    assert!(rt; bare(rt.alloc())?.build() != credentials);
-    Ok(())
-}
-
-#[test]
-fn features_are_added_at_the_end(rt: HostRuntime) -> Result<(), Fail> {
-    let mut credentials = whole(rt.alloc())?;
-    credentials.add_feature(AwsCredentialFeature::CredentialsProfile)?;
-    let features = credentials.features();
-    let last = features.last().copied();
-    assert_eq!(rt; features.len(), 2);
-    assert_eq!(rt; last, Some(AwsCredentialFeature::CredentialsProfile));
-    Ok(())
-}
-
-#[test]
-fn setters_set_their_field_alone(rt: HostRuntime) -> Result<(), Fail> {
-    let mut builder = bare(rt.alloc())?;
-    builder.set_session_token(Some(Text::of(rt.alloc(), "FwoG")?));
-    builder.set_expiry(Some(Instant::epoch()));
-    builder.set_account_id(Some(AccountId::new(rt.alloc(), "123456789012")?));
-    let features = Seq::of_slice(rt.alloc(), &[AwsCredentialFeature::CredentialsEnvVars])?;
-    assert!(rt; builder.features(features).build() == whole(rt.alloc())?);
-    let mut builder = bare(rt.alloc())?
-        .session_token("FwoG")?
-        .expiry(Instant::epoch());
-    builder.set_expiry(None);
-    assert!(rt; builder.build() == bare(rt.alloc())?.session_token("FwoG")?.build());
-    let mut builder = bare(rt.alloc())?
-        .session_token("FwoG")?
-        .expiry(Instant::epoch());
-    builder.set_session_token(None);
-    assert!(rt; builder.build() == bare(rt.alloc())?.expiry(Instant::epoch()).build());
-    let mut builder = bare(rt.alloc())?.account_id(AccountId::new(rt.alloc(), "1")?);
-    builder.set_account_id(None);
-    assert!(rt; builder.build() == bare(rt.alloc())?.build());
-    Ok(())
-}
-
-#[test]
-fn secrets_are_not_shown(rt: HostRuntime) -> Result<(), Fail> {
-    let one = CredentialsBuilder::new(rt.alloc(), "AKID", "wJalr", "Environment")?;
-    let two = CredentialsBuilder::new(rt.alloc(), "AKID", "other", "Environment")?;
-    let end = Instant::new(1_700_000_000, 5).ok_or("no moment")?;
-    let one = one.session_token("FwoG")?.expiry(end).build();
-    let two = two.expiry(end).build();
-    let shown = format!(in rt.alloc(); "{one:?}")?;
-    assert_eq!(rt; shown.as_str(), format!(in rt.alloc(); "{two:?}")?.as_str());
-    assert!(rt; shown.as_str().contains("AKID") && shown.as_str().contains("Environment"));
-    let lines = format!(in rt.alloc(); "{one:#?}")?;
-    let one = Boxed::new(rt.alloc(), one)?;
-    let nested = format!(in rt.alloc(); "{one:#?}")?;
-    for hidden in ["wJalr", "FwoG", "other"] {
-        assert!(rt; !shown.as_str().contains(hidden), "{hidden}");
-        assert!(rt; !lines.as_str().contains(hidden), "{hidden}");
-        assert!(rt; !nested.as_str().contains(hidden), "{hidden}");
-    }
-    Ok(())
-}
-
-#[test]
-fn documents_show_no_secrets(rt: HostRuntime) -> Result<(), Fail> {
-    let document = JsonCredentials::RefreshableCredentials {
-        access_key_id: Text::of(rt.alloc(), "AKID")?,
-        secret_access_key: Text::of(rt.alloc(), "wJalr")?,
-        session_token: Text::of(rt.alloc(), "FwoG")?,
-        account_id: None,
-        expiration: Instant::epoch(),
-    };
-    let shown = format!(in rt.alloc(); "{document:?}")?;
-    let lines = format!(in rt.alloc(); "{document:#?}")?;
-    assert!(rt; shown.as_str().contains("AKID"));
-    for hidden in ["wJalr", "FwoG"] {
-        assert!(rt; !shown.as_str().contains(hidden), "{hidden}");
-        assert!(rt; !lines.as_str().contains(hidden), "{hidden}");
-    }
-    Ok(())
-}
-
-fn chain(alloc: Global, error: CredentialsError) -> Result<CredentialsError, OutOfMemory> {
-    let attempt = ProviderAttempt::new(Text::of(alloc, "Environment")?, error);
-    let attempts = Seq::of(vec![in alloc; attempt]?);
-    Ok(CredentialsError::CredentialsNotLoaded(NotLoadedCause::Chain(ProviderChainError::new(
-        attempts,
-    ))))
-}
-
-fn not_set(alloc: Global, name: &str) -> Result<CredentialsError, OutOfMemory> {
-    let name = Text::of(alloc, name)?;
-    Ok(CredentialsError::CredentialsNotLoaded(NotLoadedCause::NotSet(name)))
-}
-
-#[test]
-fn errors_have_their_causes(rt: HostRuntime) -> Result<(), Fail> {
-    let name = Text::of(rt.alloc(), "AWS_ACCESS_KEY_ID")?;
-    let attempt = ProviderAttempt::new(name, FailKind::Timeout);
-    assert_eq!(rt; attempt.name(), "AWS_ACCESS_KEY_ID");
-    assert_eq!(rt; *attempt.error(), FailKind::Timeout);
-    let attempts = ProviderChainError::new(Seq::of(vec![in rt.alloc(); attempt]?));
-    assert_eq!(rt; attempts.attempts().len(), 1);
-    assert!(rt;
-        chain(rt.alloc(), not_set(rt.alloc(), "A")?)?
-            == chain(rt.alloc(), not_set(rt.alloc(), "A")?)?
-    );
-    assert!(rt;
-        chain(rt.alloc(), not_set(rt.alloc(), "A")?)?
-            != chain(rt.alloc(), not_set(rt.alloc(), "B")?)?
-    );
-    let role = ProviderCause::Role(Boxed::new(rt.alloc(), not_set(rt.alloc(), "A")?)?);
-    let base = ProviderCause::Base(Boxed::new(rt.alloc(), not_set(rt.alloc(), "A")?)?);
-    assert!(rt; CredentialsError::ProviderError(role) != CredentialsError::ProviderError(base));
-    let none = ConfigCause::Profile(ProfileFileError::NoProfilesDefined);
-    assert!(rt; none != ConfigCause::Profile(ProfileFileError::OutOfMemory));
-    let not_unicode = UnhandledCause::NotUnicode(Text::of(rt.alloc(), "A")?);
-    assert!(rt; not_unicode != UnhandledCause::StsArn(Text::of(rt.alloc(), "A")?));
-    assert_eq!(rt; OutOfMemory::from(AllocError), OutOfMemory);
-    assert!(rt; CredentialsError::from(OutOfMemory) == CredentialsError::OutOfMemory);
-    let shown = format!(in rt.alloc(); "{OutOfMemory}")?;
-    assert_eq!(rt; shown.as_str(), "out of memory");
     Ok(())
 }
 
@@ -416,54 +206,81 @@ fn settings(alloc: Global) -> Result<CallSettings, OutOfMemory> {
     })
 }
 
-fn call(alloc: Global) -> Result<AssumeRole, OutOfMemory> {
-    let tag = Tag {
-        key: Text::of(alloc, "team")?,
-        value: Text::of(alloc, "blue")?,
-    };
-    Ok(AssumeRole {
-        signer: whole(alloc)?,
-        role_arn: Text::of(alloc, "arn:aws:iam::123456789012:role/a")?,
-        session_name: Text::of(alloc, "session")?,
-        external_id: Some(Text::of(alloc, "outside")?),
+fn tags(alloc: Global) -> Result<Seq<Tag>, OutOfMemory> {
+    let key = Text::of(alloc, "team")?;
+    let value = Text::of(alloc, "blue")?;
+    let mut tags = Seq::of(Vec::new(alloc));
+    tags.push(Tag { key, value })?;
+    Ok(tags)
+}
+
+fn request(alloc: Global) -> Result<Request, OutOfMemory> {
+    let mut policies = Seq::of(Vec::new(alloc));
+    policies.push(Text::of(alloc, "p")?)?;
+    Ok(Request::AssumeRole(AssumeRole {
+        signer: keys(alloc)?,
+        role_arn: Text::of(alloc, "r")?,
+        session_name: Text::of(alloc, "s")?,
+        external_id: Some(Text::of(alloc, "x")?),
         policy: None,
-        policy_arns: Some(Seq::of(vec![in alloc; Text::of(alloc, "arn:aws:iam::aws:policy/b")?]?)),
+        policy_arns: Some(policies),
         duration_seconds: Some(900),
-        tags: Some(Seq::of(vec![in alloc; tag]?)),
+        tags: Some(tags(alloc)?),
         settings: settings(alloc)?,
-    })
+    }))
+}
+
+// A copy of a request, in words.
+fn request_words(alloc: Global) -> Result<String, OutOfMemory> {
+    let request = request(alloc)?.copy(alloc)?;
+    Ok(format!(in alloc; "{request:?}")?)
 }
 
 #[test]
 fn requests_are_copied_whole(rt: HostRuntime) -> Result<(), Fail> {
-    let request = Request::AssumeRole(call(rt.alloc())?);
-    assert!(rt; request.copy(rt.alloc())? == request);
-    let mut other = call(rt.alloc())?;
-    other.duration_seconds = None;
-    assert!(rt; Request::AssumeRole(other) != request);
-    let mut other = call(rt.alloc())?;
-    other.settings.timeouts.read_ms = Some(1);
-    assert!(rt; Request::AssumeRole(other) != request);
+    let words = request_words(rt.alloc())?;
+    assert_eq!(rt;
+        words.as_str(),
+        "AssumeRole(AssumeRole { signer: Credentials { provider_name: \"Environment\", access_key_id: \"AKID\", secret_access_key: \"** redacted **\", expires_after: 0 s 0 ns, account_id: \"123456789012\" }, role_arn: \"r\", session_name: \"s\", external_id: Some(\"x\"), policy: None, policy_arns: Some([\"p\"]), duration_seconds: Some(900), tags: Some([Tag { key: \"team\", value: \"blue\" }]), settings: CallSettings { region: Some(Region { name: \"eu-west-1\" }), use_fips: Some(true), use_dual_stack: None, max_attempts: 3, timeouts: Timeouts { connect_ms: Some(3100), read_ms: None, operation_ms: None, attempt_ms: Some(1000) } } })"
+    );
     Ok(())
+}
+
+// A request and keys in a box, in lines.
+fn lines_with_keys(alloc: Global) -> Result<String, OutOfMemory> {
+    let request = request(alloc)?;
+    let keys = Boxed::new(alloc, keys(alloc)?)?;
+    Ok(format!(in alloc; "{request:#?}{keys:#?}")?)
+}
+
+#[test]
+fn lines_show_no_secret(rt: HostRuntime) -> Result<(), Fail> {
+    let lines = lines_with_keys(rt.alloc())?;
+    let lines = lines.as_str();
+    assert!(rt; lines.contains("AKID") && !lines.contains("wJalr") && !lines.contains("FwoG"));
+    Ok(())
+}
+
+fn granted(alloc: Global) -> Result<Reply, OutOfMemory> {
+    Ok(Reply::Sts(StsReply {
+        credentials: Some(StsCredentials {
+            access_key_id: Text::of(alloc, "ASIA")?,
+            secret_access_key: Text::of(alloc, "secret")?,
+            session_token: Text::of(alloc, "token")?,
+            expiration: Instant::epoch(),
+        }),
+        arn: Some(Text::of(alloc, "a:b:c:d:e")?),
+    }))
 }
 
 #[test]
 fn replies_are_copied_whole(rt: HostRuntime) -> Result<(), Fail> {
-    let granted = Reply::Sts(StsReply {
-        credentials: Some(StsCredentials {
-            access_key_id: Text::of(rt.alloc(), "ASIA")?,
-            secret_access_key: Text::of(rt.alloc(), "secret")?,
-            session_token: Text::of(rt.alloc(), "token")?,
-            expiration: Instant::epoch(),
-        }),
-        arn: Some(Text::of(rt.alloc(), "arn:aws:sts::123456789012:assumed-role/a/b")?),
-    });
+    let granted = granted(rt.alloc())?;
+    assert!(rt; granted.copy(rt.alloc())? == granted);
     let refused = Reply::Refused(Refusal {
         kind: RefusalKind::RegionDisabled,
         message: Text::of(rt.alloc(), "no")?,
     });
-    assert!(rt; granted.copy(rt.alloc())? == granted);
     assert!(rt; refused.copy(rt.alloc())? == refused);
-    assert!(rt; granted != refused);
     Ok(())
 }
