@@ -1,54 +1,58 @@
-// Worked examples, and cases that suites of JSON parsers have.
+// What no clause says: worked examples, cases that suites of JSON parsers have, printed texts, and
+// that calls succeed.
 use cfg_json::{
-    MemberValue, ObjectWriter, members, only_members, parse_credential_process_json_credentials,
-    parse_date, parse_json_credentials, parse_offset_date, write_date,
+    InvalidJsonCredentials, JsonCredentials, Member, MemberValue, Members, ObjectWriter, members,
+    only_members, parse_credential_process_json_credentials, parse_date, parse_json_credentials,
+    parse_offset_date, write_date,
 };
-use cfg_types::{AccountId, Credentials, Instant, InvalidJsonCredentials, JsonCredentials};
+use cfg_types::{AccountId, Credentials, Instant, OutOfMemory, Text};
+use std::alloc::{AllocError, Global};
 use std::test::Fail;
 
-// The words of a list of members, and how it ends.
-fn shown(rt: &HostRuntime, bytes: &[u8], only: bool) -> Result<String, Fail> {
-    let read = if only {
-        only_members(rt.alloc(), bytes)
-    } else {
-        members(rt.alloc(), bytes)
-    };
-    match read {
-        Ok(read) => {
-            let list = read.list.as_slice();
-            let mut out = format!(in rt.alloc(); "{}", read.end)?;
-            for member in list {
-                let key = member.key.as_str();
-                let word = match &member.value {
-                    MemberValue::Text(text) => format!(in rt.alloc(); "text {}", text.as_str())?,
-                    MemberValue::Number(text) => format!(in rt.alloc();
-                        "number {}",
-                        text.as_str()
-                    )?,
-                    MemberValue::Object { from, to } => {
-                        let from = *from;
-                        let to = *to;
-                        format!(in rt.alloc(); "object {from} {to}")?
-                    }
-                    MemberValue::Array { has_object } => {
-                        let has_object = *has_object;
-                        format!(in rt.alloc(); "array {has_object}")?
-                    }
-                    MemberValue::Other => format!(in rt.alloc(); "other")?,
-                };
-                let word = word.as_str();
-                let piece = format!(in rt.alloc(); ";{key}={word}")?;
-                out.push_str(piece.as_str())?;
-            }
-            Ok(out)
+fn member_words(alloc: Global, member: &Member) -> Result<String, AllocError> {
+    let key = member.key.as_str();
+    match &member.value {
+        MemberValue::Text(text) => {
+            let text = text.as_str();
+            format!(in alloc; ";{key}=text {text}")
         }
-        Err(e) => Ok(format!(in rt.alloc(); "{e:?}")?),
+        MemberValue::Number(text) => {
+            let text = text.as_str();
+            format!(in alloc; ";{key}=number {text}")
+        }
+        MemberValue::Object { from, to } => format!(in alloc; ";{key}=object {from} {to}"),
+        MemberValue::Array { has_object } => format!(in alloc; ";{key}=array {has_object}"),
+        MemberValue::Other => format!(in alloc; ";{key}=other"),
+    }
+}
+
+// How an object ends, and its members.
+fn object_words(alloc: Global, read: &Members) -> Result<String, AllocError> {
+    let mut words = format!(in alloc; "{}", read.end)?;
+    for member in read.list.as_slice() {
+        let piece = member_words(alloc, member)?;
+        words.push_str(piece.as_str())?;
+    }
+    Ok(words)
+}
+
+fn words_of_members(alloc: Global, bytes: &[u8]) -> Result<String, AllocError> {
+    match members(alloc, bytes) {
+        Ok(read) => object_words(alloc, &read),
+        Err(e) => format!(in alloc; "{e:?}"),
+    }
+}
+
+fn words_of_only_members(alloc: Global, bytes: &[u8]) -> Result<String, AllocError> {
+    match only_members(alloc, bytes) {
+        Ok(read) => object_words(alloc, &read),
+        Err(e) => format!(in alloc; "{e:?}"),
     }
 }
 
 #[test]
 fn members_of_texts(rt: HostRuntime) -> Result<(), Fail> {
-    let table: [(&[u8], &str); 66] = [
+    let table: &[(&[u8], &str)] = &[
         (b"{\"a\":{\"b\":1}} x", "13;a=object 5 12"),
         (b"{}", "2"),
         (b" \t\r\n{ }", "7"),
@@ -123,15 +127,15 @@ fn members_of_texts(rt: HostRuntime) -> Result<(), Fail> {
         (b"{'a':1}", "Syntax"),
     ];
     for (bytes, want) in table {
-        let got = shown(&rt, bytes, false)?;
-        assert_eq!(rt; got.as_str(), want, "{bytes:?}");
+        let words = words_of_members(rt.alloc(), bytes)?;
+        assert_eq!(rt; words.as_str(), *want, "{bytes:?}");
     }
     Ok(())
 }
 
 #[test]
 fn only_members_of_texts(rt: HostRuntime) -> Result<(), Fail> {
-    let table: [(&[u8], &str); 6] = [
+    let table: &[(&[u8], &str)] = &[
         (b"{} {}", "More"),
         (b"{} \xFF", "More"),
         (b" {} \n", "3"),
@@ -140,62 +144,63 @@ fn only_members_of_texts(rt: HostRuntime) -> Result<(), Fail> {
         (b"x", "NotObject"),
     ];
     for (bytes, want) in table {
-        let got = shown(&rt, bytes, true)?;
-        assert_eq!(rt; got.as_str(), want, "{bytes:?}");
+        let words = words_of_only_members(rt.alloc(), bytes)?;
+        assert_eq!(rt; words.as_str(), *want, "{bytes:?}");
     }
     Ok(())
 }
 
 // An object in which arrays nest so deep, with the object itself.
-fn nested(rt: &HostRuntime, depth: u8) -> Result<Vec<u8>, Fail> {
-    let mut out = Vec::new(rt.alloc());
-    out.extend_from_slice(b"{\"a\":")?;
+fn nested(alloc: Global, depth: u8) -> Result<Vec<u8>, AllocError> {
+    let mut text = Vec::new(alloc);
+    text.extend_from_slice(b"{\"a\":")?;
     for _ in 1..depth {
-        out.push(b'[')?;
+        text.push(b'[')?;
     }
     for _ in 1..depth {
-        out.push(b']')?;
+        text.push(b']')?;
     }
-    out.push(b'}')?;
-    Ok(out)
+    text.push(b'}')?;
+    Ok(text)
 }
 
 #[test]
 fn nesting_to_a_depth_of_128(rt: HostRuntime) -> Result<(), Fail> {
-    for (depth, want) in [(2, "8;"), (128, "260;"), (129, "Syntax")] {
-        let text = nested(&rt, depth)?;
-        let got = shown(&rt, text.as_slice(), false)?;
-        assert!(rt; got.as_str().starts_with(want), "{depth}");
+    for (depth, want) in [
+        (2, "8;a=array false"),
+        (128, "260;a=array false"),
+        (129, "Syntax"),
+    ] {
+        let text = nested(rt.alloc(), depth)?;
+        let words = words_of_members(rt.alloc(), text.as_slice())?;
+        assert_eq!(rt; words.as_str(), want);
     }
     Ok(())
 }
 
 #[test]
-fn fronts_of_an_object(rt: HostRuntime) -> Result<(), Fail> {
+fn prefixes_of_an_object(rt: HostRuntime) -> Result<(), Fail> {
     let text = b"{\"a\":[1,{\"b\":\"\\u00e9x\"}],\"c\":-1.5e3,\"d\":null}";
-    for end in 0..text.len() {
-        let got = shown(&rt, &text[..end], false)?;
-        let want = if end == 0 { "NotObject" } else { "Syntax" };
-        assert_eq!(rt; got.as_str(), want, "{end}");
+    for end in 1..text.len() {
+        let words = words_of_members(rt.alloc(), &text[..end])?;
+        assert_eq!(rt; words.as_str(), "Syntax", "{end}");
     }
     Ok(())
 }
 
 // The seconds and nanoseconds, or a dash.
-fn shown_moment(rt: &HostRuntime, moment: Option<Instant>) -> Result<String, Fail> {
-    match moment {
-        None => Ok(format!(in rt.alloc(); "-")?),
-        Some(moment) => {
-            let seconds = moment.seconds();
-            let nanos = moment.nanos();
-            Ok(format!(in rt.alloc(); "{seconds} {nanos}")?)
-        }
-    }
+fn moment_words(alloc: Global, moment: Option<Instant>) -> Result<String, AllocError> {
+    let Some(moment) = moment else {
+        return String::from_str(alloc, "-");
+    };
+    let seconds = moment.seconds();
+    let nanos = moment.nanos();
+    format!(in alloc; "{seconds} {nanos}")
 }
 
 #[test]
 fn dates_of_texts(rt: HostRuntime) -> Result<(), Fail> {
-    let table = [
+    let table: &[(&str, &str)] = &[
         ("2016-02-25T06:03:31Z", "1456380211 0"),
         ("2021-09-18T03:31:56Z", "1631935916 0"),
         ("2021-12-25T21:30:00Z", "1640467800 0"),
@@ -230,15 +235,15 @@ fn dates_of_texts(rt: HostRuntime) -> Result<(), Fail> {
         ("", "-"),
     ];
     for (text, want) in table {
-        let got = shown_moment(&rt, parse_date(text))?;
-        assert_eq!(rt; got.as_str(), want, "{text}");
+        let words = moment_words(rt.alloc(), parse_date(text))?;
+        assert_eq!(rt; words.as_str(), *want, "{text}");
     }
     Ok(())
 }
 
 #[test]
 fn dates_with_offsets(rt: HostRuntime) -> Result<(), Fail> {
-    let table = [
+    let table: &[(&str, &str)] = &[
         ("2022-05-02T18:36:00+00:00", "1651516560 0"),
         ("2022-05-02T18:36:00+02:00", "1651509360 0"),
         ("2022-05-02T18:36:00-02:00", "1651523760 0"),
@@ -251,101 +256,107 @@ fn dates_with_offsets(rt: HostRuntime) -> Result<(), Fail> {
         ("0001-01-01T00:00:00+00:01", "-62135596860 0"),
     ];
     for (text, want) in table {
-        let got = shown_moment(&rt, parse_offset_date(text))?;
-        assert_eq!(rt; got.as_str(), want, "{text}");
+        let words = moment_words(rt.alloc(), parse_offset_date(text))?;
+        assert_eq!(rt; words.as_str(), *want, "{text}");
     }
     Ok(())
+}
+
+fn date_words(alloc: Global, seconds: i64, nanos: u32) -> Result<String, OutOfMemory> {
+    let Some(moment) = Instant::new(seconds, nanos) else {
+        return Ok(String::from_str(alloc, "no moment")?);
+    };
+    let date = write_date(alloc, moment)?;
+    Ok(format!(in alloc; "{date:?}")?)
 }
 
 #[test]
 fn written_dates(rt: HostRuntime) -> Result<(), Fail> {
-    let table = [
-        (3600, 500_000_000, "1970-01-01T01:00:00.5Z"),
-        (253_402_300_800, 0, "-"),
+    let table: &[(i64, u32, &str)] = &[
+        (3600, 500_000_000, "Some(\"1970-01-01T01:00:00.5Z\")"),
+        (253_402_300_800, 0, "None"),
         (
             253_402_300_799,
             999_999_999,
-            "9999-12-31T23:59:59.999999999Z",
+            "Some(\"9999-12-31T23:59:59.999999999Z\")",
         ),
-        (-62_135_596_800, 0, "0001-01-01T00:00:00Z"),
-        (-62_135_596_801, 0, "-"),
-        (-1, 10, "1969-12-31T23:59:59.00000001Z"),
-        (951_782_400, 120_000_000, "2000-02-29T00:00:00.12Z"),
-        (i64::MIN, 0, "-"),
-        (i64::MAX, 0, "-"),
+        (-62_135_596_800, 0, "Some(\"0001-01-01T00:00:00Z\")"),
+        (-62_135_596_801, 0, "None"),
+        (-1, 10, "Some(\"1969-12-31T23:59:59.00000001Z\")"),
+        (
+            951_782_400,
+            120_000_000,
+            "Some(\"2000-02-29T00:00:00.12Z\")",
+        ),
+        (i64::MIN, 0, "None"),
+        (i64::MAX, 0, "None"),
     ];
     for (seconds, nanos, want) in table {
-        let moment = Instant::new(seconds, nanos).expect(&rt, "a moment");
-        match write_date(rt.alloc(), moment)? {
-            None => assert_eq!(rt; want, "-", "{seconds}"),
-            Some(text) => {
-                assert_eq!(rt; text.as_str(), want, "{seconds}");
-                assert_eq!(rt; parse_date(text.as_str()), Some(moment), "{seconds}");
-            }
-        }
+        let words = date_words(rt.alloc(), *seconds, *nanos)?;
+        assert_eq!(rt; words.as_str(), *want, "{seconds} {nanos}");
     }
     Ok(())
 }
 
-#[test]
-fn written_objects(rt: HostRuntime) -> Result<(), Fail> {
-    let mut writer = ObjectWriter::new(rt.alloc());
-    writer.text("k", "a\"\n\u{1}")?;
-    let text = writer.finish()?;
-    assert_eq!(rt; text.as_str(), "{\"k\":\"a\\\"\\n\\u0001\"}");
-    let mut inner = ObjectWriter::new(rt.alloc());
-    inner.text("\\", "\u{8}\u{c}\r\t/\u{1f}\u{7f}\u{e9}")?;
+// An object with two texts, within one with an empty object.
+fn written(alloc: Global) -> Result<Text, OutOfMemory> {
+    let mut inner = ObjectWriter::new(alloc);
+    inner.text("\\", "\"\n\u{8}\u{c}\r\t/\u{1f}\u{7f}\u{e9}")?;
     inner.text("", "")?;
-    let mut outer = ObjectWriter::new(rt.alloc());
-    outer.object("o", ObjectWriter::new(rt.alloc()))?;
+    let mut outer = ObjectWriter::new(alloc);
+    outer.object("o", ObjectWriter::new(alloc))?;
     outer.object("p", inner)?;
     outer.text("q", "z")?;
-    let text = outer.finish()?;
-    let want =
-        "{\"o\":{},\"p\":{\"\\\\\":\"\\b\\f\\r\\t/\\u001f\u{7f}\u{e9}\",\"\":\"\"},\"q\":\"z\"}";
-    assert_eq!(rt; text.as_str(), want);
-    let got = shown(&rt, text.as_str().as_bytes(), true)?;
-    assert_eq!(rt; got.as_str(), "54;o=object 5 7;p=object 12 45;q=text z");
+    outer.finish()
+}
+
+#[test]
+fn written_objects(rt: HostRuntime) -> Result<(), Fail> {
+    let text = written(rt.alloc())?;
+    assert_eq!(rt;
+        text.as_str(),
+        "{\"o\":{},\"p\":{\"\\\\\":\"\\\"\\n\\b\\f\\r\\t/\\u001f\u{7f}\u{e9}\",\"\":\"\"},\"q\":\"z\"}"
+    );
     Ok(())
 }
 
-// What a document says, in words.
-fn shown_document(rt: &HostRuntime, text: &str) -> Result<String, Fail> {
-    match parse_json_credentials(rt.alloc(), text) {
-        Ok(
-            JsonCredentials::RefreshableCredentials {
-                access_key_id,
-                secret_access_key,
-                session_token,
-                account_id,
-                expiration,
-            },
-        ) => {
-            let account = match &account_id {
-                None => "-",
-                Some(account) => account.as_str(),
-            };
+// What a document says, with its secrets.
+fn document_words(alloc: Global, document: &JsonCredentials) -> Result<String, AllocError> {
+    match document {
+        JsonCredentials::RefreshableCredentials {
+            access_key_id,
+            secret_access_key,
+            session_token,
+            account_id,
+            expiration,
+        } => {
             let id = access_key_id.as_str();
             let secret = secret_access_key.as_str();
             let token = session_token.as_str();
             let end = expiration.seconds();
-            Ok(format!(in rt.alloc(); "{id} {secret} {token} {account} {end}")?)
+            format!(in alloc; "{id} {secret} {token} {account_id:?} {end}")
         }
-        Ok(JsonCredentials::Error { code, message }) => {
+        JsonCredentials::Error { code, message } => {
             let code = code.as_str();
             let message = message.as_str();
-            Ok(format!(in rt.alloc(); "error {code}: {message}")?)
+            format!(in alloc; "error {code}: {message}")
         }
-        Err(e) => Ok(format!(in rt.alloc(); "{e}")?),
+    }
+}
+
+fn words_of_document(alloc: Global, text: &str) -> Result<String, AllocError> {
+    match parse_json_credentials(alloc, text) {
+        Ok(document) => document_words(alloc, &document),
+        Err(e) => format!(in alloc; "{e}"),
     }
 }
 
 #[test]
 fn documents_of_texts(rt: HostRuntime) -> Result<(), Fail> {
-    let table = [
+    let table: &[(&str, &str)] = &[
         (
             "{\"AccessKeyId\":\"MUA\",\"SecretAccessKey\":\"S\",\"Token\":\"T\",\"Expiration\":\"2016-02-25T06:03:31Z\"}",
-            "MUA S T - 1456380211",
+            "MUA S T None 1456380211",
         ),
         (
             "{\"AccessKeyId\":\"MUA\",\"SecretAccessKey\":\"S\",\"Expiration\":\"2016-02-25T06:03:31Z\"}",
@@ -362,7 +373,7 @@ fn documents_of_texts(rt: HostRuntime) -> Result<(), Fail> {
         ("{\"Code\":\"x\",\"MESSAGE\":\"m\"}", "error x: m"),
         (
             "{\"AccessKeyId\":\"MUA\",\"SecretAccessKey\":\"S\",\"Token\":\"T\",\"ExpiresAt\":\"2016-02-25T06:03:31Z\",\"sessiontoken\":\"L\",\"AccessKeyId\":7,\"Code\":\"Succ\\u0065ss\",\"accountid\":\"1\"}",
-            "MUA S L 1 1456380211",
+            "MUA S L Some(\"1\") 1456380211",
         ),
         (
             "{\"AccessKeyId\":\"MUA\",\"SecretAccessKey\":\"S\",\"Token\":\"T\",\"Expiration\":\"x\"}",
@@ -388,47 +399,43 @@ fn documents_of_texts(rt: HostRuntime) -> Result<(), Fail> {
         ),
     ];
     for (text, want) in table {
-        let got = shown_document(&rt, text)?;
-        assert_eq!(rt; got.as_str(), want, "{text}");
+        let words = words_of_document(rt.alloc(), text)?;
+        assert_eq!(rt; words.as_str(), *want, "{text}");
     }
     Ok(())
 }
 
-// The keys of a process's document, in words.
-fn shown_process(rt: &HostRuntime, text: &str) -> Result<String, Fail> {
-    let profile = AccountId::new(rt.alloc(), "9")?;
+// Keys with their secrets.
+fn key_words(alloc: Global, keys: &Credentials) -> Result<String, AllocError> {
+    let id = keys.access_key_id();
+    let secret = keys.secret_access_key();
+    let token = keys.session_token();
+    let account = keys.account_id();
+    let end = keys.expiry();
+    format!(in alloc; "{id} {secret} {token:?} {account:?} {end:?}")
+}
+
+// The keys of a process's document, of a profile with an account.
+fn process_words(alloc: Global, text: &str) -> Result<String, OutOfMemory> {
+    let profile = AccountId::new(alloc, "9")?;
     let read: Result<Credentials, InvalidJsonCredentials> =
-        parse_credential_process_json_credentials(rt.alloc(), text, Some(&profile));
-    match read {
-        Ok(keys) => {
-            let id = keys.access_key_id();
-            let secret = keys.secret_access_key();
-            let token = match keys.session_token() {
-                None => "-",
-                Some(token) => token,
-            };
-            let account = match keys.account_id() {
-                None => "-",
-                Some(account) => account.as_str(),
-            };
-            let end = shown_moment(rt, keys.expiry())?;
-            let end = end.as_str();
-            Ok(format!(in rt.alloc(); "{id} {secret} {token} {account} {end}")?)
-        }
-        Err(e) => Ok(format!(in rt.alloc(); "{e}")?),
-    }
+        parse_credential_process_json_credentials(alloc, text, Some(&profile));
+    Ok(match read {
+        Ok(keys) => key_words(alloc, &keys)?,
+        Err(e) => format!(in alloc; "{e}")?,
+    })
 }
 
 #[test]
 fn documents_of_processes(rt: HostRuntime) -> Result<(), Fail> {
-    let table = [
+    let table: &[(&str, &str)] = &[
         (
             "{\"Version\":1,\"AccessKeyId\":\"A\",\"SecretAccessKey\":\"S\",\"Expiration\":\"2022-05-02T18:36:00+02:00\"}",
-            "A S - 9 1651509360 0",
+            "A S None Some(AccountId { id: \"9\" }) Some(Instant { seconds: 1651509360, nanos: 0 })",
         ),
         (
             "{\"Version\":2,\"version\":1,\"AccessKeyId\":\"A\",\"SecretAccessKey\":\"S\",\"SessionToken\":\"T\",\"AccountId\":\"1\"}",
-            "A S T 1 -",
+            "A S Some(\"T\") Some(AccountId { id: \"1\" }) None",
         ),
         (
             "{\"Version\":1.0}",
@@ -473,20 +480,22 @@ fn documents_of_processes(rt: HostRuntime) -> Result<(), Fail> {
         ("{} x", "found more JSON tokens after completing parsing"),
     ];
     for (text, want) in table {
-        let got = shown_process(&rt, text)?;
-        assert_eq!(rt; got.as_str(), want, "{text}");
+        let words = process_words(rt.alloc(), text)?;
+        assert_eq!(rt; words.as_str(), *want, "{text}");
     }
     Ok(())
 }
 
 #[test]
-fn debug_texts_show_no_secret(rt: HostRuntime) -> Result<(), Fail> {
-    let text =
-        "{\"AccessKeyId\":\"MUA\",\"SecretAccessKey\":\"SSS\",\"Token\":\"TTT\",\"Expiration\":\"2016-02-25T06:03:31Z\"}";
-    let read = parse_json_credentials(rt.alloc(), text);
-    let shown = format!(in rt.alloc(); "{read:?}")?;
-    assert!(rt; shown.as_str().contains("MUA"));
-    assert!(rt; !shown.as_str().contains("SSS"));
-    assert!(rt; !shown.as_str().contains("TTT"));
+fn documents_show_no_secret(rt: HostRuntime) -> Result<(), Fail> {
+    let read = parse_json_credentials(
+        rt.alloc(),
+        "{\"AccessKeyId\":\"MUA\",\"SecretAccessKey\":\"SSS\",\"Token\":\"TTT\",\"AccountId\":\"1\",\"Expiration\":\"2016-02-25T06:03:31Z\"}",
+    )?;
+    let words = format!(in rt.alloc(); "{read:?} {read:#?}")?;
+    assert_eq!(rt;
+        words.as_str(),
+        "RefreshableCredentials { access_key_id: \"MUA\", secret_access_key: \"** redacted **\", session_token: \"** redacted **\", account_id: \"1\", expiration: 1456380211 s 0 ns } RefreshableCredentials { access_key_id: \"MUA\", secret_access_key: \"** redacted **\", session_token: \"** redacted **\", account_id: \"1\", expiration: 1456380211 s 0 ns }"
+    );
     Ok(())
 }

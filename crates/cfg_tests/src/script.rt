@@ -1,19 +1,23 @@
-// What no clause says: that the definition is the script that was meant, and that reading succeeds.
-use cfg_script::{Unread, read_script};
-use cfg_types::{FailKind, Instant, Refusal, RefusalKind, Reply, StsCredentials, StsReply, Text};
+// What no clause says: that the definition is the script that was meant, printed texts, and that
+// reading succeeds.
+use cfg_script::{Script, Unread, read_script};
+use cfg_types::{FailKind, Reply, StsCredentials, StsReply};
 use std::alloc::{AllocError, Global};
 use std::test::Fail;
 
-fn fault_of(alloc: Global, bytes: &[u8]) -> Option<Unread> {
+// How reading ends, in a word.
+fn outcome(alloc: Global, bytes: &[u8]) -> &'static str {
     match read_script(alloc, bytes) {
-        Ok(_) => None,
-        Err(unread) => Some(unread),
+        Ok(_) => "script",
+        Err(Unread::NoScript) => "no script",
+        Err(Unread::NotBuilt) => "not built",
+        Err(Unread::OutOfMemory) => "out of memory",
     }
 }
 
 #[test]
 fn refuses_other_text(rt: HostRuntime) {
-    for text in [
+    let texts: &[&str] = &[
         "",
         " ",
         "x",
@@ -37,26 +41,28 @@ fn refuses_other_text(rt: HostRuntime) {
         "\u{feff}{}",
         "// none\n{}",
         "{\"selected\":1e400,\"selected\":\"a\"}",
-    ] {
-        assert_eq!(rt;
-            fault_of(rt.alloc(), text.as_bytes()),
-            Some(Unread::NoScript),
-            "{text}"
-        );
+    ];
+    for text in texts {
+        assert_eq!(rt; outcome(rt.alloc(), text.as_bytes()), "no script", "{text}");
     }
-    for bytes in [
-        b"\xef\xbb\xbf{}".as_slice(),
-        b"{\"selected\":\"\xff\"}".as_slice(),
-        b"{\"selected\":\"\xed\xa0\x80\"}".as_slice(),
-        b"{}\xff".as_slice(),
-    ] {
-        assert_eq!(rt; fault_of(rt.alloc(), bytes), Some(Unread::NoScript));
+}
+
+#[test]
+fn refuses_other_bytes(rt: HostRuntime) {
+    let texts: &[&[u8]] = &[
+        b"\xef\xbb\xbf{}",
+        b"{\"selected\":\"\xff\"}",
+        b"{\"selected\":\"\xed\xa0\x80\"}",
+        b"{}\xff",
+    ];
+    for bytes in texts {
+        assert_eq!(rt; outcome(rt.alloc(), bytes), "no script", "{bytes:?}");
     }
 }
 
 #[test]
 fn refuses_other_forms(rt: HostRuntime) {
-    for text in [
+    let texts: &[&str] = &[
         "{\"bogus\":1}",
         "{\"callers\":[]}",
         "{\"Region\":\"a\"}",
@@ -80,18 +86,21 @@ fn refuses_other_forms(rt: HostRuntime) {
         "{\"profiles\":[[\"p\",[[\"k\",null]]]]}",
         "{\"profiles\":[[\"p\",[],[]]]}",
         "{\"profiles\":[[1,[]]]}",
-    ] {
-        assert_eq!(rt;
-            fault_of(rt.alloc(), text.as_bytes()),
-            Some(Unread::NoScript),
-            "{text}"
-        );
+        "{\"replies\":null}",
+        "{\"replies\":[]}",
+        "{\"replies\":\"http\"}",
+        "{\"replies\":[{\"http\":[]}]}",
+        "{\"replies\":{\"bogus\":[]}}",
+        "{\"replies\":{\"assume-role\":null}}",
+    ];
+    for text in texts {
+        assert_eq!(rt; outcome(rt.alloc(), text.as_bytes()), "no script", "{text}");
     }
 }
 
 #[test]
 fn refuses_other_numbers(rt: HostRuntime) {
-    for text in [
+    let texts: &[&str] = &[
         "{\"clock\":1}",
         "{\"clock\":[-1]}",
         "{\"clock\":[-0]}",
@@ -111,19 +120,15 @@ fn refuses_other_numbers(rt: HostRuntime) {
         "{\"clock\":[[1,0.0]]}",
         "{\"clock\":[[-1,999999999]]}",
         "{\"clock\":[[[1,2],3]]}",
-    ] {
-        assert_eq!(rt;
-            fault_of(rt.alloc(), text.as_bytes()),
-            Some(Unread::NoScript),
-            "{text}"
-        );
+    ];
+    for text in texts {
+        assert_eq!(rt; outcome(rt.alloc(), text.as_bytes()), "no script", "{text}");
     }
 }
 
-// A text is refused where it stands in the list of replies.
 #[test]
 fn refuses_other_replies(rt: HostRuntime) -> Result<(), Fail> {
-    for item in [
+    let items: &[&str] = &[
         "1",
         "true",
         "[]",
@@ -146,35 +151,17 @@ fn refuses_other_replies(rt: HostRuntime) -> Result<(), Fail> {
         "{\"id\":\"i\",\"secret\":\"s\",\"token\":\"t\",\"expires\":null}",
         "{\"id\":\"i\",\"secret\":\"s\",\"token\":\"t\",\"expires\":1,\"arn\":null}",
         "{\"id\":\"i\",\"secret\":\"s\",\"token\":\"t\",\"expires\":1,\"message\":\"m\"}",
-    ] {
+    ];
+    for item in items {
         let text = format!(in rt.alloc(); "{{\"replies\":{{\"assume-role\":[{item}]}}}}")?;
-        assert_eq!(rt;
-            fault_of(rt.alloc(), text.as_bytes()),
-            Some(Unread::NoScript),
-            "{item}"
-        );
-    }
-    for replies in [
-        "null",
-        "[]",
-        "\"http\"",
-        "[{\"http\":[]}]",
-        "{\"bogus\":[]}",
-        "{\"assume-role\":null}",
-    ] {
-        let text = format!(in rt.alloc(); "{{\"replies\":{replies}}}")?;
-        assert_eq!(rt;
-            fault_of(rt.alloc(), text.as_bytes()),
-            Some(Unread::NoScript),
-            "{replies}"
-        );
+        assert_eq!(rt; outcome(rt.alloc(), text.as_bytes()), "no script", "{item}");
     }
     Ok(())
 }
 
 #[test]
 fn knows_what_is_not_built(rt: HostRuntime) -> Result<(), Fail> {
-    for name in [
+    let names: &[&str] = &[
         "calls",
         "sessions",
         "refused",
@@ -184,15 +171,17 @@ fn knows_what_is_not_built(rt: HostRuntime) -> Result<(), Fail> {
         "jitter",
         "commands",
         "lookups",
-    ] {
+    ];
+    for name in names {
         let text = format!(in rt.alloc(); "{{\"bogus\":1,\"selected\":null,\"{name}\":{{}}}}")?;
-        assert_eq!(rt;
-            fault_of(rt.alloc(), text.as_bytes()),
-            Some(Unread::NotBuilt),
-            "{name}"
-        );
+        assert_eq!(rt; outcome(rt.alloc(), text.as_bytes()), "not built", "{name}");
     }
-    for name in [
+    Ok(())
+}
+
+#[test]
+fn knows_what_is_not_built_of_replies(rt: HostRuntime) -> Result<(), Fail> {
+    let names: &[&str] = &[
         "http",
         "imds-token",
         "imds-get",
@@ -200,20 +189,17 @@ fn knows_what_is_not_built(rt: HostRuntime) -> Result<(), Fail> {
         "role-credentials",
         "create-token",
         "sign-in",
-    ] {
+    ];
+    for name in names {
         let text = format!(in rt.alloc();
             "{{\"callers\":1,\"replies\":{{\"bogus\":1,\"{name}\":null}}}}"
         )?;
-        assert_eq!(rt;
-            fault_of(rt.alloc(), text.as_bytes()),
-            Some(Unread::NotBuilt),
-            "{name}"
-        );
+        assert_eq!(rt; outcome(rt.alloc(), text.as_bytes()), "not built", "{name}");
     }
     Ok(())
 }
 
-// A name that is not built stands over lists as deep as that: whether the text is read at all shows.
+// A name that is not built over lists that nest so deep: whether the text is read at all shows.
 fn nested(alloc: Global, depth: usize) -> Result<String, AllocError> {
     let mut text = String::from_str(alloc, "{\"calls\":")?;
     for _ in 1..depth {
@@ -228,22 +214,16 @@ fn nested(alloc: Global, depth: usize) -> Result<String, AllocError> {
 
 #[test]
 fn reads_as_deep_as_the_reader(rt: HostRuntime) -> Result<(), Fail> {
-    let readable = nested(rt.alloc(), 127)?;
-    assert_eq!(rt;
-        fault_of(rt.alloc(), readable.as_bytes()),
-        Some(Unread::NotBuilt)
-    );
-    let deeper = nested(rt.alloc(), 128)?;
-    assert_eq!(rt;
-        fault_of(rt.alloc(), deeper.as_bytes()),
-        Some(Unread::NoScript)
-    );
+    for (depth, want) in [(127, "not built"), (128, "no script")] {
+        let text = nested(rt.alloc(), depth)?;
+        assert_eq!(rt; outcome(rt.alloc(), text.as_bytes()), want);
+    }
     Ok(())
 }
 
 #[test]
 fn reads_scripts(rt: HostRuntime) {
-    for text in [
+    let texts: &[&str] = &[
         "{}",
         " \t\r\n{ } \n",
         "{\"variables\":[],\"profiles\":[],\"clock\":[],\"replies\":{}}",
@@ -255,79 +235,77 @@ fn reads_scripts(rt: HostRuntime) {
         "{\"replies\":{\"http\":[]},\"replies\":{}}",
         "{\"profiles\":[[\"p\",[]],[\"p\",[[\"k\",\"v\"],[\"k\",\"w\"]]]]}",
         "{\"clock\":[0,9223372036854775807,[0,999999999],[9223372036854775807,0]]}",
-    ] {
-        assert_eq!(rt; fault_of(rt.alloc(), text.as_bytes()), None, "{text}");
+    ];
+    for text in texts {
+        assert_eq!(rt; outcome(rt.alloc(), text.as_bytes()), "script", "{text}");
     }
+}
+
+// A moment of credentials, and their texts.
+fn granted_words(alloc: Global, keys: &Option<StsCredentials>) -> Result<String, AllocError> {
+    match keys {
+        None => String::from_str(alloc, "none"),
+        Some(keys) => {
+            let id = keys.access_key_id.as_str();
+            let secret = keys.secret_access_key.as_str();
+            let token = keys.session_token.as_str();
+            let end = keys.expiration;
+            format!(in alloc; "{id} {secret} {token} {end:?}")
+        }
+    }
+}
+
+fn reply_words(alloc: Global, reply: &Result<Reply, FailKind>) -> Result<String, AllocError> {
+    match reply {
+        Ok(Reply::Sts(StsReply { credentials, arn })) => {
+            let keys = granted_words(alloc, credentials)?;
+            format!(in alloc; "{keys} {arn:?}")
+        }
+        Ok(Reply::Refused(refusal)) => format!(in alloc; "{refusal:?}"),
+        Err(kind) => format!(in alloc; "{kind:?}"),
+    }
+}
+
+// What a script says, in words.
+fn script_words(alloc: Global, script: &Script) -> Result<String, AllocError> {
+    let variables = &script.variables;
+    let profiles = &script.profiles;
+    let selected = &script.selected;
+    let region = &script.region;
+    let clock = &script.clock;
+    format!(in alloc; "{variables:?} {profiles:?} {selected:?} {region:?} {clock:?}")
 }
 
 const WHOLE: &str =
     "{\"variables\":[[\"A\",\"é\"],[\"B\",null]],\"profiles\":[[\"p\",[[\"k\",\"v\"],[\"l\",\"\"]]]],\"selected\":\"p\",\"region\":\"r\",\"clock\":[7,[8,9]],\"replies\":{\"assume-role\":[null,\"dispatch\",\"timeout\",\"broken\",{\"refused\":\"TokenExpired\",\"message\":\"m\"},{\"id\":\"i\",\"secret\":\"s\",\"token\":\"t\",\"expires\":[-5,7]},{\"id\":\"i\",\"secret\":\"s\",\"token\":\"t\",\"expires\":3,\"arn\":\"a\"}]}}";
 
-fn text(alloc: Global, text: &str) -> Result<Text, Fail> {
-    Ok(Text::of(alloc, text)?)
-}
-
-fn granted(
-    alloc: Global,
-    seconds: i64,
-    nanos: u32,
-    arn: Option<Text>,
-) -> Result<Result<Reply, FailKind>, Fail> {
-    Ok(Ok(Reply::Sts(StsReply {
-        credentials: Some(StsCredentials {
-            access_key_id: text(alloc, "i")?,
-            secret_access_key: text(alloc, "s")?,
-            session_token: text(alloc, "t")?,
-            expiration: Instant::new(seconds, nanos).ok_or("nanoseconds")?,
-        }),
-        arn,
-    })))
-}
-
 #[test]
 fn reads_every_part(rt: HostRuntime) -> Result<(), Fail> {
-    let alloc = rt.alloc();
-    let script = read_script(alloc, WHOLE.as_bytes())?;
-    let variables = format!(in alloc; "{:?}", script.variables)?;
+    let script = read_script(rt.alloc(), WHOLE.as_bytes())?;
+    let words = script_words(rt.alloc(), &script)?;
     assert_eq!(rt;
-        variables.as_str(),
-        "[(\"A\", Text(Text { inner: \"é\" })), (\"B\", NotUnicode)]"
+        words.as_str(),
+        "[(\"A\", Text(\"é\")), (\"B\", NotUnicode)] [(\"p\", [(\"k\", \"v\"), (\"l\", \"\")])] Some(\"p\") Some(\"r\") [Instant { seconds: 7, nanos: 0 }, Instant { seconds: 8, nanos: 9 }]"
     );
-    let profiles = format!(in alloc; "{:?}", script.profiles)?;
-    assert_eq!(rt;
-        profiles.as_str(),
-        "[(\"p\", [(\"k\", \"v\"), (\"l\", \"\")])]"
-    );
-    let overrides = format!(in alloc; "{:?} {:?}", script.selected, script.region)?;
-    assert_eq!(rt; overrides.as_str(), "Some(\"p\") Some(\"r\")");
-    let clock = vec![in alloc; Instant::new(7, 0), Instant::new(8, 9)]?;
-    assert_eq!(rt; script.clock.len(), clock.len());
-    for (read, wanted) in script.clock.iter().zip(&clock) {
-        assert!(rt; Some(*read) == *wanted);
-    }
     Ok(())
 }
 
 #[test]
 fn reads_every_reply(rt: HostRuntime) -> Result<(), Fail> {
-    let alloc = rt.alloc();
-    let script = read_script(alloc, WHOLE.as_bytes())?;
-    let none = Reply::Sts(StsReply {
-        credentials: None,
-        arn: None,
-    });
-    let refusal = Refusal {
-        kind: RefusalKind::TokenExpired,
-        message: text(alloc, "m")?,
-    };
-    let mut wanted = Vec::new(alloc);
-    wanted.push(Ok(none))?;
-    for kind in [FailKind::Dispatch, FailKind::Timeout, FailKind::Broken] {
-        wanted.push(Err(kind))?;
+    let script = read_script(rt.alloc(), WHOLE.as_bytes())?;
+    let table: &[&str] = &[
+        "none None",
+        "Dispatch",
+        "Timeout",
+        "Broken",
+        "Refusal { kind: TokenExpired, message: \"m\" }",
+        "i s t Instant { seconds: -5, nanos: 7 } None",
+        "i s t Instant { seconds: 3, nanos: 0 } Some(\"a\")",
+    ];
+    assert_eq!(rt; script.assume_role.len(), table.len());
+    for (reply, want) in script.assume_role.iter().zip(table) {
+        let words = reply_words(rt.alloc(), reply)?;
+        assert_eq!(rt; words.as_str(), *want);
     }
-    wanted.push(Ok(Reply::Refused(refusal)))?;
-    wanted.push(granted(alloc, -5, 7, None)?)?;
-    wanted.push(granted(alloc, 3, 0, Some(text(alloc, "a")?))?)?;
-    assert!(rt; script.assume_role == wanted);
     Ok(())
 }
