@@ -14,9 +14,9 @@ use Rattle.cfg_types.specs.declared.errors.ProfileFileError.{ProfileFileError}
 use Rattle.cfg_types.specs.declared.errors.ProfileFileError.TheVariants as plan_error
 use Rattle.cfg_world.specs.Inquiry.{Done, Reads, if_ok}
 use Rattle.cfg_world.proofs.Inquiries.{split_after}
-use Rattle.cfg_chain.specs.declared.profile_chain.ProfileChain.{ProfileChain}
+use Rattle.cfg_chain.specs.declared.profile.plan.ProfileChain.{ProfileChain}
 use Rattle.cfg_chain.specs.Plans.{plan}
-use Rattle.cfg_chain.specs.Derivation.{in_role, derives}
+use Rattle.cfg_chain.specs.AssumeRole.{in_role, assumes_roles}
 use Rattle.cfg_chain.specs.Profiles.{refusal, by_profile, follows_plan, profile}
 use Rattle.cfg_chain.specs.declared.kept.Found.{Found}
 use Rattle.cfg_chain.specs.declared.member.Member.TheVariants.{Environment, Profile}
@@ -24,12 +24,12 @@ use Rattle.cfg_chain.specs.declared.member.Turn.TheVariants.{PassedOver, Answers
 use Rattle.cfg_chain.specs.Configuration.{Configuration}
 use Rattle.cfg_chain.specs.Gives.{◌>>=◌}
 use Rattle.cfg_chain.specs.EnvironmentKeys.{required_by, secret_or, optional, usable, is_not_unicode, environment}
-use Rattle.cfg_chain.specs.Members.{reading, is_not_loaded, is_not_loaded_level, turn}
+use Rattle.cfg_chain.specs.Members.{member_inquiry, is_not_loaded, is_not_loaded_level, turn}
 use Rattle.cfg_chain.specs.Chains.{Attempts, none_loaded}
 use Rattle.cfg_chain.specs.Resolves.{Resolves}
 use Rattle.cfg_chain.specs.Valid.{IsValid}
 use Rattle.cfg_chain.specs.Causes.{HasCause, environment_is_passed_over, unreadable_variable, plan_is_passed_over, fault_of_plan, fault, first_failure, named_variable, is_not_loaded_answer, told_fault, fault_in_level, tells_role, is_role_level, is_memory, is_memory_level}
-use Rattle.cfg_chain.proofs.DerivationCauses.{Derived, derived}
+use Rattle.cfg_chain.proofs.RoleCauses.{Derived, derived}
 
 abbrev id_name : List ℕ
 id_name = codes "AWS_ACCESS_KEY_ID"
@@ -93,8 +93,8 @@ record Quiet (conf : Configuration) (journal : List Pair) (out : Result Keys Cre
   is : environment conf.environment ≡ out
   empty : journal ≡ []
 
-quiet : (conf : Configuration) (journal : List Pair) (out : Result Keys CredentialsError) → Reads (reading conf Environment) journal out → Quiet conf journal out
-unfolding reading
+quiet : (conf : Configuration) (journal : List Pair) (out : Result Keys CredentialsError) → Reads (member_inquiry conf Environment) journal out → Quiet conf journal out
+unfolding member_inquiry
 quiet conf [] out h = record { is = h; empty = refl }
 quiet conf (e ∷ journal) out h = absurd h
 
@@ -145,12 +145,12 @@ by_plan : (conf : Configuration) (p : Result ProfileChain ProfileFileError) (jou
 by_plan conf (Err e) [] out m h = subst (λ o. Tells o (plan_is_passed_over (Err e)) None (fault_of_plan (Err e)) None) h (refused e (ap is_memory h ∙ m))
 by_plan conf (Err e) (x ∷ journal) out m h = absurd h
 by_plan conf (Ok p) journal out m h =
-    let s = split_after (derives conf p.roles p.base) (if_ok (λ keys. Done (Ok (by_profile keys)))) journal out h in
+    let s = split_after (assumes_roles conf p.roles p.base) (if_ok (λ keys. Done (Ok (by_profile keys)))) journal out h in
     marked journal s.part s.rest s.middle out s.parts (derived conf p.roles p.base s.part s.middle s.first) s.then
 
 profiled : (conf : Configuration) (journal : List Pair) (out : Result Keys CredentialsError) → is_memory out ≡ false →
-    Reads (reading conf Profile) journal out → Tells out (plan_is_passed_over (plan conf)) None (fault_of_plan (plan conf)) (first_failure journal)
-unfolding reading profile
+    Reads (member_inquiry conf Profile) journal out → Tells out (plan_is_passed_over (plan conf)) None (fault_of_plan (plan conf)) (first_failure journal)
+unfolding member_inquiry profile
 profiled conf journal out m h = by_plan conf (plan conf) journal out m h
 
 -- an error of a provider that was not loaded tells nothing else
@@ -215,7 +215,7 @@ after_environment conf part rest journal e out q not_loaded parts t =
     (subst (λ j. Whole conf j out true None) (sym same) t)))
 
 -- the profile decides
-profile_decides : (conf : Configuration) (rest : List Pair) (out : Result Keys CredentialsError) → is_memory out ≡ false → Reads (reading conf Profile) rest out → Whole conf rest out true None
+profile_decides : (conf : Configuration) (rest : List Pair) (out : Result Keys CredentialsError) → is_memory out ≡ false → Reads (member_inquiry conf Profile) rest out → Whole conf rest out true None
 profile_decides conf rest out m h = subst (λ b. Tells out b None (fault_of_plan (plan conf)) (first_failure rest)) (and_true (plan_is_passed_over (plan conf))) (profiled conf rest out m h)
 
 none_there : {T : Type 0} (o : Option T) → false ≡ is_some o → None ≡ o
@@ -227,7 +227,7 @@ none_tells : (attempts : Attempts) → Tells (none_loaded attempts) true None No
 unfolding errors.out-CredentialsError carrier.out
 none_tells attempts = record { not_loaded = refl; named = refl; fault = refl; is_role = refl; role = tt; loaded = refl }
 
-all_passed_over : (conf : Configuration) (part rest journal : List Pair) (e : CredentialsError) (attempts : Attempts) → Reads (reading conf Profile) part (Err e) → is_not_loaded e ≡ true →
+all_passed_over : (conf : Configuration) (part rest journal : List Pair) (e : CredentialsError) (attempts : Attempts) → Reads (member_inquiry conf Profile) part (Err e) → is_not_loaded e ≡ true →
     journal ≡ part ++ rest → rest ≡ [] → Whole conf journal (none_loaded attempts) true None
 all_passed_over conf part rest journal e attempts h not_loaded parts empty =
     let s = silent e not_loaded in

@@ -1,9 +1,9 @@
 pub mod EnvironmentSteps
 pub mod QuietSteps
 pub mod ChainSteps
-pub mod DerivationSteps
+pub mod RoleSteps
 pub mod Colons
 pub mod Parts
 pub mod Providing
-pub mod DerivationCauses
+pub mod RoleCauses
 pub mod CauseCases

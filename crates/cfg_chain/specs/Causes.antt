@@ -20,13 +20,13 @@ use Rattle.cfg_world.specs.declared.ask.Answer.{Answer}
 use Rattle.cfg_world.specs.Fits.{Pair}
 use Rattle.cfg_world.specs.Leaves.{reply_of}
 use Rattle.cfg_chain.specs.declared.member.Member.{Member}
-use Rattle.cfg_chain.specs.declared.profile_chain.ProfileChain.{ProfileChain}
+use Rattle.cfg_chain.specs.declared.profile.plan.ProfileChain.{ProfileChain}
 use Rattle.cfg_chain.specs.declared.member.Member.TheVariants.{Environment, Profile}
 use Rattle.cfg_chain.specs.Configuration.{Configuration}
 use Rattle.cfg_chain.specs.Members.{is_not_loaded}
 use Rattle.cfg_chain.specs.Resolves.{default_members}
 use Rattle.cfg_chain.specs.Plans.{plan}
-use Rattle.cfg_chain.specs.Derivation.{granted, in_role}
+use Rattle.cfg_chain.specs.AssumeRole.{granted, in_role}
 use Rattle.cfg_chain.specs.EnvironmentKeys.{usable, is_not_unicode}
 
 -- a variable that is absent or blank

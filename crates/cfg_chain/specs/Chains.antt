@@ -10,7 +10,7 @@ use Rattle.cfg_chain.specs.declared.member.Member.{Member}
 use Rattle.cfg_chain.specs.declared.member.Turn.{Turn}
 use Rattle.cfg_chain.specs.declared.member.Turn.TheVariants.{PassedOver, Answers}
 use Rattle.cfg_chain.specs.Configuration.{Configuration}
-use Rattle.cfg_chain.specs.Members.{reading, turn, attempt}
+use Rattle.cfg_chain.specs.Members.{member_inquiry, turn, attempt}
 
 abbrev pub Attempts : Type 0
 Attempts = List (ProviderAttempt CredentialsError)
@@ -27,4 +27,4 @@ go_on others member attempts (Answers out) = Done out
 -- the questions of these members, in order, after these attempts
 unfoldable pub chain : Configuration → List Member → Attempts → Inquiry (Result Keys CredentialsError)
 chain conf [] attempts = Done (none_loaded attempts)
-chain conf (member ∷ members) attempts = after (reading conf member) (λ out. go_on (chain conf members) member attempts (turn out))
+chain conf (member ∷ members) attempts = after (member_inquiry conf member) (λ out. go_on (chain conf members) member attempts (turn out))

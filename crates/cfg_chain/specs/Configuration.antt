@@ -5,9 +5,9 @@ use Rattle.std.specs.FinMap.{empty}
 use Rattle.cfg_types.specs.TextMap.{Named, named_code}
 use Rattle.cfg_types.specs.declared.environment.EnvText.{EnvText}
 use Rattle.cfg_types.specs.contracts.environment.EnvText as variable
-use Rattle.cfg_chain.specs.declared.profile.ProfileSource.{ProfileSource}
-use Rattle.cfg_chain.specs.declared.profile.ProfileSource.TheVariants.{Sections}
-use Rattle.cfg_chain.specs.contracts.profile.ProfileSource as source
+use Rattle.cfg_chain.specs.declared.profile.sections.ProfileSource.{ProfileSource}
+use Rattle.cfg_chain.specs.declared.profile.sections.ProfileSource.TheVariants.{Sections}
+use Rattle.cfg_chain.specs.contracts.profile.sections.ProfileSource as source
 
 pub record Configuration : Type 0 where
   -- by the bytes of their names

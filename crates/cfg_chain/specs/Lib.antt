@@ -7,10 +7,11 @@ pub mod EnvironmentKeys
 pub mod StaticKeys
 pub mod Plans
 pub mod Sts
-pub mod Derivation
+pub mod AssumeRole
 pub mod Profiles
 pub mod Members
 pub mod Chains
+pub mod KeptStates
 pub mod Resolves
 pub mod Causes
 pub mod Valid

@@ -22,9 +22,9 @@ name_of Profile = codes "Profile"
 
 -- A member's questions and, over their answers, its outcome. The environment asks nothing, and the
 -- profile asks for its roles.
-unfoldable pub reading : Configuration → Member → Inquiry (Result Keys CredentialsError)
-reading conf Environment = Done (environment conf.environment)
-reading conf Profile = profile conf
+unfoldable pub member_inquiry : Configuration → Member → Inquiry (Result Keys CredentialsError)
+member_inquiry conf Environment = Done (environment conf.environment)
+member_inquiry conf Profile = profile conf
 
 abbrev pub is_not_loaded_level : CredentialsError-F CredentialsError NotLoadedCause ProviderCause → Bool
 is_not_loaded_level (CredentialsError-F.CredentialsNotLoaded cause) = true

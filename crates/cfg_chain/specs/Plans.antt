@@ -8,16 +8,16 @@ use Rattle.cfg_types.specs.Environment.{variable}
 use Rattle.cfg_types.specs.declared.environment.VarError.{VarError}
 use Rattle.cfg_types.specs.declared.errors.ProfileFileError.{ProfileFileError}
 use Rattle.cfg_types.specs.declared.errors.ProfileFileError.TheVariants.{InvalidProfile, NoProfilesDefined, MissingProfile, FeatureNotEnabled}
-use Rattle.cfg_chain.specs.declared.profile.ProfileSource.{ProfileSource}
-use Rattle.cfg_chain.specs.declared.profile.ProfileSource.TheVariants.{Sections, Refused}
-use Rattle.cfg_chain.specs.declared.profile_chain.RoleArn.{RoleArn}
-use Rattle.cfg_chain.specs.declared.profile_chain.ProfileChain.{ProfileChain}
+use Rattle.cfg_chain.specs.declared.profile.sections.ProfileSource.{ProfileSource}
+use Rattle.cfg_chain.specs.declared.profile.sections.ProfileSource.TheVariants.{Sections, Refused}
+use Rattle.cfg_chain.specs.declared.profile.plan.RoleArn.{RoleArn}
+use Rattle.cfg_chain.specs.declared.profile.plan.ProfileChain.{ProfileChain}
 use Rattle.cfg_chain.specs.SectionParts.{SectionParts}
 use Rattle.cfg_chain.specs.SectionSets.{SectionSets}
-use Rattle.cfg_chain.specs.Sections.{property}
+use Rattle.cfg_chain.specs.Sections.{property, text_property}
 use Rattle.cfg_chain.specs.Configuration.{Configuration}
 use Rattle.cfg_chain.specs.Gives.{◌>>=◌}
-use Rattle.cfg_chain.specs.StaticKeys.{text_property, has_both_keys, static_keys}
+use Rattle.cfg_chain.specs.StaticKeys.{has_both_keys, static_keys}
 
 abbrev pub named_by_environment : Result (List ℕ) VarError → List ℕ
 named_by_environment (Ok text) = encode_utf8_all text

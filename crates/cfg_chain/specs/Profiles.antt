@@ -9,10 +9,10 @@ use Rattle.cfg_types.specs.declared.errors.CredentialsError.TheVariants as error
 use Rattle.cfg_types.specs.declared.errors.ProfileFileError.{ProfileFileError}
 use Rattle.cfg_types.specs.declared.errors.ProfileFileError.TheVariants as plan_error
 use Rattle.cfg_world.specs.Inquiry.{Inquiry, Done, ◌>>=◌}
-use Rattle.cfg_chain.specs.declared.profile_chain.ProfileChain.{ProfileChain}
+use Rattle.cfg_chain.specs.declared.profile.plan.ProfileChain.{ProfileChain}
 use Rattle.cfg_chain.specs.Configuration.{Configuration}
 use Rattle.cfg_chain.specs.Plans.{plan}
-use Rattle.cfg_chain.specs.Derivation.{derives}
+use Rattle.cfg_chain.specs.AssumeRole.{assumes_roles}
 
 -- what the provider of profiles answers where there is no plan: not loaded, or a fault of the configuration
 abbrev pub refusal : ProfileFileError → CredentialsError
@@ -30,7 +30,7 @@ by_profile keys = record keys { features = keys.features ++ CredentialsProfile �
 
 abbrev pub follows_plan : Configuration → Result ProfileChain ProfileFileError → Inquiry (Result Keys CredentialsError)
 follows_plan conf (Err e) = Done (Err (refusal e))
-follows_plan conf (Ok p) = derives conf p.roles p.base >>= λ keys. Done (Ok (by_profile keys))
+follows_plan conf (Ok p) = assumes_roles conf p.roles p.base >>= λ keys. Done (Ok (by_profile keys))
 
 -- the questions of the plan's roles, and what is read over their answers
 unfoldable pub profile : Configuration → Inquiry (Result Keys CredentialsError)

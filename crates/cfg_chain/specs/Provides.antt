@@ -7,7 +7,7 @@ use Rattle.cfg_world.specs.Fits.{Pair}
 use Rattle.cfg_world.specs.Held.{Held}
 use Rattle.cfg_world.specs.Grows.{Grows, Stays}
 use Rattle.cfg_world.specs.Inquiry.{Begun}
-use Rattle.cfg_chain.specs.declared.kept.Kept.{Kept}
+use Rattle.cfg_chain.specs.KeptStates.{KeptStates}
 use Rattle.cfg_chain.specs.Configuration.{Configuration}
 use Rattle.cfg_chain.specs.Chains.{chain}
 use Rattle.cfg_chain.specs.Resolves.{Resolves, found_by, default_members}
@@ -16,7 +16,7 @@ use Rattle.cfg_chain.specs.Valid.{IsValid}
 
 -- It grew by exactly the part of such a call, whose answer has its cause. Where nothing stands in the
 -- way, the answer is credentials.
-pub record Provides {D : Type 0} (d : Ghosts D) (conf : Configuration) (kept : Kept) (old new : Held D) (out : Result Keys CredentialsError) : Type 0 where
+pub record Provides {D : Type 0} (d : Ghosts D) (conf : Configuration) (kept : KeptStates) (old new : Held D) (out : Result Keys CredentialsError) : Type 0 where
   pub part : List Pair
   pub grows : Grows d part old new
   pub resolves : Resolves conf (found_by kept part) part out

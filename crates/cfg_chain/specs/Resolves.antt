@@ -5,12 +5,12 @@ use Rattle.cfg_types.specs.declared.errors.CredentialsError.{CredentialsError}
 use Rattle.cfg_world.specs.Fits.{Pair}
 use Rattle.cfg_world.specs.Inquiry.{Reads}
 use Rattle.cfg_chain.specs.declared.kept.Found.{Found}
-use Rattle.cfg_chain.specs.declared.kept.Kept.{Kept}
+use Rattle.cfg_chain.specs.KeptStates.{KeptStates}
 use Rattle.cfg_chain.specs.declared.member.Member.{Member}
 use Rattle.cfg_chain.specs.declared.member.Member.TheVariants.{Environment, Profile}
 use Rattle.cfg_chain.specs.declared.member.Turn.TheVariants.{Answers}
 use Rattle.cfg_chain.specs.Configuration.{Configuration}
-use Rattle.cfg_chain.specs.Members.{reading, is_not_loaded, turn, attempt}
+use Rattle.cfg_chain.specs.Members.{member_inquiry, is_not_loaded, turn, attempt}
 use Rattle.cfg_chain.specs.Chains.{Attempts, none_loaded}
 
 -- the members of the default chain, in its order
@@ -19,12 +19,12 @@ default_members = Environment ∷ Profile ∷ []
 
 -- The member was passed over: over this part of the journal it was not loaded.
 pub record IsPassedOver (conf : Configuration) (member : Member) (part : List Pair) (e : CredentialsError) : Type 0 where
-  pub reads : Reads (reading conf member) part (Err e)
+  pub reads : Reads (member_inquiry conf member) part (Err e)
   pub not_loaded : is_not_loaded e ≡ true
 
 -- The member answered for the chain: it was loaded, or it failed.
 pub record Decides (conf : Configuration) (member : Member) (part : List Pair) (out : Result Keys CredentialsError) : Type 0 where
-  pub reads : Reads (reading conf member) part out
+  pub reads : Reads (member_inquiry conf member) part out
   pub answers : turn out ≡ Answers out
 
 -- The journal is the parts of these members in order, up to the first that was not passed over, whose
@@ -41,5 +41,5 @@ abbrev pub Resolves : Configuration → List Found → List Pair → Result Keys
 Resolves conf found journal out = (found ≡ []) × AreParts conf default_members [] journal out
 
 -- what a call finds kept
-abbrev pub found_by : Kept → List Pair → List Found
+abbrev pub found_by : KeptStates → List Pair → List Found
 found_by kept journal = []

@@ -1,15 +1,11 @@
 -- Keys that stand in a section themselves.
-use Rattle.std.specs.Prelude.{ℕ, List, [], Bool, ◌&&◌, Option, Some, None, is_none, is_some, option_map, Result, Ok, Err, codes, if◌then◌else◌}
+use Rattle.std.specs.Prelude.{ℕ, List, [], Bool, ◌&&◌, Option, Some, None, is_none, is_some, Result, Ok, Err, codes, if◌then◌else◌}
 use Rattle.cfg_types.specs.Text.{characters}
 use Rattle.cfg_types.specs.Keys.{Keys}
 use Rattle.cfg_types.specs.declared.errors.ProfileFileError.{ProfileFileError}
 use Rattle.cfg_types.specs.declared.errors.ProfileFileError.TheVariants.{ProfileDidNotContainCredentials, InvalidCredentialSource}
 use Rattle.cfg_chain.specs.SectionParts.{SectionParts}
-use Rattle.cfg_chain.specs.Sections.{property}
-
--- the characters of a key's value
-abbrev pub text_property : SectionParts → List ℕ → Option (List ℕ)
-text_property section key = option_map characters (property section key)
+use Rattle.cfg_chain.specs.Sections.{property, text_property}
 
 -- a section with an access key and its secret
 abbrev pub has_both_keys : SectionParts → Bool

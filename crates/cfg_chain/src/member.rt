@@ -1,13 +1,12 @@
-// The members of the default chain.
 ghost use Rattle.std.specs.Prelude.{◌≡◌};
 ghost use Rattle.cfg_types.specs.Text.{characters};
 ghost use Rattle.cfg_world.specs.Follows.{Follows};
-ghost use Rattle.cfg_chain.specs.Members.{name_of, turn, reading};
+ghost use Rattle.cfg_chain.specs.Members.{name_of, turn, member_inquiry};
 ghost use Rattle.cfg_world.specs.Inquiry.{Done};
 ghost use Rattle.cfg_chain.specs.EnvironmentKeys.{environment};
 
 use crate::environment::environment_credentials;
-use crate::profile_provider::follow_profile;
+use crate::profile::provider::follow_profile;
 use crate::provider_config::ProviderConfig;
 use cfg_types::{Credentials, CredentialsError};
 use cfg_world::{Asking, Halt, Stop};
@@ -53,14 +52,14 @@ pub fn turn_of(outcome: Result<Credentials, CredentialsError>) -> Turn
 }
 
 /// Asks what the member asks, and reads what it reads.
-#[tactic(auto, unfolding(crate::specs::Members::reading))]
+#[tactic(auto, unfolding(crate::specs::Members::member_inquiry))]
 pub fn follow_member<A: Asking>(
     alloc: Global,
     config: &ProviderConfig,
     member: Member,
     asking: &mut A,
 ) -> Result<Result<Credentials, CredentialsError>, Stop>
-    ensures { Follows ⟦<A as Asking>⟧ (reading config.now member) asking.old asking.new result }
+    ensures { Follows ⟦<A as Asking>⟧ (member_inquiry config.now member) asking.old asking.new result }
 {
     match member {
         Member::Environment => follow_environment(alloc, config, asking),

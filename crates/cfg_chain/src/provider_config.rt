@@ -1,10 +1,9 @@
-// What providers are given.
 ghost use Rattle.std.specs.Prelude.{◌≡◌, IfOk, Some, None, true, false, [], option_map, MatchOption};
 ghost use Rattle.std.specs.FinMap.{empty};
 ghost use Rattle.cfg_types.specs.Text.{characters};
 ghost use Rattle.cfg_chain.specs.Configuration.{nothing_configured};
 
-use crate::profile::{ProfileSet, ProfileSource};
+use crate::profile::sections::{ProfileSet, ProfileSource};
 use cfg_types::{Env, OutOfMemory, Region};
 use std::alloc::Global;
 use std::marker::Model;
@@ -100,7 +99,7 @@ impl ProviderConfig {
         self
     }
 
-    /// With leave to sleep between attempts, or without.
+    /// Whether providers may sleep between attempts.
     pub fn with_sleep_impl(mut self, sleep: bool) -> ProviderConfig
         ensures { result ≡ record self { sleep = sleep } }
     {

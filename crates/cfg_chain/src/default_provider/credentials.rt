@@ -2,6 +2,7 @@
 ghost use Rattle.std.specs.Prelude.{◌≡◌, IfOk, true, false};
 ghost use Rattle.cfg_chain.specs.Provides.{Provides, Interrupted};
 ghost use Rattle.cfg_chain.specs.Causes.{is_memory};
+ghost use Rattle.cfg_chain.specs.KeptStates.{nothing_kept};
 ghost use Rattle.cfg_chain.specs.Setups.{nothing_set, built_by};
 
 use crate::chain::follow_chain;
@@ -111,8 +112,10 @@ impl DefaultCredentialsChain {
     }
 
     /// What the chain keeps between calls, with nothing kept.
-    pub fn new_kept(&self) -> Result<Kept, OutOfMemory> {
-        Ok(Kept {})
+    pub fn new_kept(&self) -> Result<Kept, OutOfMemory>
+        ensures { IfOk result (λ kept. kept ≡ nothing_kept) }
+    {
+        Ok(Kept::new())
     }
 
     /// Asks the members in order, and answers what the first one that was loaded gives. Members that

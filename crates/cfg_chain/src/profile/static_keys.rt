@@ -1,10 +1,9 @@
-// Keys that stand in a section themselves.
 ghost use Rattle.std.specs.Prelude.{◌≡◌, IfOk};
 ghost use Rattle.cfg_chain.specs.Gives.{Gives};
-ghost use Rattle.cfg_chain.specs.StaticKeys.{text_property as text_property_of, has_both_keys as has_both, invalid as invalid_of, without_access_key as lacks_access_key, static_keys as keys_of};
+ghost use Rattle.cfg_chain.specs.StaticKeys.{has_both_keys as has_both, invalid as invalid_of, without_access_key as lacks_access_key, static_keys as keys_of};
 
-use crate::profile::Section;
-use cfg_types::{AccountId, Credentials, CredentialsBuilder, OutOfMemory, ProfileFileError, Text};
+use crate::profile::sections::Section;
+use cfg_types::{Credentials, CredentialsBuilder, OutOfMemory, ProfileFileError, Text};
 use cfg_world::Halt;
 use std::alloc::Global;
 
@@ -22,8 +21,8 @@ pub fn static_keys(alloc: Global, section: &Section) -> Result<Credentials, Halt
         let error = invalid(alloc, section, "profile missing aws_secret_access_key")?;
         return Err(Halt::Refused(error));
     };
-    let token = text_property(alloc, section, "aws_session_token")?;
-    let account = account_property(alloc, section, "aws_account_id")?;
+    let token = section.text_property(alloc, "aws_session_token")?;
+    let account = section.account_property(alloc, "aws_account_id")?;
     let mut builder = CredentialsBuilder::new(alloc, id, secret, "ProfileFile")?;
     builder.set_session_token(token).set_account_id(account);
     Ok(builder.build())
@@ -34,33 +33,6 @@ pub fn has_both_keys(section: &Section) -> bool
     ensures { result ≡ has_both section.now }
 {
     section.get("aws_access_key_id").is_some() && section.get("aws_secret_access_key").is_some()
-}
-
-/// The value of a key, where it is there.
-pub fn text_property(
-    alloc: Global,
-    section: &Section,
-    key: &str,
-) -> Result<Option<Text>, OutOfMemory>
-    ensures { IfOk result (λ t. t ≡ text_property_of section.now key.now) }
-{
-    match section.get(key) {
-        None => Ok(None),
-        Some(value) => Ok(Some(Text::of(alloc, value)?)),
-    }
-}
-
-fn account_property(
-    alloc: Global,
-    section: &Section,
-    key: &str,
-) -> Result<Option<AccountId>, OutOfMemory>
-    ensures { IfOk result (λ t. t ≡ text_property_of section.now key.now) }
-{
-    match section.get(key) {
-        None => Ok(None),
-        Some(value) => Ok(Some(AccountId::new(alloc, value)?)),
-    }
 }
 
 // A section without an access key.

@@ -16,7 +16,7 @@ use Rattle.cfg_types.specs.declared.request.Request.TheVariants.{AssumeRole}
 use Rattle.cfg_types.specs.declared.settings.CallSettings.{CallSettings}
 use Rattle.cfg_world.specs.Inquiry.{Inquiry, Done, after, ◌>>=◌}
 use Rattle.cfg_world.specs.Leaves.{clock, sending}
-use Rattle.cfg_chain.specs.declared.profile_chain.RoleArn.{RoleArn}
+use Rattle.cfg_chain.specs.declared.profile.plan.RoleArn.{RoleArn}
 use Rattle.cfg_chain.specs.Configuration.{Configuration}
 use Rattle.cfg_chain.specs.Sts.{into_credentials}
 
@@ -76,6 +76,6 @@ unfoldable pub assumes : Configuration → Keys → RoleArn → Inquiry (Result 
 assumes conf signer role = after (session_name role.session_name) (exchange conf role signer)
 
 -- these roles, one after another, the first of them with these credentials
-unfoldable pub derives : Configuration → List RoleArn → Keys → Inquiry (Result Keys CredentialsError)
-derives conf [] signer = Done (Ok signer)
-derives conf (role ∷ roles) signer = assumes conf signer role >>= derives conf roles
+unfoldable pub assumes_roles : Configuration → List RoleArn → Keys → Inquiry (Result Keys CredentialsError)
+assumes_roles conf [] signer = Done (Ok signer)
+assumes_roles conf (role ∷ roles) signer = assumes conf signer role >>= assumes_roles conf roles

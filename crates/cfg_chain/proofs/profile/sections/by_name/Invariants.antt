@@ -2,7 +2,7 @@
 use Rattle.std.proofs.Common.{◌≡◌, map}
 use Rattle.cfg_types.specs.Entries.{each_set}
 use Rattle.cfg_chain.specs.Sections.{named_section}
-use Rattle.cfg_chain.proofs.profile.by_name.Given as goal
+use Rattle.cfg_chain.proofs.profile.sections.by_name.Given as goal
 
 abbrev pub invariant-loop-section : goal.invariant-loop-section
 invariant-loop-section l = l.named ≡ each_set (map named_section l.yielded)

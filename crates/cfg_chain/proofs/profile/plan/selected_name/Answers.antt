@@ -3,7 +3,7 @@ use Rattle.std.proofs.Common.{◌≡◌, None, option_map, Ok, Err, ap, sym, ◌
 use Rattle.std.specs.Prelude.{codes}
 use Rattle.cfg_types.specs.Text.{characters}
 use Rattle.cfg_types.specs.Environment.{variable}
-use Rattle.cfg_chain.proofs.profile_chain.selected_name.Goals as goal
+use Rattle.cfg_chain.proofs.profile.plan.selected_name.Goals as goal
 
 pub returns-in-Ok : goal.returns-in-Ok
 returns-in-Ok c =

@@ -1,13 +1,12 @@
-// What the selected profile gives credentials by.
 ghost use Rattle.std.specs.Prelude.{◌≡◌, [], ◌∷◌, IfOk};
 ghost use Rattle.std.specs.Option.{option_copied};
 ghost use Rattle.std.specs.FinMap.{get as entry_of};
 ghost use Rattle.cfg_chain.specs.Gives.{Gives};
 ghost use Rattle.cfg_chain.specs.Plans.{selected_name as selected_name_of, has_other_source as other_source_of, another as another_of, source_section as source_section_of, role_of, not_built as not_built_error, no_section as no_section_of, role_over, plan_of_selected as selected_plan, plan_of_section as section_plan, plan, is_built as is_built_of};
 
-use crate::profile::{ProfileSet, ProfileSource, Section};
+use crate::profile::sections::{ProfileSet, ProfileSource, Section};
+use crate::profile::static_keys::{has_both_keys, static_keys};
 use crate::provider_config::ProviderConfig;
-use crate::static_keys::{has_both_keys, static_keys, text_property};
 use cfg_types::{Credentials, OutOfMemory, ProfileFileError, Seq, Text, TryCopy};
 use cfg_world::{Halt, Stop};
 use std::alloc::Global;
@@ -100,7 +99,7 @@ fn plan_of_section(
         let error = not_built(alloc)?;
         return Err(Halt::Refused(error));
     }
-    match text_property(alloc, section, "role_arn")? {
+    match section.text_property(alloc, "role_arn")? {
         None => {
             let base = static_keys(alloc, section)?;
             let roles = Seq::of(Vec::new(alloc));
@@ -139,8 +138,8 @@ fn one_role(alloc: Global, section: &Section, arn: Text) -> Result<Seq<RoleArn>,
 fn role(alloc: Global, section: &Section, role_arn: Text) -> Result<RoleArn, OutOfMemory>
     ensures { IfOk result (λ r. r ≡ role_of section.now role_arn) }
 {
-    let external_id = text_property(alloc, section, "external_id")?;
-    let session_name = text_property(alloc, section, "role_session_name")?;
+    let external_id = section.text_property(alloc, "external_id")?;
+    let session_name = section.text_property(alloc, "role_session_name")?;
     Ok(RoleArn {
         role_arn,
         external_id,

@@ -12,9 +12,9 @@ use Rattle.cfg_world.specs.Fits.{Pair}
 use Rattle.cfg_world.specs.Inquiry.{Done, Reads, after, if_ok}
 use Rattle.cfg_world.specs.Leaves.{clock, sending, reply_of}
 use Rattle.cfg_world.proofs.Inquiries.{split_after}
-use Rattle.cfg_chain.specs.declared.profile_chain.RoleArn.{RoleArn}
+use Rattle.cfg_chain.specs.declared.profile.plan.RoleArn.{RoleArn}
 use Rattle.cfg_chain.specs.Configuration.{Configuration}
-use Rattle.cfg_chain.specs.Derivation.{session_name, request, granted, in_role, exchange, assumes, derives}
+use Rattle.cfg_chain.specs.AssumeRole.{session_name, request, granted, in_role, exchange, assumes, assumes_roles}
 use Rattle.cfg_chain.specs.Causes.{error_of, exchange_failure, first_failure, named_variable, is_not_loaded_answer, told_fault, tells_role}
 
 -- the answer of one role
@@ -91,8 +91,8 @@ loaded_keys part keys h = record {
 -- the others, after a role
 then_others : (conf : Configuration) (roles : List RoleArn) (journal part rest : List Pair) (given out : Result Keys CredentialsError) →
     journal ≡ part ++ rest → first_failure part ≡ error_of given →
-    ((signer : Keys) → Reads (derives conf roles signer) rest out → Derived rest out) →
-    Reads (if_ok (derives conf roles) (in_role given)) rest out → Derived journal out
+    ((signer : Keys) → Reads (assumes_roles conf roles signer) rest out → Derived rest out) →
+    Reads (if_ok (assumes_roles conf roles) (in_role given)) rest out → Derived journal out
 then_others conf roles journal part rest (Ok keys) out parts failure others h =
     let d = others keys h in
     let same : first_failure rest ≡ first_failure journal = sym (ap first_failure parts ∙ first_failure-append part rest ∙ ap (λ o. option_or o (first_failure rest)) failure) in
@@ -108,11 +108,11 @@ then_others conf roles journal part [] (Err e) out parts failure others h =
     subst (λ o. Derived journal o) h (failed journal e (sym (ap first_failure (parts ∙ append-nil part) ∙ failure)))
 then_others conf roles journal part (x ∷ rest) (Err e) out parts failure others h = absurd h
 
-pub derived : (conf : Configuration) (roles : List RoleArn) (signer : Keys) (journal : List Pair) (out : Result Keys CredentialsError) → Reads (derives conf roles signer) journal out → Derived journal out
-unfolding derives
+pub derived : (conf : Configuration) (roles : List RoleArn) (signer : Keys) (journal : List Pair) (out : Result Keys CredentialsError) → Reads (assumes_roles conf roles signer) journal out → Derived journal out
+unfolding assumes_roles
 derived conf [] signer [] out h = subst (λ o. Derived [] o) h (loaded_keys [] signer refl)
 derived conf [] signer (e ∷ journal) out h = absurd h
 derived conf (role ∷ roles) signer journal out h =
-    let s = split_after (assumes conf signer role) (if_ok (derives conf roles)) journal out h in
+    let s = split_after (assumes conf signer role) (if_ok (assumes_roles conf roles)) journal out h in
     let a = assumed conf signer role s.part s.middle s.first in
-    then_others conf roles journal s.part s.rest a.given out s.parts a.failure (λ keys. derived conf roles keys s.rest out) (subst (λ m. Reads (if_ok (derives conf roles) m) s.rest out) a.is s.then)
+    then_others conf roles journal s.part s.rest a.given out s.parts a.failure (λ keys. derived conf roles keys s.rest out) (subst (λ m. Reads (if_ok (assumes_roles conf roles) m) s.rest out) a.is s.then)

@@ -1,10 +1,9 @@
-// The provider of the selected profile.
 ghost use Rattle.std.specs.Prelude.{◌≡◌, IfOk, Ok};
 ghost use Rattle.cfg_world.specs.Follows.{Follows};
 ghost use Rattle.cfg_chain.specs.Profiles.{refusal as refusal_of, by_profile, profile, follows_plan};
 
-use crate::derivation::derive;
-use crate::profile_chain::{ProfileChain, plan_of};
+use crate::assume_role::assume_roles;
+use crate::profile::plan::{ProfileChain, plan_of};
 use crate::provider_config::ProviderConfig;
 use cfg_types::{
     AwsCredentialFeature, ConfigCause, Credentials, CredentialsError, NotLoadedCause, OutOfMemory,
@@ -39,7 +38,7 @@ fn follow_plan<A: Asking>(
     ensures { Follows ⟦<A as Asking>⟧ (follows_plan config.now (Ok plan)) asking.old asking.new result }
 {
     let ProfileChain { base, roles } = plan;
-    match derive(alloc, config, roles.as_slice(), base, asking)? {
+    match assume_roles(alloc, config, roles.as_slice(), base, asking)? {
         Ok(credentials) => {
             let credentials = mark(credentials)?;
             Ok(Ok(credentials))

@@ -1,6 +1,6 @@
 -- The last role's credentials, marked.
-use Rattle.cfg_chain.proofs.DerivationSteps.{marked}
-use Rattle.cfg_chain.proofs.profile_provider.follow_plan.Goals as goal
+use Rattle.cfg_chain.proofs.RoleSteps.{marked}
+use Rattle.cfg_chain.proofs.profile.provider.follow_plan.Goals as goal
 
 pub returns-in-Ok : goal.returns-in-Ok
 returns-in-Ok g c =

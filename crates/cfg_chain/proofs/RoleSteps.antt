@@ -13,47 +13,47 @@ use Rattle.cfg_world.specs.declared.asking.Asking.{Ghosts}
 use Rattle.cfg_world.specs.Inquiry.{Inquiry, Done, after, if_ok, ◌>>=◌}
 use Rattle.cfg_world.specs.Follows.{Ends, Waits, Breaks}
 use Rattle.cfg_world.proofs.Inquiries.{Leads, leads_start, leads_after, ends_after, ends_done, waits_first, breaks_first, breaks_here}
-use Rattle.cfg_chain.specs.declared.profile_chain.RoleArn.{RoleArn}
+use Rattle.cfg_chain.specs.declared.profile.plan.RoleArn.{RoleArn}
 use Rattle.cfg_chain.specs.Configuration.{Configuration}
 use Rattle.cfg_chain.specs.Profiles.{by_profile}
-use Rattle.cfg_chain.specs.Derivation.{default_session_name, session_name, request, granted, in_role, exchange, assumes, derives}
+use Rattle.cfg_chain.specs.AssumeRole.{default_session_name, session_name, request, granted, in_role, exchange, assumes, assumes_roles}
 
-derives-drop : (conf : Configuration) (roles : List RoleArn) (i : ℕ) (d : RoleArn) (signer : Keys) → i < length roles →
-    derives conf (drop i roles) signer ≡ (assumes conf signer (get_or roles i d) >>= derives conf (drop (i + 1) roles))
-unfolding derives
-derives-drop conf roles i d signer h = rw (add-one, drop-cons roles i d h) refl
+assumes_roles-drop : (conf : Configuration) (roles : List RoleArn) (i : ℕ) (d : RoleArn) (signer : Keys) → i < length roles →
+    assumes_roles conf (drop i roles) signer ≡ (assumes conf signer (get_or roles i d) >>= assumes_roles conf (drop (i + 1) roles))
+unfolding assumes_roles
+assumes_roles-drop conf roles i d signer h = rw (add-one, drop-cons roles i d h) refl
 
-derives-end : (conf : Configuration) (roles : List RoleArn) (i : ℕ) (signer : Keys) → length roles ≤ i → derives conf (drop i roles) signer ≡ Done (Ok signer)
-unfolding derives
-derives-end conf roles i signer h = rw (drop_of_length-le roles h) refl
+assumes_roles-end : (conf : Configuration) (roles : List RoleArn) (i : ℕ) (signer : Keys) → length roles ≤ i → assumes_roles conf (drop i roles) signer ≡ Done (Ok signer)
+unfolding assumes_roles
+assumes_roles-end conf roles i signer h = rw (drop_of_length-le roles h) refl
 
 module _ {W : Type 0} {w : Ghosts W} where
   at_role : {old mid : W} {inquiry : Inquiry (Result Keys CredentialsError)} (conf : Configuration) (roles : List RoleArn) (i : ℕ) (d : RoleArn) (signer : Keys) →
-      Leads w inquiry old mid (derives conf (drop i roles) signer) → i < length roles →
-      Leads w inquiry old mid (after (assumes conf signer (get_or roles i d)) (if_ok (derives conf (drop (i + 1) roles))))
-  at_role {old} {mid} {inquiry} conf roles i d signer a lt = subst (λ p. Leads w inquiry old mid p) (derives-drop conf roles i d signer lt) a
+      Leads w inquiry old mid (assumes_roles conf (drop i roles) signer) → i < length roles →
+      Leads w inquiry old mid (after (assumes conf signer (get_or roles i d)) (if_ok (assumes_roles conf (drop (i + 1) roles))))
+  at_role {old} {mid} {inquiry} conf roles i d signer a lt = subst (λ p. Leads w inquiry old mid p) (assumes_roles-drop conf roles i d signer lt) a
 
   pub role_derived : {old mid new : W} {inquiry : Inquiry (Result Keys CredentialsError)} (conf : Configuration) (roles : List RoleArn) (i : ℕ) (d : RoleArn) (signer keys : Keys) →
-      Leads w inquiry old mid (derives conf (drop i roles) signer) → i < length roles → Ends w (assumes conf signer (get_or roles i d)) mid new (Ok keys) →
-      Leads w inquiry old new (derives conf (drop (i + 1) roles) keys)
-  role_derived conf roles i d signer keys a lt e = leads_after (if_ok (derives conf (drop (i + 1) roles))) (at_role conf roles i d signer a lt) e
+      Leads w inquiry old mid (assumes_roles conf (drop i roles) signer) → i < length roles → Ends w (assumes conf signer (get_or roles i d)) mid new (Ok keys) →
+      Leads w inquiry old new (assumes_roles conf (drop (i + 1) roles) keys)
+  role_derived conf roles i d signer keys a lt e = leads_after (if_ok (assumes_roles conf (drop (i + 1) roles))) (at_role conf roles i d signer a lt) e
 
   pub role_failed : {old mid new : W} {inquiry : Inquiry (Result Keys CredentialsError)} (conf : Configuration) (roles : List RoleArn) (i : ℕ) (d : RoleArn) (signer : Keys) (e : CredentialsError) →
-      Leads w inquiry old mid (derives conf (drop i roles) signer) → i < length roles → Ends w (assumes conf signer (get_or roles i d)) mid new (Err e) →
+      Leads w inquiry old mid (assumes_roles conf (drop i roles) signer) → i < length roles → Ends w (assumes conf signer (get_or roles i d)) mid new (Err e) →
       Ends w inquiry old new (Err e)
-  role_failed conf roles i d signer e a lt h = (leads_after (if_ok (derives conf (drop (i + 1) roles))) (at_role conf roles i d signer a lt) h).ends _ _ ends_done
+  role_failed conf roles i d signer e a lt h = (leads_after (if_ok (assumes_roles conf (drop (i + 1) roles))) (at_role conf roles i d signer a lt) h).ends _ _ ends_done
 
   pub role_waits : {old mid new : W} {inquiry : Inquiry (Result Keys CredentialsError)} (conf : Configuration) (roles : List RoleArn) (i : ℕ) (d : RoleArn) (signer : Keys) →
-      Leads w inquiry old mid (derives conf (drop i roles) signer) → i < length roles → Waits w (assumes conf signer (get_or roles i d)) mid new → Waits w inquiry old new
-  role_waits conf roles i d signer a lt e = (at_role conf roles i d signer a lt).waits _ (waits_first (if_ok (derives conf (drop (i + 1) roles))) e)
+      Leads w inquiry old mid (assumes_roles conf (drop i roles) signer) → i < length roles → Waits w (assumes conf signer (get_or roles i d)) mid new → Waits w inquiry old new
+  role_waits conf roles i d signer a lt e = (at_role conf roles i d signer a lt).waits _ (waits_first (if_ok (assumes_roles conf (drop (i + 1) roles))) e)
 
   pub role_breaks : {old mid new : W} {inquiry : Inquiry (Result Keys CredentialsError)} (conf : Configuration) (roles : List RoleArn) (i : ℕ) (d : RoleArn) (signer : Keys) →
-      Leads w inquiry old mid (derives conf (drop i roles) signer) → i < length roles → Breaks w (assumes conf signer (get_or roles i d)) mid new → Breaks w inquiry old new
-  role_breaks conf roles i d signer a lt e = (at_role conf roles i d signer a lt).breaks _ (breaks_first (if_ok (derives conf (drop (i + 1) roles))) e)
+      Leads w inquiry old mid (assumes_roles conf (drop i roles) signer) → i < length roles → Breaks w (assumes conf signer (get_or roles i d)) mid new → Breaks w inquiry old new
+  role_breaks conf roles i d signer a lt e = (at_role conf roles i d signer a lt).breaks _ (breaks_first (if_ok (assumes_roles conf (drop (i + 1) roles))) e)
 
   pub all_derived : {old mid : W} {inquiry : Inquiry (Result Keys CredentialsError)} (conf : Configuration) (roles : List RoleArn) (i : ℕ) (signer : Keys) →
-      Leads w inquiry old mid (derives conf (drop i roles) signer) → length roles ≤ i → Ends w inquiry old mid (Ok signer)
-  all_derived {old} {mid} {inquiry} conf roles i signer a le = (subst (λ p. Leads w inquiry old mid p) (derives-end conf roles i signer le) a).ends _ _ ends_done
+      Leads w inquiry old mid (assumes_roles conf (drop i roles) signer) → length roles ≤ i → Ends w inquiry old mid (Ok signer)
+  all_derived {old} {mid} {inquiry} conf roles i signer a le = (subst (λ p. Leads w inquiry old mid p) (assumes_roles-end conf roles i signer le) a).ends _ _ ends_done
 
   -- a name made from a reading of the clock
   pub named_by_clock : {old new : W} (given : Option (List ℕ)) (now : Moment) (name : List ℕ) →
@@ -75,10 +75,10 @@ module _ {W : Type 0} {w : Ghosts W} where
 
   -- credentials that are marked behind the last role
   pub marked : {old new : W} (conf : Configuration) (roles lent : List RoleArn) (base keys given : Keys) (out : Result Keys CredentialsError) →
-      lent ≡ roles → Ends w (derives conf lent base) old new out → out ≡ Ok keys → given ≡ by_profile keys →
-      Ends w (derives conf roles base >>= λ k. Done (Ok (by_profile k))) old new (Ok given)
+      lent ≡ roles → Ends w (assumes_roles conf lent base) old new out → out ≡ Ok keys → given ≡ by_profile keys →
+      Ends w (assumes_roles conf roles base >>= λ k. Done (Ok (by_profile k))) old new (Ok given)
   marked {old} {new} conf roles lent base keys given out same e is told =
-      subst (λ k. Ends w (derives conf roles base >>= λ k. Done (Ok (by_profile k))) old new (Ok k)) (sym told)
-      (ends_after (if_ok (λ k. Done (Ok (by_profile k)))) (subst (λ r. Ends w (derives conf r base) old new (Ok keys)) same (subst (λ o. Ends w (derives conf lent base) old new o) is e)) ends_done)
+      subst (λ k. Ends w (assumes_roles conf roles base >>= λ k. Done (Ok (by_profile k))) old new (Ok k)) (sym told)
+      (ends_after (if_ok (λ k. Done (Ok (by_profile k)))) (subst (λ r. Ends w (assumes_roles conf r base) old new (Ok keys)) same (subst (λ o. Ends w (assumes_roles conf lent base) old new o) is e)) ends_done)
 
-pub ruleset derivation_steps = (leads_start, role_derived, role_failed, role_waits, role_breaks, all_derived)
+pub ruleset role_steps = (leads_start, role_derived, role_failed, role_waits, role_breaks, all_derived)

@@ -1,9 +1,8 @@
-// Roles that are assumed one after another, each with the credentials of the step before.
 ghost use Rattle.std.specs.Prelude.{◌≡◌, IfOk};
 ghost use Rattle.cfg_world.specs.Follows.{Follows};
-ghost use Rattle.cfg_chain.specs.Derivation.{default_session_name as default_name, session_name as session_name_of, settings_of, request as request_of, granted as granted_of, in_role, assumes, derives};
+ghost use Rattle.cfg_chain.specs.AssumeRole.{default_session_name as default_name, session_name as session_name_of, settings_of, request as request_of, granted as granted_of, in_role, assumes, assumes_roles};
 
-use crate::profile_chain::RoleArn;
+use crate::profile::plan::RoleArn;
 use crate::provider_config::ProviderConfig;
 use crate::sts::into_credentials;
 use cfg_types::{
@@ -16,15 +15,15 @@ use std::string::ToString;
 
 /// Assumes these roles in order, the first with the base, and answers the last one's credentials.
 /// The first exchange that fails ends it.
-#[tactic(auto, using(crate::proofs::DerivationSteps::derivation_steps))]
-pub fn derive<A: Asking>(
+#[tactic(auto, using(crate::proofs::RoleSteps::role_steps))]
+pub fn assume_roles<A: Asking>(
     alloc: Global,
     config: &ProviderConfig,
     roles: &[RoleArn],
     base: Credentials,
     asking: &mut A,
 ) -> Result<Result<Credentials, CredentialsError>, Stop>
-    ensures { Follows ⟦<A as Asking>⟧ (derives config.now roles.now base) asking.old asking.new result }
+    ensures { Follows ⟦<A as Asking>⟧ (assumes_roles config.now roles.now base) asking.old asking.new result }
 {
     let mut signer = base;
     for role in roles {
@@ -37,7 +36,7 @@ pub fn derive<A: Asking>(
 }
 
 // One role: a name for its session, and one exchange.
-#[tactic(auto, using(cfg_world::proofs::Inquiries::asking_steps), unfolding(crate::specs::Derivation::assumes))]
+#[tactic(auto, using(cfg_world::proofs::Inquiries::asking_steps), unfolding(crate::specs::AssumeRole::assumes))]
 fn assume_role<A: Asking>(
     alloc: Global,
     config: &ProviderConfig,
@@ -56,7 +55,7 @@ fn assume_role<A: Asking>(
 }
 
 // The name of the role's session, or one made from a reading of the clock.
-#[tactic(auto, using(cfg_world::proofs::Inquiries::asking_steps), unfolding(crate::specs::Derivation::session_name))]
+#[tactic(auto, using(cfg_world::proofs::Inquiries::asking_steps), unfolding(crate::specs::AssumeRole::session_name))]
 fn session_name<A: Asking>(alloc: Global, role: &RoleArn, asking: &mut A) -> Result<Text, Stop>
     ensures { Follows ⟦<A as Asking>⟧ (session_name_of role.now.session_name) asking.old asking.new result }
 {
