@@ -6,7 +6,7 @@ use Rattle.cfg_types.specs.TextMap.{Named}
 use Rattle.cfg_types.specs.Entries.{each_set}
 use Rattle.cfg_types.specs.declared.environment.EnvText.{EnvText}
 use Rattle.cfg_types.specs.declared.memory.OutOfMemory.{OutOfMemory}
-use Rattle.cfg_chain.specs.declared.profile.ProfileSource.TheVariants.{Sections}
+use Rattle.cfg_chain.specs.declared.profile.sections.ProfileSource.TheVariants.{Sections}
 use Rattle.cfg_chain.specs.SectionParts.{SectionParts}
 use Rattle.cfg_chain.specs.SectionSets.{SectionSets, sections_by_name}
 use Rattle.cfg_chain.specs.Configuration.{Configuration, nothing_configured}

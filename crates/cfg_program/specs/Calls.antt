@@ -11,7 +11,7 @@ use Rattle.cfg_world.specs.Fits.{Pair}
 use Rattle.cfg_world.specs.Held.{Held}
 use Rattle.cfg_world.specs.Script as devices
 use Rattle.cfg_world.specs.Script.{Given, start, no_faults}
-use Rattle.cfg_chain.specs.declared.profile.ProfileSource.TheVariants.{Sections}
+use Rattle.cfg_chain.specs.declared.profile.sections.ProfileSource.TheVariants.{Sections}
 use Rattle.cfg_chain.specs.SectionParts.{SectionParts}
 use Rattle.cfg_chain.specs.SectionSets.{sections_by_name}
 use Rattle.cfg_chain.specs.Configuration.{Configuration}
