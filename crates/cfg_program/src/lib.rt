@@ -9,8 +9,6 @@ mod output;
 mod resolve;
 pub mod run;
 mod status;
-#[cfg(test)]
-mod tests;
 mod words;
 
 pub use input::LIMIT;

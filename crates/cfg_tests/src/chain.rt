@@ -1,70 +1,47 @@
-// What no clause says: that the definitions are the ones that were meant, and that calls succeed.
+// What no clause says: worked examples of the definitions, and that calls succeed. A row's
+// configuration and devices stand in a script, as the program reads them.
+ghost use Rattle.cfg_world.specs.Script.{AllFit};
+ghost use Rattle.cfg_script.specs.Script.{plain};
+ghost use Rattle.cfg_script.specs.Devices.{lists_of};
+
 use cfg_chain::{
     DefaultCredentialsChain, ProfileSet, ProfileSource, ProviderConfig, RegionSource, Section,
-    has_other_source, is_built,
+    is_built,
 };
+use cfg_script::{Script, read_script};
 use cfg_types::{Credentials, CredentialsError, Env, EnvText, OutOfMemory, Region, Seq, Text};
-use cfg_world::{DeviceLists, ScriptDevices, World};
+use cfg_world::{DeviceLists, Entry, ScriptDevices, World};
 use std::alloc::{AllocError, Global};
 use std::test::Fail;
 
-// Names with values, of which none is a value that is not Unicode.
-type Variables<'a> = &'a [(&'a str, Option<&'a str>)];
-
-type Keys<'a> = &'a [(&'a str, &'a str)];
-
-// A world without answers: its clock stands at the epoch, and no request is answered.
-fn idle(alloc: Global) -> World<ScriptDevices> {
-    let lists = DeviceLists {
-        clock: Seq::of(Vec::new(alloc)),
-        assume_role: Seq::of(Vec::new(alloc)),
-    };
-    World::new(alloc, ScriptDevices::new(alloc, lists))
-}
-
-fn variables(alloc: Global, rows: Variables<'_>) -> Result<Env, OutOfMemory> {
-    let mut variables = Vec::new(alloc);
-    for (name, value) in rows {
-        let value = match value {
-            Some(text) => EnvText::Text(Text::of(alloc, text)?),
-            None => EnvText::NotUnicode,
-        };
-        variables.push((String::from_str(alloc, name)?, value))?;
+fn sections(
+    alloc: Global,
+    profiles: Vec<(String, Vec<(String, String)>)>,
+) -> Result<ProfileSource, OutOfMemory> {
+    let mut sections = Vec::new(alloc);
+    for (name, properties) in profiles {
+        sections.push(Section::new(alloc, name.as_str(), properties)?)?;
     }
-    Env::new(alloc, variables)
-}
-
-fn section(alloc: Global, name: &str, keys: Keys<'_>) -> Result<Section, OutOfMemory> {
-    let mut properties = Vec::new(alloc);
-    for (key, value) in keys {
-        let key = String::from_str(alloc, key)?;
-        properties.push((key, String::from_str(alloc, value)?))?;
-    }
-    Section::new(alloc, name, properties)
-}
-
-fn sections(alloc: Global, rows: &[(&str, Keys<'_>)]) -> Result<ProfileSource, OutOfMemory> {
-    let mut profiles = Vec::new(alloc);
-    for (name, keys) in rows {
-        profiles.push(section(alloc, name, keys)?)?;
-    }
-    let set = ProfileSet::new(alloc, profiles, Vec::new(alloc), "default")?;
+    let set = ProfileSet::new(alloc, sections, Vec::new(alloc), "default")?;
     Ok(ProfileSource::Sections(set))
 }
 
-fn call(
+fn config(
     alloc: Global,
-    config: ProviderConfig,
-) -> Result<Result<Credentials, CredentialsError>, OutOfMemory> {
-    let mut world = idle(alloc);
-    let builder = DefaultCredentialsChain::builder(alloc)?;
-    let chain = builder.configure(config).build(&mut world)?;
-    let mut kept = chain.new_kept()?;
-    Ok(chain.provide_credentials(&mut kept, &mut world))
+    variables: Vec<(String, EnvText)>,
+    profiles: Vec<(String, Vec<(String, String)>)>,
+    selected: Option<String>,
+) -> Result<ProviderConfig, OutOfMemory> {
+    let config = ProviderConfig::empty(alloc)?.with_env(Env::new(alloc, variables)?);
+    let config = config.with_profiles(sections(alloc, profiles)?);
+    match selected {
+        None => Ok(config),
+        Some(name) => config.with_profile_name(alloc, name.as_str()),
+    }
 }
 
-// The answer in words: of credentials the secret, the token and the features, too.
-fn words(
+// An answer, with the secret, the token and the features of credentials.
+fn answer_words(
     alloc: Global,
     answer: &Result<Credentials, CredentialsError>,
 ) -> Result<String, AllocError> {
@@ -79,259 +56,214 @@ fn words(
     }
 }
 
-fn of_variables(alloc: Global, rows: Variables<'_>) -> Result<String, OutOfMemory> {
-    let env = variables(alloc, rows)?;
-    let config = ProviderConfig::empty(alloc)?.with_env(env);
-    let answer = call(alloc, config)?;
-    Ok(words(alloc, &answer)?)
+fn questions(alloc: Global, journal: &[Entry]) -> Result<String, AllocError> {
+    let mut words = String::new(alloc);
+    for entry in journal {
+        let question = entry.question();
+        let question = format!(in alloc; " {question:?}")?;
+        words.push_str(question.as_str())?;
+    }
+    Ok(words)
 }
 
-fn of_profiles(alloc: Global, rows: &[(&str, Keys<'_>)]) -> Result<String, OutOfMemory> {
-    let profiles = sections(alloc, rows)?;
-    let config = ProviderConfig::empty(alloc)?.with_profiles(profiles);
-    let answer = call(alloc, config)?;
-    Ok(words(alloc, &answer)?)
+// What the chain with this configuration answers in this region, and what it asked.
+fn call(
+    alloc: Global,
+    config: ProviderConfig,
+    region: Option<Region>,
+    world: &mut World<ScriptDevices>,
+) -> Result<String, OutOfMemory> {
+    let mut builder = DefaultCredentialsChain::builder(alloc)?.configure(config);
+    builder.set_region(Some(RegionSource::Fixed(region)));
+    let chain = builder.build(world)?;
+    let mut kept = chain.new_kept()?;
+    let answer = chain.provide_credentials(&mut kept, world);
+    let mut words = answer_words(alloc, &answer)?;
+    words.push_str(questions(alloc, world.journal())?.as_str())?;
+    Ok(words)
 }
 
-// The answer where neither member is loaded.
-fn neither(alloc: Global, variable: &str, profile: &str) -> Result<String, AllocError> {
+// What the chain answers that a script configures, over the devices that it scripts.
+fn call_by(alloc: Global, script: Script) -> Result<String, OutOfMemory>
+    requires { AllFit (lists_of (plain script)) }
+{
+    let Script {
+        variables,
+        profiles,
+        selected,
+        region: _,
+        clock,
+        assume_role,
+    } = script;
+    let lists = DeviceLists {
+        clock: Seq::of(clock),
+        assume_role: Seq::of(assume_role),
+    };
+    let mut world = World::new(alloc, ScriptDevices::new(alloc, lists));
+    let region = Region::new(alloc, "eu-west-1")?;
+    let config = config(alloc, variables, profiles, selected)?;
+    call(alloc, config, Some(region), &mut world)
+}
+
+fn words_of(alloc: Global, script: &str) -> Result<String, OutOfMemory> {
+    match read_script(alloc, script.as_bytes()) {
+        Ok(script) => call_by(alloc, script),
+        Err(_) => Ok(String::from_str(alloc, "no script")?),
+    }
+}
+
+#[test]
+fn credentials_of_scripts(rt: HostRuntime) -> Result<(), Fail> {
+    let table: &[(&str, &str)] = &[
+        (
+            r#"{"variables":[["AWS_ACCESS_KEY_ID","A"],["AWS_SECRET_ACCESS_KEY"," \u2003"],["SECRET_ACCESS_KEY"," o "],["AWS_SESSION_TOKEN"," t\u00a0"],["AWS_ACCOUNT_ID","\t7 "]]}"#,
+            r#"Credentials { provider_name: "EnvironmentVariable", access_key_id: "A", secret_access_key: "** redacted **", expires_after: never, account_id: "7" }  o  Some("t") [CredentialsEnvVars]"#,
+        ),
+        (
+            r#"{"variables":[["AWS_ACCESS_KEY_ID","A"],["AWS_ACCESS_KEY_ID"," B "],["AWS_SECRET_ACCESS_KEY","s"],["SECRET_ACCESS_KEY",null],["AWS_SESSION_TOKEN",null],["AWS_ACCOUNT_ID"," "]]}"#,
+            r#"Credentials { provider_name: "EnvironmentVariable", access_key_id: " B ", secret_access_key: "** redacted **", expires_after: never } s None [CredentialsEnvVars]"#,
+        ),
+        (
+            r#"{"profiles":[["default",[["aws_access_key_id","A"],["AWS_Access_Key_Id"," B "],["aws_secret_access_key",""],["aws_session_token"," t "],["aws_account_id","7"]]]]}"#,
+            r#"Credentials { provider_name: "ProfileFile", access_key_id: " B ", secret_access_key: "** redacted **", expires_after: never, account_id: "7" }  Some(" t ") [CredentialsProfile]"#,
+        ),
+        (
+            r#"{"profiles":[["default",[["aws_access_key_id","A"]]],["default",[["aws_access_key_id","B"],["aws_secret_access_key","s"]]]]}"#,
+            r#"Credentials { provider_name: "ProfileFile", access_key_id: "B", secret_access_key: "** redacted **", expires_after: never } s None [CredentialsProfile]"#,
+        ),
+    ];
+    for (script, want) in table {
+        let words = words_of(rt.alloc(), script)?;
+        assert_eq!(rt; words.as_str(), *want, "{script}");
+    }
+    Ok(())
+}
+
+#[test]
+fn errors_of_scripts(rt: HostRuntime) -> Result<(), Fail> {
+    let table: &[(&str, &str)] = &[
+        (
+            r#"{"variables":[["AWS_ACCESS_KEY_ID",null]]}"#,
+            r#"Unhandled(NotUnicode("AWS_ACCESS_KEY_ID"))"#,
+        ),
+        (
+            r#"{"variables":[["AWS_ACCESS_KEY_ID","A"],["AWS_SECRET_ACCESS_KEY",null],["SECRET_ACCESS_KEY",null]]}"#,
+            r#"Unhandled(NotUnicode("SECRET_ACCESS_KEY"))"#,
+        ),
+        (
+            r#"{"profiles":[["default",[["aws_access_key_id","x"]]]]}"#,
+            r#"InvalidConfiguration(Profile(InvalidCredentialSource { profile: "default", message: "profile missing aws_secret_access_key" }))"#,
+        ),
+        (
+            r#"{"profiles":[["default",[["aws_secret_access_key","x"]]]]}"#,
+            r#"InvalidConfiguration(Profile(InvalidCredentialSource { profile: "default", message: "profile missing aws_access_key_id" }))"#,
+        ),
+        (
+            r#"{"profiles":[["default",[["aws_session_token","x"]]]]}"#,
+            r#"InvalidConfiguration(Profile(InvalidCredentialSource { profile: "default", message: "profile missing aws_access_key_id" }))"#,
+        ),
+        (
+            r#"{"profiles":[["default",[["credential_process","x"]]]]}"#,
+            r#"InvalidConfiguration(Profile(FeatureNotEnabled { feature: "profile-providers", message: None }))"#,
+        ),
+        (
+            r#"{"profiles":[["default",[["role_arn","x"]]]]}"#,
+            r#"InvalidConfiguration(Profile(FeatureNotEnabled { feature: "profile-providers", message: None }))"#,
+        ),
+    ];
+    for (script, want) in table {
+        let words = words_of(rt.alloc(), script)?;
+        assert_eq!(rt; words.as_str(), *want, "{script}");
+    }
+    Ok(())
+}
+
+// The answer where no member is loaded: the variable and the profile that are missing.
+fn nothing_loaded(alloc: Global, variable: &str, profile: &str) -> Result<String, AllocError> {
     format!(in alloc;
-        "CredentialsNotLoaded(Chain(ProviderChainError {{ attempts: Seq {{ inner: [ProviderAttempt {{ name: Text {{ inner: \"Environment\" }}, error: CredentialsNotLoaded(NotSet(Text {{ inner: \"{variable}\" }})) }}, ProviderAttempt {{ name: Text {{ inner: \"Profile\" }}, error: CredentialsNotLoaded(Profile({profile})) }}] }} }}))"
+        "CredentialsNotLoaded(Chain(ProviderChainError {{ attempts: [ProviderAttempt {{ name: \"Environment\", error: CredentialsNotLoaded(NotSet(\"{variable}\")) }}, ProviderAttempt {{ name: \"Profile\", error: CredentialsNotLoaded(Profile({profile})) }}] }}))"
     )
 }
 
 #[test]
-fn keys_in_variables(rt: HostRuntime) -> Result<(), Fail> {
-    for (rows, wanted) in [
+fn scripts_without_keys(rt: HostRuntime) -> Result<(), Fail> {
+    let table: &[(&str, &str, &str)] = &[
+        ("{}", "AWS_ACCESS_KEY_ID", "NoProfilesDefined"),
         (
-            [
-                ("AWS_ACCESS_KEY_ID", Some("A")),
-                ("AWS_SECRET_ACCESS_KEY", Some(" \u{2003}")),
-                ("SECRET_ACCESS_KEY", Some(" o ")),
-                ("AWS_SESSION_TOKEN", Some(" t\u{a0}")),
-                ("AWS_ACCOUNT_ID", Some("\t7 ")),
-            ]
-            .as_slice(),
-            "Credentials { provider_name: \"EnvironmentVariable\", access_key_id: \"A\", secret_access_key: \"** redacted **\", expires_after: never, account_id: \"7\" }  o  Some(\"t\") [CredentialsEnvVars]",
-        ),
-        (
-            [
-                ("AWS_ACCESS_KEY_ID", Some("A")),
-                ("AWS_ACCESS_KEY_ID", Some(" B ")),
-                ("AWS_SECRET_ACCESS_KEY", Some("s")),
-                ("SECRET_ACCESS_KEY", None),
-                ("AWS_SESSION_TOKEN", None),
-                ("AWS_ACCOUNT_ID", Some(" ")),
-            ]
-            .as_slice(),
-            "Credentials { provider_name: \"EnvironmentVariable\", access_key_id: \" B \", secret_access_key: \"** redacted **\", expires_after: never } s None [CredentialsEnvVars]",
-        ),
-        (
-            [("AWS_ACCESS_KEY_ID", None)].as_slice(),
-            "Unhandled(NotUnicode(Text { inner: \"AWS_ACCESS_KEY_ID\" }))",
-        ),
-        (
-            [
-                ("AWS_ACCESS_KEY_ID", Some("A")),
-                ("AWS_SECRET_ACCESS_KEY", None),
-                ("SECRET_ACCESS_KEY", None),
-            ]
-            .as_slice(),
-            "Unhandled(NotUnicode(Text { inner: \"SECRET_ACCESS_KEY\" }))",
-        ),
-    ] {
-        let told = of_variables(rt.alloc(), rows)?;
-        assert_eq!(rt; told.as_str(), wanted);
-    }
-    Ok(())
-}
-
-#[test]
-fn variables_without_keys(rt: HostRuntime) -> Result<(), Fail> {
-    for (rows, name) in [
-        ([].as_slice(), "AWS_ACCESS_KEY_ID"),
-        (
-            [("AWS_ACCESS_KEY_ID", Some("\u{3000}"))].as_slice(),
+            r#"{"variables":[["AWS_ACCESS_KEY_ID","\u3000"]]}"#,
             "AWS_ACCESS_KEY_ID",
+            "NoProfilesDefined",
         ),
         (
-            [("AWS_ACCESS_KEY_ID", Some("A"))].as_slice(),
+            r#"{"variables":[["AWS_ACCESS_KEY_ID","A"]],"profiles":[["Default",[]]]}"#,
             "SECRET_ACCESS_KEY",
+            "NoProfilesDefined",
         ),
-    ] {
-        let told = of_variables(rt.alloc(), rows)?;
-        let wanted = neither(rt.alloc(), name, "NoProfilesDefined")?;
-        assert_eq!(rt; told.as_str(), wanted.as_str());
+        (
+            r#"{"profiles":[["default",[["region","r"]]]]}"#,
+            "AWS_ACCESS_KEY_ID",
+            r#"ProfileDidNotContainCredentials { profile: "default" }"#,
+        ),
+        (
+            r#"{"variables":[["AWS_PROFILE","e"]],"profiles":[["other",[]]]}"#,
+            "AWS_ACCESS_KEY_ID",
+            r#"MissingProfile { profile: "e", message: "could not find source profile e referenced from the root profile" }"#,
+        ),
+        (
+            r#"{"selected":"c","variables":[["AWS_PROFILE","e"]],"profiles":[["other",[]]]}"#,
+            "AWS_ACCESS_KEY_ID",
+            r#"MissingProfile { profile: "c", message: "could not find source profile c referenced from the root profile" }"#,
+        ),
+    ];
+    for (script, variable, profile) in table {
+        let words = words_of(rt.alloc(), script)?;
+        let want = nothing_loaded(rt.alloc(), variable, profile)?;
+        assert_eq!(rt; words.as_str(), want.as_str(), "{script}");
     }
     Ok(())
 }
 
 #[test]
-fn keys_in_profiles(rt: HostRuntime) -> Result<(), Fail> {
-    for (rows, wanted) in [
+fn roles_are_signed_by_the_keys_of_their_source(rt: HostRuntime) -> Result<(), Fail> {
+    let table: &[(&str, &str)] = &[
         (
-            [(
-                "default",
-                [
-                    ("aws_access_key_id", "A"),
-                    ("AWS_Access_Key_Id", " B "),
-                    ("aws_secret_access_key", ""),
-                    ("aws_session_token", " t "),
-                    ("aws_account_id", "7"),
-                ]
-                .as_slice(),
-            )]
-            .as_slice(),
-            "Credentials { provider_name: \"ProfileFile\", access_key_id: \" B \", secret_access_key: \"** redacted **\", expires_after: never, account_id: \"7\" }  Some(\" t \") [CredentialsProfile]",
+            r#"{"profiles":[["default",[["role_arn","r"],["source_profile","b"]]],["b",[["aws_access_key_id","K"],["aws_secret_access_key","S"]]]],"clock":[7],"replies":{"assume-role":[{"id":"KA","secret":"SA","token":"TA","expires":2000,"arn":"a:b:c:d:e:f"}]}}"#,
+            r#"Credentials { provider_name: "AssumeRoleProvider", access_key_id: "KA", secret_access_key: "** redacted **", expires_after: 2000 s 0 ns, account_id: "e" } SA Some("TA") [CredentialsProfile] Now Send(AssumeRole(AssumeRole { signer: Credentials { provider_name: "ProfileFile", access_key_id: "K", secret_access_key: "** redacted **", expires_after: never }, role_arn: "r", session_name: "assume-role-from-profile-7000", external_id: None, policy: None, policy_arns: None, duration_seconds: None, tags: None, settings: CallSettings { region: Some(Region { name: "eu-west-1" }), use_fips: None, use_dual_stack: None, max_attempts: 3, timeouts: Timeouts { connect_ms: None, read_ms: None, operation_ms: None, attempt_ms: None } } }))"#,
         ),
         (
-            [
-                ("default", [("aws_access_key_id", "A")].as_slice()),
-                (
-                    "default",
-                    [("aws_access_key_id", "B"), ("aws_secret_access_key", "s")].as_slice(),
-                ),
-            ]
-            .as_slice(),
-            "Credentials { provider_name: \"ProfileFile\", access_key_id: \"B\", secret_access_key: \"** redacted **\", expires_after: never } s None [CredentialsProfile]",
+            r#"{"profiles":[["default",[["role_arn","r"],["source_profile","b"],["role_session_name","s"],["external_id","x"]]],["b",[["aws_access_key_id","K"],["aws_secret_access_key","S"]]]],"replies":{"assume-role":[{"refused":"RegionDisabled","message":"no"}]}}"#,
+            r#"ProviderError(Role(ProviderError(Refused(Refusal { kind: RegionDisabled, message: "no" })))) Send(AssumeRole(AssumeRole { signer: Credentials { provider_name: "ProfileFile", access_key_id: "K", secret_access_key: "** redacted **", expires_after: never }, role_arn: "r", session_name: "s", external_id: Some("x"), policy: None, policy_arns: None, duration_seconds: None, tags: None, settings: CallSettings { region: Some(Region { name: "eu-west-1" }), use_fips: None, use_dual_stack: None, max_attempts: 3, timeouts: Timeouts { connect_ms: None, read_ms: None, operation_ms: None, attempt_ms: None } } }))"#,
         ),
-        (
-            [
-                (
-                    "default",
-                    [("role_arn", "r"), ("source_profile", "b")].as_slice(),
-                ),
-                (
-                    "b",
-                    [("aws_access_key_id", "A"), ("aws_secret_access_key", "s")].as_slice(),
-                ),
-            ]
-            .as_slice(),
-            "ProviderError(Role(Boxed { inner: ProviderError(Sent(Dispatch)) }))",
-        ),
-    ] {
-        let told = of_profiles(rt.alloc(), rows)?;
-        assert_eq!(rt; told.as_str(), wanted);
+    ];
+    for (script, want) in table {
+        let words = words_of(rt.alloc(), script)?;
+        assert_eq!(rt; words.as_str(), *want, "{script}");
     }
     Ok(())
 }
 
-#[test]
-fn profiles_at_fault(rt: HostRuntime) -> Result<(), Fail> {
-    for (key, wanted) in [
-        (
-            "aws_access_key_id",
-            "InvalidConfiguration(Profile(InvalidCredentialSource { profile: Text { inner: \"default\" }, message: Text { inner: \"profile missing aws_secret_access_key\" } }))",
-        ),
-        (
-            "aws_secret_access_key",
-            "InvalidConfiguration(Profile(InvalidCredentialSource { profile: Text { inner: \"default\" }, message: Text { inner: \"profile missing aws_access_key_id\" } }))",
-        ),
-        (
-            "aws_session_token",
-            "InvalidConfiguration(Profile(InvalidCredentialSource { profile: Text { inner: \"default\" }, message: Text { inner: \"profile missing aws_access_key_id\" } }))",
-        ),
-        (
-            "credential_process",
-            "InvalidConfiguration(Profile(FeatureNotEnabled { feature: Text { inner: \"profile-providers\" }, message: None }))",
-        ),
-        (
-            "role_arn",
-            "InvalidConfiguration(Profile(FeatureNotEnabled { feature: Text { inner: \"profile-providers\" }, message: None }))",
-        ),
-    ] {
-        let told = of_profiles(rt.alloc(), &[("default", [(key, "x")].as_slice())])?;
-        assert_eq!(rt; told.as_str(), wanted, "{key}");
-    }
-    Ok(())
-}
-
-#[test]
-fn profiles_without_keys(rt: HostRuntime) -> Result<(), Fail> {
-    for (name, wanted) in [
-        ("Default", "NoProfilesDefined"),
-        (
-            "default",
-            "ProfileDidNotContainCredentials { profile: Text { inner: \"default\" } }",
-        ),
-    ] {
-        let told = of_profiles(rt.alloc(), &[(name, [("region", "r")].as_slice())])?;
-        let wanted = neither(rt.alloc(), "AWS_ACCESS_KEY_ID", wanted)?;
-        assert_eq!(rt; told.as_str(), wanted.as_str());
-    }
-    Ok(())
-}
-
-#[test]
-fn the_environment_selects_a_profile(rt: HostRuntime) -> Result<(), Fail> {
-    let env = variables(rt.alloc(), &[("AWS_PROFILE", Some("e"))])?;
-    let config = ProviderConfig::without_region(rt.alloc())?.with_env(env);
-    let profiles = sections(rt.alloc(), &[("other", [].as_slice())])?;
-    let answer = call(rt.alloc(), config.with_profiles(profiles))?;
-    let told = words(rt.alloc(), &answer)?;
-    let wanted = neither(
-        rt.alloc(),
-        "AWS_ACCESS_KEY_ID",
-        "MissingProfile { profile: Text { inner: \"e\" }, message: Text { inner: \"could not find source profile e referenced from the root profile\" } }",
-    )?;
-    assert_eq!(rt; told.as_str(), wanted.as_str());
-    Ok(())
-}
-
-#[test]
-fn a_name_that_is_given_comes_first(rt: HostRuntime) -> Result<(), Fail> {
-    let env = variables(rt.alloc(), &[("AWS_PROFILE", Some("e"))])?;
-    let config = ProviderConfig::empty(rt.alloc())?.with_env(env);
-    let profiles = sections(rt.alloc(), &[("other", [].as_slice())])?;
-    let config = config.with_profile_name(rt.alloc(), "c")?;
-    let answer = call(rt.alloc(), config.with_profiles(profiles))?;
-    let told = words(rt.alloc(), &answer)?;
-    let wanted = neither(
-        rt.alloc(),
-        "AWS_ACCESS_KEY_ID",
-        "MissingProfile { profile: Text { inner: \"c\" }, message: Text { inner: \"could not find source profile c referenced from the root profile\" } }",
-    )?;
-    assert_eq!(rt; told.as_str(), wanted.as_str());
-    Ok(())
+// Sections that were refused, and whether the plan for them is built.
+fn refused_words(alloc: Global) -> Result<String, OutOfMemory> {
+    let reason = Text::of(alloc, "line 3")?;
+    let config = ProviderConfig::without_region(alloc)?.with_profiles(ProfileSource::Refused(
+        reason,
+    ));
+    let built = is_built(alloc, &config)?;
+    let lists = DeviceLists {
+        clock: Seq::of(Vec::new(alloc)),
+        assume_role: Seq::of(Vec::new(alloc)),
+    };
+    let mut world = World::new(alloc, ScriptDevices::new(alloc, lists));
+    let answer = call(alloc, config, None, &mut world)?;
+    Ok(format!(in alloc; "{built} {answer}")?)
 }
 
 #[test]
 fn refused_sections(rt: HostRuntime) -> Result<(), Fail> {
-    let reason = Text::of(rt.alloc(), "line 3")?;
-    let config = ProviderConfig::empty(rt.alloc())?.with_profiles(ProfileSource::Refused(reason));
-    let built = is_built(rt.alloc(), &config)?;
-    assert_eq!(rt; built, true);
-    let answer = call(rt.alloc(), config)?;
-    let told = words(rt.alloc(), &answer)?;
+    let words = refused_words(rt.alloc())?;
     assert_eq!(rt;
-        told.as_str(),
-        "InvalidConfiguration(Profile(InvalidProfile(Text { inner: \"line 3\" })))"
+        words.as_str(),
+        r#"true InvalidConfiguration(Profile(InvalidProfile("line 3")))"#
     );
-    Ok(())
-}
-
-#[test]
-fn plans_that_are_built(rt: HostRuntime) -> Result<(), Fail> {
-    let other = section(rt.alloc(), "default", &[("SSO_Session", "x")])?;
-    assert_eq!(rt; has_other_source(&other), true);
-    let none = section(rt.alloc(), "default", &[("role_arn", "r")])?;
-    assert_eq!(rt; has_other_source(&none), false);
-    let profiles = sections(rt.alloc(), &[("default", [("role_arn", "r")].as_slice())])?;
-    let config = ProviderConfig::empty(rt.alloc())?.with_profiles(profiles);
-    let built = is_built(rt.alloc(), &config)?;
-    assert_eq!(rt; built, false);
-    Ok(())
-}
-
-#[test]
-fn a_source_of_the_region(rt: HostRuntime) -> Result<(), Fail> {
-    let region = Region::new(rt.alloc(), "eu-west-1")?;
-    let mut builder = DefaultCredentialsChain::builder(rt.alloc())?;
-    builder.set_region(Some(RegionSource::Fixed(Some(region))));
-    let mut world = idle(rt.alloc());
-    let chain = builder.build(&mut world)?;
-    let mut kept = chain.new_kept()?;
-    let answer = chain.provide_credentials(&mut kept, &mut world);
-    assert_eq!(rt; answer.is_err(), true);
     Ok(())
 }

@@ -6,6 +6,8 @@ mod chain;
 #[cfg(test)]
 mod json;
 #[cfg(test)]
+mod program;
+#[cfg(test)]
 mod script;
 #[cfg(test)]
 mod types;
