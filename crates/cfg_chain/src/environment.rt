@@ -29,7 +29,7 @@ pub fn environment_credentials(
     let origin = Seq::of_slice(alloc, &[AwsCredentialFeature::CredentialsEnvVars])?;
     let mut builder = CredentialsBuilder::new(alloc, id, secret, "EnvironmentVariable")?;
     builder.set_session_token(token).set_account_id(account);
-    Ok(builder.features(origin).build())
+    Ok(builder.features(origin).build()?)
 }
 
 // A variable's text, where it can be read and is not blank.

@@ -34,7 +34,7 @@ pub fn into_credentials(
         .set_session_token(Some(token))
         .set_expiry(Some(keys.expiration))
         .set_account_id(account);
-    Ok(Ok(builder.build()))
+    Ok(Ok(builder.build()?))
 }
 
 fn account_of(

@@ -148,7 +148,7 @@ fn keys_of(
     let builder = with_token(bare, token)?;
     let builder = with_end(builder, end);
     let builder = with_account(builder, account);
-    Ok(builder.build())
+    builder.build()
 }
 
 #[tactic(auto, unfolding(crate::specs::Documents::process_of))]

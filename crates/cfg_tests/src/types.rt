@@ -168,7 +168,7 @@ fn keys(alloc: Global) -> Result<Credentials, OutOfMemory> {
     let builder = CredentialsBuilder::new(alloc, "AKID", "wJalr", "Environment")?;
     let builder = builder.session_token("FwoG")?.expiry(Instant::epoch());
     let account = AccountId::new(alloc, "123456789012")?;
-    Ok(builder.account_id(account).build())
+    builder.account_id(account).build()
 }
 
 // Credentials with one more feature, and with their secrets, in words.

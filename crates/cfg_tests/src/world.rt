@@ -13,7 +13,7 @@ use std::test::Fail;
 
 fn request(alloc: Global) -> Result<Request, OutOfMemory> {
     Ok(Request::AssumeRole(AssumeRole {
-        signer: CredentialsBuilder::new(alloc, "AKID", "wJalr", "Environment")?.build(),
+        signer: CredentialsBuilder::new(alloc, "AKID", "wJalr", "Environment")?.build()?,
         role_arn: Text::of(alloc, "r")?,
         session_name: Text::of(alloc, "s")?,
         external_id: None,

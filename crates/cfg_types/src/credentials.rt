@@ -147,7 +147,8 @@ impl Credentials {
 
     /// The session token, where there is one.
     pub fn session_token(&self) -> Option<&str>
-        ensures { option_map (λ t. characters t.now) result ≡ self.now.session_token }
+        ensures chars { option_map (λ t. characters t.now) result ≡ self.now.session_token }
+        ensures bytes { option_map (λ t. t.now) result ≡ option_map encode_utf8_all self.now.session_token }
     {
         match &self.session_token {
             None => None,
@@ -403,10 +404,10 @@ impl CredentialsBuilder {
     }
 
     /// The credentials.
-    pub fn build(self) -> Credentials
-        ensures { result ≡ self }
+    pub fn build(self) -> Result<Credentials, OutOfMemory>
+        ensures { IfOk result (λ credentials. credentials ≡ self) }
     {
         let CredentialsBuilder { alloc: _, built } = self;
-        built
+        Ok(built)
     }
 }

@@ -25,7 +25,7 @@ pub fn static_keys(alloc: Global, section: &Section) -> Result<Credentials, Halt
     let account = section.account_property(alloc, "aws_account_id")?;
     let mut builder = CredentialsBuilder::new(alloc, id, secret, "ProfileFile")?;
     builder.set_session_token(token).set_account_id(account);
-    Ok(builder.build())
+    Ok(builder.build()?)
 }
 
 /// Whether the section has an access key and its secret.
