@@ -8,7 +8,7 @@ use Rattle.cfg_types.specs.Keys.{Keys}
 use Rattle.cfg_types.specs.declared.errors.CredentialsError.{CredentialsError}
 use Rattle.cfg_world.specs.Fits.{Pair}
 use Rattle.cfg_script.specs.Script.{Plain, Refused, NoScript, NotBuilt}
-use Rattle.cfg_script.specs.Reading.{reading}
+use Rattle.cfg_script.specs.Reading.{script_of}
 use Rattle.cfg_program.specs.declared.status.Status.{Status}
 use Rattle.cfg_program.specs.declared.status.Status.TheVariants as status
 use Rattle.cfg_program.specs.declared.words.Word.{Word}
@@ -27,7 +27,7 @@ called_for_by (Err NotBuilt) = status.NotBuilt
 called_for_by (Ok p) = cond (plan_is_built p) status.Done status.NotBuilt
 
 abbrev called_for : List ℕ → Status
-called_for bytes = cond (nat_lt limit (length bytes)) status.TooLong (called_for_by (reading bytes))
+called_for bytes = cond (nat_lt limit (length bytes)) status.TooLong (called_for_by (script_of bytes))
 
 abbrev one_answer : Status → Status
 one_answer status.Done = status.Done
@@ -44,17 +44,17 @@ told_is : (left : Option (List ℕ)) (bytes : List ℕ) (P : List ℕ → Type 0
 told_is left bytes P e told = subst (λ o. Told o P) e told
 
 -- bytes that were read to the end call for what their reading calls for
-read_calls_for : (seen : Seen) (all : List ℕ) → seen.left ≡ Some all → (bytes : List ℕ) → WasRead seen bytes → (r : Result Plain Refused) → reading bytes ≡ r → called_for all ≡ called_for_by r
+read_calls_for : (seen : Seen) (all : List ℕ) → seen.left ≡ Some all → (bytes : List ℕ) → WasRead seen bytes → (r : Result Plain Refused) → script_of bytes ≡ r → called_for all ≡ called_for_by r
 read_calls_for seen all e bytes was r is =
     ap called_for (told_is seen.left all (λ b. b ≡ bytes) e was.all)
-    ∙ ap (λ t. cond t status.TooLong (called_for_by (reading bytes))) (le-ltb limit (length bytes) was.short)
+    ∙ ap (λ t. cond t status.TooLong (called_for_by (script_of bytes))) (le-ltb limit (length bytes) was.short)
     ∙ ap called_for_by is
 
 script_calls_for : (seen : Seen) (all : List ℕ) → seen.left ≡ Some all → (p : Plain) → IsScript seen p → called_for all ≡ status.Done
 script_calls_for seen all e p is = read_calls_for seen all e is.bytes is.read (Ok p) is.script ∙ ap (λ b. cond b status.Done status.NotBuilt) is.built
 
 not_built_calls_for : (seen : Seen) (all : List ℕ) → seen.left ≡ Some all → (bytes : List ℕ) → WasRead seen bytes
-    → (reading bytes ≡ Err NotBuilt) ⊎ ((p : Plain) × (reading bytes ≡ Ok p) × (plan_is_built p ≡ false)) → called_for all ≡ status.NotBuilt
+    → (script_of bytes ≡ Err NotBuilt) ⊎ ((p : Plain) × (script_of bytes ≡ Ok p) × (plan_is_built p ≡ false)) → called_for all ≡ status.NotBuilt
 not_built_calls_for seen all e bytes was (inl refused) = read_calls_for seen all e bytes was (Err NotBuilt) refused
 not_built_calls_for seen all e bytes was (inr script) =
     read_calls_for seen all e bytes was (Ok script.0) script.1 ∙ ap (λ b. cond b status.Done status.NotBuilt) script.2
@@ -69,7 +69,7 @@ is_called_for seen all e status.SourceFault t ends = cc
 is_called_for seen all e status.SinkFault t ends = cc
 is_called_for seen all e status.OutOfMemory t ends = cc
 is_called_for seen all e status.TooLong t ends =
-    ap (λ b. cond b status.TooLong (called_for_by (reading all))) (lt-ltb limit (length all) (told_is seen.left all (λ b. limit < length b) e ends.0))
+    ap (λ b. cond b status.TooLong (called_for_by (script_of all))) (lt-ltb limit (length all) (told_is seen.left all (λ b. limit < length b) e ends.0))
 is_called_for seen all e status.NotBuilt t ends = not_built_calls_for seen all e ends.0.bytes ends.0.read ends.0.cause
 
 -- the line of credentials is no line of an error
@@ -137,7 +137,7 @@ refusal_is_called_for seen all e status.SourceFault h = absurd h
 refusal_is_called_for seen all e status.SinkFault h = absurd h
 refusal_is_called_for seen all e status.OutOfMemory h = absurd h
 refusal_is_called_for seen all e status.TooLong h =
-    ap (λ b. cond b status.TooLong (called_for_by (reading all))) (lt-ltb limit (length all) (told_is seen.left all (λ b. limit < length b) e h))
+    ap (λ b. cond b status.TooLong (called_for_by (script_of all))) (lt-ltb limit (length all) (told_is seen.left all (λ b. limit < length b) e h))
 refusal_is_called_for seen all e status.NotBuilt h = not_built_calls_for seen all e h.bytes h.read h.cause
 
 -- no refusal is credentials or an error

@@ -1,7 +1,7 @@
 -- Which statuses tell of the words and of the input, and what in the input causes a refusal.
 use Rattle.std.specs.Prelude.{◌≡◌, ℕ, ◌<◌, List, length, Bool, true, false, Err, IsSome}
 use Rattle.cfg_script.specs.Script.{NoScript}
-use Rattle.cfg_script.specs.Reading.{reading}
+use Rattle.cfg_script.specs.Reading.{script_of}
 use Rattle.cfg_program.specs.declared.status.Status.{Status}
 use Rattle.cfg_program.specs.declared.status.Status.TheVariants as status
 use Rattle.cfg_program.specs.Streams.{Told, limit}
@@ -26,7 +26,7 @@ pub record AllTold (seen : Seen) : Type 0 where
 
 -- the bytes of the input call for this refusal
 abbrev pub CallsFor : Seen → Status → Type 0
-CallsFor seen status.NoScript = (bytes : List ℕ) × WasRead seen bytes × (reading bytes ≡ Err NoScript)
+CallsFor seen status.NoScript = (bytes : List ℕ) × WasRead seen bytes × (script_of bytes ≡ Err NoScript)
 CallsFor seen status.TooLong = Told seen.left (λ b. limit < length b)
 CallsFor seen status.NotBuilt = IsNotBuilt seen
 CallsFor seen _ = ⊥

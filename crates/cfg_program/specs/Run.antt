@@ -3,7 +3,7 @@ use Rattle.std.specs.Prelude.{◌≡◌, ℕ, ◌≤◌, ◌<◌, List, length, 
 use Rattle.std.specs.Io.KnownBytes.{Appends}
 use Rattle.cfg_world.specs.Faults.{Rose}
 use Rattle.cfg_script.specs.Script.{Plain, NoScript, NotBuilt}
-use Rattle.cfg_script.specs.Reading.{reading}
+use Rattle.cfg_script.specs.Reading.{script_of}
 use Rattle.cfg_program.specs.declared.status.Status.{Status}
 use Rattle.cfg_program.specs.declared.status.Status.TheVariants as status
 use Rattle.cfg_program.specs.declared.words.Word.{Word}
@@ -36,14 +36,14 @@ pub record WasRead (seen : Seen) (bytes : List ℕ) : Type 0 where
 pub record IsScript (seen : Seen) (p : Plain) : Type 0 where
   pub bytes : List ℕ
   pub read : WasRead seen bytes
-  pub script : reading bytes ≡ Ok p
+  pub script : script_of bytes ≡ Ok p
   pub built : plan_is_built p ≡ true
 
 -- the input has a name that is not built, or it is a script whose plan is not built
 pub record IsNotBuilt (seen : Seen) : Type 0 where
   pub bytes : List ℕ
   pub read : WasRead seen bytes
-  pub cause : (reading bytes ≡ Err NotBuilt) ⊎ ((p : Plain) × (reading bytes ≡ Ok p) × (plan_is_built p ≡ false))
+  pub cause : (script_of bytes ≡ Err NotBuilt) ⊎ ((p : Plain) × (script_of bytes ≡ Ok p) × (plan_is_built p ≡ false))
 
 -- the line of the script's own call was written
 pub record WritesLine (seen : Seen) (is_credentials : Bool) : Type 0 where
@@ -71,7 +71,7 @@ abbrev pub EndsResolving : Seen → Status → Type 0
 EndsResolving seen status.Done = WritesLine seen true
 EndsResolving seen status.Refused = WritesLine seen false
 EndsResolving seen status.Words = ⊥
-EndsResolving seen status.NoScript = ((bytes : List ℕ) × WasRead seen bytes × (reading bytes ≡ Err NoScript)) × WritesNothing seen
+EndsResolving seen status.NoScript = ((bytes : List ℕ) × WasRead seen bytes × (script_of bytes ≡ Err NoScript)) × WritesNothing seen
 EndsResolving seen status.SourceFault = Rose seen.source_faults seen.source_faults_after × WritesNothing seen
 EndsResolving seen status.SinkFault = Rose seen.sink_faults seen.sink_faults_after × WritesFront seen
 EndsResolving seen status.OutOfMemory = WritesNothing seen ⊎ WritesFront seen

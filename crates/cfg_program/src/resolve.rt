@@ -6,7 +6,7 @@ ghost use Rattle.cfg_types.specs.TextMap.{named};
 ghost use Rattle.cfg_types.specs.Entries.{each_set};
 ghost use Rattle.cfg_world.specs.Script.{AllFit};
 ghost use Rattle.cfg_chain.specs.Causes.{is_memory};
-ghost use Rattle.cfg_script.specs.Script.{plain, section};
+ghost use Rattle.cfg_script.specs.Script.{plain, section_bytes};
 ghost use Rattle.cfg_script.specs.Devices.{lists_of};
 ghost use Rattle.cfg_chain.specs.Plans.{has_other_source as has_other_source_of, is_built as is_built_of};
 ghost use Rattle.cfg_program.specs.Calls.{section_parts, configured_by, configured, IsFresh, AnswersOver, Answers};
@@ -83,10 +83,10 @@ fn configuration(
     profiles: Vec<(String, Vec<(String, String)>)>,
     selected: Option<String>,
 ) -> Result<ProviderConfig, Unresolved>
-    ensures other { IfOk result (λ c. names_other_source (map section profiles.items) ≡ false) }
+    ensures other { IfOk result (λ c. names_other_source (map section_bytes profiles.items) ≡ false) }
     ensures built { IfOk result (λ c. is_built_of c ≡ true) }
-    ensures value { IfOk result (λ c. c ≡ configured (map named variables.items) (map section profiles.items) (option_map (λ t. string_bytes t) selected)) }
-    ensures not_built { result ≡ Err Unresolved.NotBuilt → (not (names_other_source (map section profiles.items)) && is_built_of (configured (map named variables.items) (map section profiles.items) (option_map (λ t. string_bytes t) selected))) ≡ false }
+    ensures value { IfOk result (λ c. c ≡ configured (map named variables.items) (map section_bytes profiles.items) (option_map (λ t. string_bytes t) selected)) }
+    ensures not_built { result ≡ Err Unresolved.NotBuilt → (not (names_other_source (map section_bytes profiles.items)) && is_built_of (configured (map named variables.items) (map section_bytes profiles.items) (option_map (λ t. string_bytes t) selected))) ≡ false }
 {
     let sections = sections(alloc, profiles)?;
     if names_other(sections.as_slice()) {
@@ -135,7 +135,7 @@ fn sections(
     alloc: Global,
     profiles: Vec<(String, Vec<(String, String)>)>,
 ) -> Result<Vec<Section>, OutOfMemory>
-    ensures { IfOk result (λ v. v.items ≡ map section_parts (map section profiles.items)) }
+    ensures { IfOk result (λ v. v.items ≡ map section_parts (map section_bytes profiles.items)) }
 {
     let mut sections = Vec::new(alloc);
     for (name, properties) in profiles {

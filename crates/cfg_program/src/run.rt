@@ -1,6 +1,6 @@
 // The top call.
 ghost use Rattle.std.specs.Prelude.{◌≡◌, ◌≢◌, Some, None, map, string_bytes};
-ghost use Rattle.cfg_script.specs.Reading.{reading};
+ghost use Rattle.cfg_script.specs.Reading.{script_of};
 ghost use Rattle.cfg_program.specs.Words.{word_named};
 ghost use Rattle.cfg_program.specs.Written.{TextWritten, LineWritten};
 ghost use Rattle.cfg_program.specs.Run.{Ends, EndsResolving};
@@ -10,7 +10,7 @@ use crate::output::write_all;
 use crate::resolve::{Answered, Unresolved, resolve};
 use crate::status::Status;
 use crate::words::{HELP, VERSION, Word, word_of};
-use cfg_script::{Unread as NoScript, read_script};
+use cfg_script::{ScriptError, read_script};
 use cfg_types::EnvText;
 use cfg_world::{Devices, Sink, Source, StreamFault, World};
 use std::alloc::Global;
@@ -80,9 +80,9 @@ fn resolve_script<S: Source, K: Sink>(alloc: Global, source: &mut S, sink: &mut 
     };
     let script = match read_script(alloc, bytes.as_slice()) {
         Ok(script) => script,
-        Err(NoScript::NoScript) => return Status::NoScript,
-        Err(NoScript::NotBuilt) => return Status::NotBuilt,
-        Err(NoScript::OutOfMemory) => return Status::OutOfMemory,
+        Err(ScriptError::NoScript) => return Status::NoScript,
+        Err(ScriptError::NotBuilt) => return Status::NotBuilt,
+        Err(ScriptError::OutOfMemory) => return Status::OutOfMemory,
     };
     let answered = match resolve(alloc, script) {
         Ok(answered) => answered,

@@ -13,16 +13,16 @@ use Rattle.cfg_types.specs.declared.reply.FailKind.TheVariants as fail
 use Rattle.cfg_world.specs.Fits.{IsTransport}
 use Rattle.cfg_world.specs.Script.{AllFit, IsSent}
 use Rattle.cfg_script.specs.Forms.{◌>>=◌, each, list_from, text_from}
-use Rattle.cfg_script.specs.Names.{every_name, is_built, is_built_reply, names_unbuilt}
+use Rattle.cfg_script.specs.Names.{every_name, is_built_name, is_built_reply_name, names_unbuilt}
 use Rattle.cfg_script.specs.Moments.{moment_from, clock_from}
 use Rattle.cfg_script.specs.Variables.{variable_from, section_from}
 use Rattle.cfg_script.specs.Replies.{fail_kind, reply_from, object_reply, replies_in, replies_from}
 use Rattle.cfg_script.specs.Script.{Plain, NoScript, NotBuilt, plain}
-use Rattle.cfg_script.specs.Reading.{ScriptParts, script_parts_in, plain_of, plain_from, members_reading, object_reading, json_value, reading}
+use Rattle.cfg_script.specs.Reading.{ScriptParts, script_parts_in, plain_of, plain_from, script_of_members, script_of_value, json_value, script_of}
 use Rattle.cfg_script.specs.Devices.{lists_of}
-use Rattle.cfg_script.specs.Gives.{Tells}
+use Rattle.cfg_script.specs.Gives.{GivesScript}
 use Rattle.cfg_script.specs.declared.script.Script.{Script}
-use Rattle.cfg_script.specs.declared.script.Unread.{Unread}
+use Rattle.cfg_script.specs.declared.script.ScriptError.{ScriptError}
 
 record Went {A B : Type 0} (o : Option A) (f : A → Option B) (y : B) : Type 0 where
   value : A
@@ -96,7 +96,7 @@ replies_good : (member : Option Data) (rs : List (Result Reply FailKind)) → re
 replies_good None rs e = list_all_good IsSent reply_from reply_good None rs e
 replies_good (Some d) rs e =
     let w = went (as_object d) replies_in rs e in
-    let c = chosen (every_name is_built_reply w.value) (list_from reply_from (get_member (codes "assume-role") w.value)) rs w.next in
+    let c = chosen (every_name is_built_reply_name w.value) (list_from reply_from (get_member (codes "assume-role") w.value)) rs w.next in
     list_all_good IsSent reply_from reply_good (get_member (codes "assume-role") w.value) rs c
 
 plain_good : (parts : ScriptParts) (p : Plain) → plain_of parts ≡ Some p → AllFit (lists_of p)
@@ -123,23 +123,23 @@ not_refused : {A E : Type 0} (b : Bool) (x : E) (r : Result A E) (y : A) → con
 not_refused true x r y h = cc
 not_refused false x r y h = h
 
-members_good : (ms : Members) (p : Plain) → members_reading ms ≡ Ok p → AllFit (lists_of p)
-unfolding members_reading plain_from
+members_good : (ms : Members) (p : Plain) → script_of_members ms ≡ Ok p → AllFit (lists_of p)
+unfolding script_of_members plain_from
 members_good ms p e =
     let ok = not_refused (names_unbuilt ms) NotBuilt (ok_or (plain_from ms) NoScript) p e in
     let some = ok_of (plain_from ms) NoScript p ok in
-    plain_good (script_parts_in ms) p (chosen (every_name is_built ms) (plain_of (script_parts_in ms)) p some)
+    plain_good (script_parts_in ms) p (chosen (every_name is_built_name ms) (plain_of (script_parts_in ms)) p some)
 
-object_good : (o : Option Members) (p : Plain) → object_reading o ≡ Ok p → AllFit (lists_of p)
+object_good : (o : Option Members) (p : Plain) → script_of_value o ≡ Ok p → AllFit (lists_of p)
 object_good None p e = cc
 object_good (Some ms) p e = members_good ms p e
 
 -- what is read as a script can be handed to scripted devices
-pub script_fits : (bytes : List ℕ) (p : Plain) → reading bytes ≡ Ok p → AllFit (lists_of p)
-unfolding reading
+pub script_fits : (bytes : List ℕ) (p : Plain) → script_of bytes ≡ Ok p → AllFit (lists_of p)
+unfolding script_of
 script_fits bytes p e = object_good (json_value bytes >>= as_object) p e
 
 -- the same of what a call read
-pub read_fits : (bytes : List ℕ) (r : Result Script Unread) → Tells r (reading bytes) → IfOk r (λ s. AllFit (lists_of (plain s)))
+pub read_fits : (bytes : List ℕ) (r : Result Script ScriptError) → GivesScript r (script_of bytes) → IfOk r (λ s. AllFit (lists_of (plain s)))
 read_fits bytes (Ok s) t = script_fits bytes (plain s) t
 read_fits bytes (Err e) t = tt

@@ -14,8 +14,8 @@ every_name test no_members = true
 every_name test (member name d ms) = test name && every_name test ms
 
 -- what is built of a script
-abbrev pub is_built : List ℕ → Bool
-is_built name =
+abbrev pub is_built_name : List ℕ → Bool
+is_built_name name =
     bytes_eq name (codes "variables")
     || (bytes_eq name (codes "profiles")
     || (bytes_eq name (codes "selected")
@@ -24,8 +24,8 @@ is_built name =
     || bytes_eq name (codes "replies")))))
 
 -- what belongs to a script and is not built
-abbrev pub is_unbuilt : List ℕ → Bool
-is_unbuilt name =
+abbrev pub is_unbuilt_name : List ℕ → Bool
+is_unbuilt_name name =
     bytes_eq name (codes "calls")
     || (bytes_eq name (codes "sessions")
     || (bytes_eq name (codes "refused")
@@ -37,12 +37,12 @@ is_unbuilt name =
     || bytes_eq name (codes "lookups"))))))))
 
 -- what is built of the replies
-abbrev pub is_built_reply : List ℕ → Bool
-is_built_reply name = bytes_eq name (codes "assume-role")
+abbrev pub is_built_reply_name : List ℕ → Bool
+is_built_reply_name name = bytes_eq name (codes "assume-role")
 
 -- what belongs to the replies and is not built
-abbrev pub is_unbuilt_reply : List ℕ → Bool
-is_unbuilt_reply name =
+abbrev pub is_unbuilt_reply_name : List ℕ → Bool
+is_unbuilt_reply_name name =
     bytes_eq name (codes "http")
     || (bytes_eq name (codes "imds-token")
     || (bytes_eq name (codes "imds-get")
@@ -52,12 +52,12 @@ is_unbuilt_reply name =
     || bytes_eq name (codes "sign-in"))))))
 
 -- the members of a refusal
-abbrev pub is_of_refusal : List ℕ → Bool
-is_of_refusal name = bytes_eq name (codes "refused") || bytes_eq name (codes "message")
+abbrev pub is_refusal_name : List ℕ → Bool
+is_refusal_name name = bytes_eq name (codes "refused") || bytes_eq name (codes "message")
 
 -- the members of credentials
-abbrev pub is_of_credentials : List ℕ → Bool
-is_of_credentials name =
+abbrev pub is_credentials_name : List ℕ → Bool
+is_credentials_name name =
     bytes_eq name (codes "id")
     || (bytes_eq name (codes "secret")
     || (bytes_eq name (codes "token")
@@ -72,8 +72,8 @@ names_unbuilt_reply (Some (boolean b)) = false
 names_unbuilt_reply (Some (number n)) = false
 names_unbuilt_reply (Some (string s)) = false
 names_unbuilt_reply (Some (array ds)) = false
-names_unbuilt_reply (Some (object ms)) = some_name is_unbuilt_reply ms
+names_unbuilt_reply (Some (object ms)) = some_name is_unbuilt_reply_name ms
 
 -- a name that is not built stands at the top or in the replies
 abbrev pub names_unbuilt : Members → Bool
-names_unbuilt ms = some_name is_unbuilt ms || names_unbuilt_reply (get_member (codes "replies") ms)
+names_unbuilt ms = some_name is_unbuilt_name ms || names_unbuilt_reply (get_member (codes "replies") ms)

@@ -5,7 +5,7 @@ use Rattle.serde_json.specs.Data.{Data, Members}
 use Rattle.serde_json.specs.Find.{as_object, get_member}
 use Rattle.serde_json.specs.Read.{read}
 use Rattle.cfg_script.specs.Forms.{◌>>=◌, list_from, text_from}
-use Rattle.cfg_script.specs.Names.{every_name, is_built, names_unbuilt}
+use Rattle.cfg_script.specs.Names.{every_name, is_built_name, names_unbuilt}
 use Rattle.cfg_script.specs.Moments.{clock_from}
 use Rattle.cfg_script.specs.Variables.{variable_from, section_from}
 use Rattle.cfg_script.specs.Replies.{replies_from}
@@ -51,21 +51,21 @@ plain_of parts = do
 
 -- no other names, and each part in its form
 unfoldable pub plain_from : Members → Option Plain
-plain_from ms = if every_name is_built ms then plain_of (script_parts_in ms) else None
+plain_from ms = if every_name is_built_name ms then plain_of (script_parts_in ms) else None
 
 -- a name that is not built is told before any other fault
-unfoldable pub members_reading : Members → Result Plain Refused
-members_reading ms = if names_unbuilt ms then Err NotBuilt else ok_or (plain_from ms) NoScript
+unfoldable pub script_of_members : Members → Result Plain Refused
+script_of_members ms = if names_unbuilt ms then Err NotBuilt else ok_or (plain_from ms) NoScript
 
 -- the value that serde_json reads from the bytes, if they are UTF-8
 unfoldable pub json_value : List ℕ → Option Data
 json_value bytes = if is_utf8 bytes then read bytes else None
 
 -- a value that is no object, or none at all, is no script
-abbrev pub object_reading : Option Members → Result Plain Refused
-object_reading None = Err NoScript
-object_reading (Some ms) = members_reading ms
+abbrev pub script_of_value : Option Members → Result Plain Refused
+script_of_value None = Err NoScript
+script_of_value (Some ms) = script_of_members ms
 
 -- what the bytes say, or why they say nothing
-unfoldable pub reading : List ℕ → Result Plain Refused
-reading bytes = object_reading (json_value bytes >>= as_object)
+unfoldable pub script_of : List ℕ → Result Plain Refused
+script_of bytes = script_of_value (json_value bytes >>= as_object)

@@ -11,7 +11,7 @@ use Rattle.cfg_types.specs.declared.reply.FailKind.TheVariants as fail
 use Rattle.cfg_types.specs.declared.reply.RefusalKind.{RefusalKind}
 use Rattle.cfg_types.specs.declared.reply.RefusalKind.TheVariants as kind
 use Rattle.cfg_script.specs.Forms.{◌>>=◌, list_from}
-use Rattle.cfg_script.specs.Names.{every_name, is_built_reply, is_of_refusal, is_of_credentials}
+use Rattle.cfg_script.specs.Names.{every_name, is_built_reply_name, is_refusal_name, is_credentials_name}
 use Rattle.cfg_script.specs.Moments.{moment_from}
 
 -- why a send failed
@@ -56,7 +56,7 @@ refusal_of ms = do
 
 -- {"refused": kind, "message": text}, and no other member
 unfoldable pub refusal_from : Members → Option Reply
-refusal_from ms = if every_name is_of_refusal ms then refusal_of ms else None
+refusal_from ms = if every_name is_refusal_name ms then refusal_of ms else None
 
 -- what stands under the names of credentials
 pub record CredentialParts : Type 0 where
@@ -91,7 +91,7 @@ credentials_of parts = do
 
 -- {"id", "secret", "token": texts, "expires": moment, "arn": text, optional}, and no other member
 unfoldable pub credentials_from : Members → Option Reply
-credentials_from ms = if every_name is_of_credentials ms then credentials_of (credential_parts_in ms) else None
+credentials_from ms = if every_name is_credentials_name ms then credentials_of (credential_parts_in ms) else None
 
 -- a member "refused" makes it a refusal
 abbrev pub object_reply : Members → Option Reply
@@ -108,7 +108,7 @@ reply_from (object ms) = option_map Ok (object_reply ms)
 
 -- the list of an object that has no other names
 abbrev pub replies_in : Members → Option (List (Result Reply FailKind))
-replies_in ms = if every_name is_built_reply ms then list_from reply_from (get_member (codes "assume-role") ms) else None
+replies_in ms = if every_name is_built_reply_name ms then list_from reply_from (get_member (codes "assume-role") ms) else None
 
 -- the replies to AssumeRole, none where there is no member for replies
 abbrev pub replies_from : Option Data → Option (List (Result Reply FailKind))

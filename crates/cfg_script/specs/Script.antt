@@ -31,18 +31,18 @@ pub data Refused : Type 0 where
   NotBuilt : Refused
 
 -- a property that the program holds
-abbrev pub property : String Global × String Global → Property
-property p = (string_bytes p.0, string_bytes p.1)
+abbrev pub property_bytes : String Global × String Global → Property
+property_bytes p = (string_bytes p.0, string_bytes p.1)
 
 -- a section that the program holds
-abbrev pub section : String Global × Vec (String Global × String Global) Global → Section
-section s = (string_bytes s.0, map property s.1.items)
+abbrev pub section_bytes : String Global × Vec (String Global × String Global) Global → Section
+section_bytes s = (string_bytes s.0, map property_bytes s.1.items)
 
 -- what a script says
 abbrev pub plain : Script → Plain
 plain s = record {
   variables = map named s.variables.items;
-  profiles = map section s.profiles.items;
+  profiles = map section_bytes s.profiles.items;
   selected = option_map (λ t. string_bytes t) s.selected;
   region = option_map (λ t. string_bytes t) s.region;
   clock = s.clock.items;

@@ -13,4 +13,4 @@ mod value;
 mod variables;
 
 pub use reading::read_script;
-pub use script::{Script, Unread};
+pub use script::{Script, ScriptError};

@@ -4,14 +4,14 @@ ghost use Rattle.serde_json.specs.View.{view};
 ghost use Rattle.cfg_script.specs.Moments.{pair_moment, moment_from, clock_from};
 
 use crate::part::Part;
-use crate::script::Unread;
+use crate::script::ScriptError;
 use crate::value::pair_of;
 use cfg_types::Instant;
 use serde_json::Value;
 use std::alloc::Global;
 
 #[tactic(auto, unfolding(crate::specs::Moments::pair_moment))]
-fn moment_with_nanos(seconds: &Value, nanos: &Value) -> Option<Instant>
+fn read_moment_with_nanos(seconds: &Value, nanos: &Value) -> Option<Instant>
     ensures { result ≡ pair_moment (view seconds.now, view nanos.now) }
 {
     let seconds = seconds.as_i64()?;
@@ -21,22 +21,22 @@ fn moment_with_nanos(seconds: &Value, nanos: &Value) -> Option<Instant>
 
 /// A moment of any sign.
 #[tactic(auto, unfolding(crate::specs::Moments::moment_from))]
-pub(crate) fn moment_of(value: Value) -> Option<Instant>
+pub(crate) fn read_moment(value: Value) -> Option<Instant>
     ensures { result ≡ moment_from (view value) }
 {
     if let Some(seconds) = value.as_i64() {
         return Instant::new(seconds, 0);
     }
     let (seconds, nanos) = pair_of(value)?;
-    moment_with_nanos(&seconds, &nanos)
+    read_moment_with_nanos(&seconds, &nanos)
 }
 
 /// A moment from 0 on.
 #[tactic(auto, unfolding(crate::specs::Moments::clock_from))]
-pub(crate) fn clock_of(value: Value) -> Option<Instant>
+pub(crate) fn read_clock_moment(value: Value) -> Option<Instant>
     ensures { result ≡ clock_from (view value) }
 {
-    let moment = moment_of(value)?;
+    let moment = read_moment(value)?;
     if moment.seconds() < 0 {
         None
     } else {
@@ -54,7 +54,7 @@ impl Part for Instant {
 
     ghost form = { clock_from };
 
-    fn read(_: Global, value: Value) -> Result<Instant, Unread> {
-        clock_of(value).ok_or(Unread::NoScript)
+    fn read(_: Global, value: Value) -> Result<Instant, ScriptError> {
+        read_clock_moment(value).ok_or(ScriptError::NoScript)
     }
 }

@@ -3,7 +3,7 @@ ghost use Rattle.std.specs.Prelude.{◌≡◌, ℕ, List, Bool, string_bytes, co
 ghost use Rattle.std.specs.List.{list_all, list_any};
 ghost use Rattle.std.specs.BTreeMap.{keys};
 ghost use Rattle.serde_json.specs.View.{view, members_view};
-ghost use Rattle.cfg_script.specs.Names.{some_name, every_name, is_built, is_unbuilt, is_built_reply, is_unbuilt_reply, is_of_refusal, is_of_credentials, names_unbuilt_reply, names_unbuilt};
+ghost use Rattle.cfg_script.specs.Names.{some_name, every_name, is_built_name, is_unbuilt_name, is_built_reply_name, is_unbuilt_reply_name, is_refusal_name, is_credentials_name, names_unbuilt_reply, names_unbuilt};
 
 use crate::value::member;
 use serde_json::{Map, Value};
@@ -20,7 +20,7 @@ pub(crate) trait Names {
 pub(crate) struct Built;
 
 impl Names for Built {
-    ghost has = { is_built };
+    ghost has = { is_built_name };
 
     fn has(name: &str) -> bool {
         name == "variables"
@@ -36,7 +36,7 @@ impl Names for Built {
 pub(crate) struct Unbuilt;
 
 impl Names for Unbuilt {
-    ghost has = { is_unbuilt };
+    ghost has = { is_unbuilt_name };
 
     fn has(name: &str) -> bool {
         name == "calls"
@@ -55,7 +55,7 @@ impl Names for Unbuilt {
 pub(crate) struct BuiltReplies;
 
 impl Names for BuiltReplies {
-    ghost has = { is_built_reply };
+    ghost has = { is_built_reply_name };
 
     fn has(name: &str) -> bool {
         name == "assume-role"
@@ -66,7 +66,7 @@ impl Names for BuiltReplies {
 pub(crate) struct UnbuiltReplies;
 
 impl Names for UnbuiltReplies {
-    ghost has = { is_unbuilt_reply };
+    ghost has = { is_unbuilt_reply_name };
 
     fn has(name: &str) -> bool {
         name == "http"
@@ -83,7 +83,7 @@ impl Names for UnbuiltReplies {
 pub(crate) struct OfRefusal;
 
 impl Names for OfRefusal {
-    ghost has = { is_of_refusal };
+    ghost has = { is_refusal_name };
 
     fn has(name: &str) -> bool {
         name == "refused" || name == "message"
@@ -94,7 +94,7 @@ impl Names for OfRefusal {
 pub(crate) struct OfCredentials;
 
 impl Names for OfCredentials {
-    ghost has = { is_of_credentials };
+    ghost has = { is_credentials_name };
 
     fn has(name: &str) -> bool {
         name == "id" || name == "secret" || name == "token" || name == "expires" || name == "arn"

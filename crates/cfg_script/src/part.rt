@@ -5,7 +5,7 @@ ghost use Rattle.serde_json.specs.View.{view, items_view};
 ghost use Rattle.cfg_script.specs.Forms.{each, list_from};
 ghost use Rattle.cfg_script.specs.Gives.{Gives};
 
-use crate::script::Unread;
+use crate::script::ScriptError;
 use crate::value::items_of;
 use serde_json::Value;
 use std::alloc::Global;
@@ -18,14 +18,14 @@ pub(crate) trait Part: Drop {
 
     ghost form: { Data → Option Plain };
 
-    fn read(alloc: Global, value: Value) -> Result<Self, Unread>
+    fn read(alloc: Global, value: Value) -> Result<Self, ScriptError>
     where
         Self: Sized,
         ensures { Gives seen result (form (view value)) };
 }
 
 /// Each item of a list, read.
-pub(crate) fn parts_of<P: Part>(alloc: Global, items: Vec<Value>) -> Result<Vec<P>, Unread>
+pub(crate) fn parts_of<P: Part>(alloc: Global, items: Vec<Value>) -> Result<Vec<P>, ScriptError>
     ensures { Gives (λ v. map P.seen v.items) result (each P.form (items_view items.items)) }
 {
     let mut parts = Vec::with_capacity(alloc, items.len())?;
@@ -36,7 +36,10 @@ pub(crate) fn parts_of<P: Part>(alloc: Global, items: Vec<Value>) -> Result<Vec<
 }
 
 /// The list of a member that may be missing.
-pub(crate) fn parts_under<P: Part>(alloc: Global, member: Option<Value>) -> Result<Vec<P>, Unread>
+pub(crate) fn parts_under<P: Part>(
+    alloc: Global,
+    member: Option<Value>,
+) -> Result<Vec<P>, ScriptError>
     ensures { Gives (λ v. map P.seen v.items) result (list_from P.form (option_map view member)) }
 {
     let Some(value) = member else {
@@ -44,6 +47,6 @@ pub(crate) fn parts_under<P: Part>(alloc: Global, member: Option<Value>) -> Resu
     };
     match items_of(value) {
         Some(items) => parts_of(alloc, items),
-        None => Err(Unread::NoScript),
+        None => Err(ScriptError::NoScript),
     }
 }

@@ -1,9 +1,9 @@
 // From bytes to a script.
 ghost use Rattle.std.specs.Prelude.{◌≡◌, IfOk, Ok, Err};
 ghost use Rattle.serde_json.specs.View.{view, members_view};
-ghost use Rattle.cfg_script.specs.Gives.{Gives, Tells};
+ghost use Rattle.cfg_script.specs.Gives.{Gives, GivesScript};
 ghost use Rattle.cfg_script.specs.Held.{script_parts};
-ghost use Rattle.cfg_script.specs.Reading.{script_parts_in, plain_of, plain_from, json_value, members_reading, reading};
+ghost use Rattle.cfg_script.specs.Reading.{script_parts_in, plain_of, plain_from, json_value, script_of_members, script_of};
 ghost use Rattle.cfg_script.specs.Script.{plain, NoScript, NotBuilt};
 ghost use Rattle.cfg_script.specs.Devices.{lists_of};
 ghost use Rattle.cfg_world.specs.Script.{AllFit};
@@ -11,21 +11,21 @@ ghost use Rattle.cfg_world.specs.Script.{AllFit};
 use crate::names::{Built, any_unbuilt, every_named};
 use crate::part::parts_under;
 use crate::replies::replies_under;
-use crate::script::{Script, Unread};
+use crate::script::{Script, ScriptError};
 use crate::value::{members_of, taken, text_under};
 use serde_json::{Map, Value};
 use std::alloc::Global;
 
 #[tactic(auto, using(crate::proofs::Bytes::value_is, crate::proofs::Bytes::none_is))]
-fn value_of(alloc: Global, bytes: &[u8]) -> Result<Value, Unread>
+fn value_of(alloc: Global, bytes: &[u8]) -> Result<Value, ScriptError>
     ensures { Gives view result (json_value bytes.now) }
 {
     match Value::from_slice(alloc, bytes) {
         Ok(value) => Ok(value),
         Err(e) => Err(if e.is_memory() {
-            Unread::OutOfMemory
+            ScriptError::OutOfMemory
         } else {
-            Unread::NoScript
+            ScriptError::NoScript
         }),
     }
 }
@@ -61,7 +61,7 @@ fn script_members(mut members: Map<String, Value>) -> ScriptMembers
 }
 
 #[tactic(auto, unfolding(crate::specs::Reading::plain_of))]
-fn script_of(alloc: Global, members: ScriptMembers) -> Result<Script, Unread>
+fn script_by(alloc: Global, members: ScriptMembers) -> Result<Script, ScriptError>
     ensures { Gives plain result (plain_of (script_parts members)) }
 {
     let ScriptMembers {
@@ -74,8 +74,8 @@ fn script_of(alloc: Global, members: ScriptMembers) -> Result<Script, Unread>
     } = members;
     let variables = parts_under(alloc, variables)?;
     let profiles = parts_under(alloc, profiles)?;
-    let selected = text_under(selected).ok_or(Unread::NoScript)?;
-    let region = text_under(region).ok_or(Unread::NoScript)?;
+    let selected = text_under(selected).ok_or(ScriptError::NoScript)?;
+    let region = text_under(region).ok_or(ScriptError::NoScript)?;
     let clock = parts_under(alloc, clock)?;
     let assume_role = replies_under(alloc, replies)?;
     Ok(Script {
@@ -89,43 +89,43 @@ fn script_of(alloc: Global, members: ScriptMembers) -> Result<Script, Unread>
 }
 
 #[tactic(auto, unfolding(crate::specs::Reading::plain_from))]
-fn script_in(alloc: Global, members: Map<String, Value>) -> Result<Script, Unread>
+fn script_in(alloc: Global, members: Map<String, Value>) -> Result<Script, ScriptError>
     ensures { Gives plain result (plain_from (members_view members.entries)) }
 {
     if !every_named::<Built>(&members) {
-        return Err(Unread::NoScript);
+        return Err(ScriptError::NoScript);
     }
-    script_of(alloc, script_members(members))
+    script_by(alloc, script_members(members))
 }
 
-#[tactic(auto, unfolding(crate::specs::Reading::members_reading))]
-fn read_members(alloc: Global, members: Map<String, Value>) -> Result<Script, Unread>
-    ensures { Tells result (members_reading (members_view members.entries)) }
+#[tactic(auto, unfolding(crate::specs::Reading::script_of_members))]
+fn read_members(alloc: Global, members: Map<String, Value>) -> Result<Script, ScriptError>
+    ensures { GivesScript result (script_of_members (members_view members.entries)) }
 {
     if any_unbuilt(&members) {
-        return Err(Unread::NotBuilt);
+        return Err(ScriptError::NotBuilt);
     }
     script_in(alloc, members)
 }
 
-#[tactic(auto, unfolding(crate::specs::Reading::reading))]
-fn read(alloc: Global, bytes: &[u8]) -> Result<Script, Unread>
-    ensures { Tells result (reading bytes.now) }
+#[tactic(auto, unfolding(crate::specs::Reading::script_of))]
+fn read(alloc: Global, bytes: &[u8]) -> Result<Script, ScriptError>
+    ensures { GivesScript result (script_of bytes.now) }
 {
     let value = value_of(alloc, bytes)?;
     match members_of(value) {
         Some(members) => read_members(alloc, members),
-        None => Err(Unread::NoScript),
+        None => Err(ScriptError::NoScript),
     }
 }
 
-/// What the bytes say as a script. Each error comes exactly where `reading` says so, but for want
+/// What the bytes say as a script. Each error comes exactly where `script_of` says so, but for want
 /// of memory, which may come in place of any answer.
-pub fn read_script(alloc: Global, bytes: &[u8]) -> Result<Script, Unread>
-    ensures script { IfOk result (λ s. reading bytes.now ≡ Ok (plain s)) }
+pub fn read_script(alloc: Global, bytes: &[u8]) -> Result<Script, ScriptError>
+    ensures script { IfOk result (λ s. script_of bytes.now ≡ Ok (plain s)) }
     ensures fits { IfOk result (λ s. AllFit (lists_of (plain s))) }
-    ensures no_script { result ≡ Err Unread.NoScript → reading bytes.now ≡ Err NoScript }
-    ensures not_built { result ≡ Err Unread.NotBuilt → reading bytes.now ≡ Err NotBuilt }
+    ensures no_script { result ≡ Err ScriptError.NoScript → script_of bytes.now ≡ Err NoScript }
+    ensures not_built { result ≡ Err ScriptError.NotBuilt → script_of bytes.now ≡ Err NotBuilt }
 {
     read(alloc, bytes)
 }

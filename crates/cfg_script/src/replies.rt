@@ -5,16 +5,16 @@ ghost use Rattle.cfg_script.specs.Gives.{Gives};
 ghost use Rattle.cfg_script.specs.Held.{credential_parts};
 ghost use Rattle.cfg_script.specs.Replies.{fail_kind, refusal_kind, required_text as required, optional_text as optional, required_moment as moment_at, refusal_of, refusal_from, credential_parts_in, credentials_of, credentials_from, object_reply, reply_from, replies_in, replies_from};
 
-use crate::moments::moment_of;
+use crate::moments::read_moment;
 use crate::names::{BuiltReplies, OfCredentials, OfRefusal, every_named};
 use crate::part::{Part, parts_under};
-use crate::script::Unread;
+use crate::script::ScriptError;
 use crate::value::{member, members_of, taken, text_of};
 use cfg_types::{FailKind, Instant, Refusal, RefusalKind, Reply, StsCredentials, StsReply, Text};
 use serde_json::{Map, Value};
 use std::alloc::Global;
 
-fn fail_kind_of(name: &str) -> Option<FailKind>
+fn fail_kind_named(name: &str) -> Option<FailKind>
     ensures { result ≡ fail_kind name.now }
 {
     match name {
@@ -25,7 +25,7 @@ fn fail_kind_of(name: &str) -> Option<FailKind>
     }
 }
 
-fn refusal_kind_of(name: &str) -> Option<RefusalKind>
+fn refusal_kind_named(name: &str) -> Option<RefusalKind>
     ensures { result ≡ refusal_kind name.now }
 {
     match name {
@@ -59,7 +59,7 @@ fn optional_text(member: Option<Value>) -> Option<Option<Text>>
 fn required_moment(member: Option<Value>) -> Option<Instant>
     ensures { result ≡ moment_at (option_map view member) }
 {
-    moment_of(member?)
+    read_moment(member?)
 }
 
 #[tactic(auto, unfolding(crate::specs::Replies::refusal_of))]
@@ -67,7 +67,7 @@ fn refused(mut members: Map<String, Value>) -> Option<Reply>
     ensures { result ≡ refusal_of (members_view members.entries) }
 {
     let name = member(&members, "refused")?.as_str()?;
-    let kind = refusal_kind_of(name)?;
+    let kind = refusal_kind_named(name)?;
     let message = required_text(taken(&mut members, "message"))?;
     Some(Reply::Refused(Refusal { kind, message }))
 }
@@ -148,7 +148,7 @@ fn credentials_in(members: Map<String, Value>) -> Option<Reply>
     }
 }
 
-fn object_reply_of(members: Map<String, Value>) -> Option<Reply>
+fn read_object_reply(members: Map<String, Value>) -> Option<Reply>
     ensures { result ≡ object_reply (members_view members.entries) }
 {
     if member(&members, "refused").is_some() {
@@ -158,7 +158,7 @@ fn object_reply_of(members: Map<String, Value>) -> Option<Reply>
     }
 }
 
-fn reply_of(value: Value) -> Option<Result<Reply, FailKind>>
+fn read_reply(value: Value) -> Option<Result<Reply, FailKind>>
     ensures { result ≡ reply_from (view value) }
 {
     match value {
@@ -166,8 +166,8 @@ fn reply_of(value: Value) -> Option<Result<Reply, FailKind>>
             credentials: None,
             arn: None,
         }))),
-        Value::String(name) => Some(Err(fail_kind_of(name.as_str())?)),
-        Value::Object(members) => Some(Ok(object_reply_of(members)?)),
+        Value::String(name) => Some(Err(fail_kind_named(name.as_str())?)),
+        Value::Object(members) => Some(Ok(read_object_reply(members)?)),
         _ => None,
     }
 }
@@ -184,19 +184,19 @@ impl Part for Result<Reply, FailKind> {
 
     ghost form = { reply_from };
 
-    fn read(_: Global, value: Value) -> Result<Result<Reply, FailKind>, Unread> {
-        reply_of(value).ok_or(Unread::NoScript)
+    fn read(_: Global, value: Value) -> Result<Result<Reply, FailKind>, ScriptError> {
+        read_reply(value).ok_or(ScriptError::NoScript)
     }
 }
 
-fn replies_of(
+fn read_replies(
     alloc: Global,
     mut members: Map<String, Value>,
-) -> Result<Vec<Result<Reply, FailKind>>, Unread>
+) -> Result<Vec<Result<Reply, FailKind>>, ScriptError>
     ensures { Gives (λ v. v.items) result (replies_in (members_view members.entries)) }
 {
     if !every_named::<BuiltReplies>(&members) {
-        return Err(Unread::NoScript);
+        return Err(ScriptError::NoScript);
     }
     parts_under(alloc, taken(&mut members, "assume-role"))
 }
@@ -205,14 +205,14 @@ fn replies_of(
 pub(crate) fn replies_under(
     alloc: Global,
     member: Option<Value>,
-) -> Result<Vec<Result<Reply, FailKind>>, Unread>
+) -> Result<Vec<Result<Reply, FailKind>>, ScriptError>
     ensures { Gives (λ v. v.items) result (replies_from (option_map view member)) }
 {
     let Some(value) = member else {
         return Ok(Vec::new(alloc));
     };
     match members_of(value) {
-        Some(members) => replies_of(alloc, members),
-        None => Err(Unread::NoScript),
+        Some(members) => read_replies(alloc, members),
+        None => Err(ScriptError::NoScript),
     }
 }

@@ -1,6 +1,6 @@
 // What a script says, and why bytes are no script.
 ghost use Rattle.std.specs.Prelude.{◌≡◌};
-ghost use Rattle.cfg_script.specs.declared.script.Unread.TheVariants as unread;
+ghost use Rattle.cfg_script.specs.declared.script.ScriptError.TheVariants as error;
 
 use cfg_types::{EnvText, FailKind, Instant, Reply};
 use std::alloc::{AllocError, AllocFailed};
@@ -24,7 +24,7 @@ pub struct Script {
 
 /// Why bytes were not read.
 #[derive(Clone, Copy, Debug, PartialEq, Eq)]
-pub enum Unread {
+pub enum ScriptError {
     /// They are no script.
     NoScript,
     /// They have a name that belongs to a script and is not built.
@@ -32,18 +32,18 @@ pub enum Unread {
     OutOfMemory,
 }
 
-impl From<AllocError> for Unread {
-    ghost from_gives = { λ _ e. e ≡ unread.OutOfMemory };
+impl From<AllocError> for ScriptError {
+    ghost from_gives = { λ _ e. e ≡ error.OutOfMemory };
 
-    fn from(_: AllocError) -> Unread {
-        Unread::OutOfMemory
+    fn from(_: AllocError) -> ScriptError {
+        ScriptError::OutOfMemory
     }
 }
 
-impl<T: Drop> From<AllocFailed<T>> for Unread {
-    ghost from_gives = { λ _ e. e ≡ unread.OutOfMemory };
+impl<T: Drop> From<AllocFailed<T>> for ScriptError {
+    ghost from_gives = { λ _ e. e ≡ error.OutOfMemory };
 
-    fn from(_: AllocFailed<T>) -> Unread {
-        Unread::OutOfMemory
+    fn from(_: AllocFailed<T>) -> ScriptError {
+        ScriptError::OutOfMemory
     }
 }

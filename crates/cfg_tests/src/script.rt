@@ -1,6 +1,6 @@
 // What no clause says: that the definition is the script that was meant, printed texts, and that
 // reading succeeds.
-use cfg_script::{Script, Unread, read_script};
+use cfg_script::{Script, ScriptError, read_script};
 use cfg_types::{FailKind, Reply, StsCredentials, StsReply};
 use std::alloc::{AllocError, Global};
 use std::test::Fail;
@@ -9,9 +9,9 @@ use std::test::Fail;
 fn outcome(alloc: Global, bytes: &[u8]) -> &'static str {
     match read_script(alloc, bytes) {
         Ok(_) => "script",
-        Err(Unread::NoScript) => "no script",
-        Err(Unread::NotBuilt) => "not built",
-        Err(Unread::OutOfMemory) => "out of memory",
+        Err(ScriptError::NoScript) => "no script",
+        Err(ScriptError::NotBuilt) => "not built",
+        Err(ScriptError::OutOfMemory) => "out of memory",
     }
 }
 

@@ -1,7 +1,7 @@
 -- The script was read, its call was made, and its line was written, as far as the sink took it.
 use Rattle.std.proofs.Common.{ap, sym, ◌∙◌}
 use Rattle.cfg_script.specs.Script.{plain}
-use Rattle.cfg_script.specs.Reading.{reading}
+use Rattle.cfg_script.specs.Reading.{script_of}
 use Rattle.cfg_program.proofs.Endings.{line_ends}
 use Rattle.cfg_program.proofs.run.resolve_script.Goals as goal
 
@@ -11,7 +11,7 @@ returns g c =
     (record {
       bytes = c.in-Ok.bytes.items;
       read = record { all = c.in-Ok.ensures.all; short = c.in-Ok.ensures.short };
-      script = ap reading (sym c.as_slice.ensures.value) ∙ c.in-Ok-read_script.ensures.script;
+      script = ap script_of (sym c.as_slice.ensures.value) ∙ c.in-Ok-read_script.ensures.script;
       built = c.in-Ok-resolve.ensures.built;
     })
     c.in-Ok-resolve.ensures.answers c.write_line.ensures
