@@ -2,7 +2,7 @@
 use Rattle.std.proofs.Common.{◌≡◌, List, [], ◌∷◌, ◌++◌, Option, Some, None, IfSome, refl, sym, ◌∙◌, ap, append_assoc, append-nil}
 use Rattle.cfg_world.specs.declared.ask.Question.{Question}
 use Rattle.cfg_world.specs.declared.asking.Asking.{Ghosts}
-use Rattle.cfg_world.specs.Fits.{Pair}
+use Rattle.cfg_world.specs.Fits.{Pair, EachFits}
 use Rattle.cfg_world.specs.Inquiry.{Inquiry, Done, Ask, Reads, AsksNext, Begun, after}
 use Rattle.cfg_world.specs.Follows.{Ends, Waits, Breaks}
 use Rattle.cfg_world.proofs.Counts.{Same-refl, Same-trans, Counted-none, Counted-then}
@@ -55,6 +55,10 @@ asks_open_first : {A B : Type 0} (p : Inquiry A) (f : A → Inquiry B) (J : List
 asks_open_first p f J None k = k
 asks_open_first p f J (Some q) k = asks_first p f J q k
 
+fits_append : (one other : List Pair) → EachFits one → EachFits other → EachFits (one ++ other)
+fits_append [] other h k = k
+fits_append (e ∷ one) other h k = (h.0, fits_append one other h.1 k)
+
 module _ {W : Type 0} {w : Ghosts W} where
   -- one call after another
   pub ends_after : {A B : Type 0} {p : Inquiry A} (f : A → Inquiry B) {old mid new : W} {x : A} {out : B} →
@@ -62,6 +66,7 @@ module _ {W : Type 0} {w : Ghosts W} where
   ends_after {p = p} f {old = old} {x = x} {out = out} a b = record {
     part = a.part ++ b.part;
     grows = b.grows ∙ ap (λ t. t ++ b.part) a.grows ∙ append_assoc (w.journal old) a.part b.part;
+    fits = fits_append a.part b.part a.fits b.fits;
     same = Same-trans a.same b.same;
     counted = Counted-then a.counted b.counted;
     stands = λ h. b.stands (a.stands h);
@@ -73,6 +78,7 @@ module _ {W : Type 0} {w : Ghosts W} where
   waits_after {p = p} f {old = old} {new = new} {x = x} a b = record {
     part = a.part ++ b.part;
     grows = b.grows ∙ ap (λ t. t ++ b.part) a.grows ∙ append_assoc (w.journal old) a.part b.part;
+    fits = fits_append a.part b.part a.fits b.fits;
     same = Same-trans a.same b.same;
     counted = Counted-then a.counted b.counted;
     stands = λ h. b.stands (a.stands h);
@@ -84,6 +90,7 @@ module _ {W : Type 0} {w : Ghosts W} where
   waits_first {p = p} f {new = new} b = record {
     part = b.part;
     grows = b.grows;
+    fits = b.fits;
     same = b.same;
     counted = b.counted;
     stands = b.stands;
@@ -96,20 +103,21 @@ module _ {W : Type 0} {w : Ghosts W} where
   breaks_after {p = p} f {old = old} {x = x} a b = record {
     part = a.part ++ b.part;
     grows = b.grows ∙ ap (λ t. t ++ b.part) a.grows ∙ append_assoc (w.journal old) a.part b.part;
+    fits = fits_append a.part b.part a.fits b.fits;
     same = Same-trans a.same b.same;
     counted = Counted-then a.counted b.counted;
     begun = begun_after p f a.part b.part x a.reads b.begun;
   }
 
   pub breaks_first : {A B : Type 0} {p : Inquiry A} (f : A → Inquiry B) {old new : W} → Breaks w p old new → Breaks w (after p f) old new
-  breaks_first {p = p} f b = record { part = b.part; grows = b.grows; same = b.same; counted = b.counted; begun = begun_first p f b.part b.begun }
+  breaks_first {p = p} f b = record { part = b.part; grows = b.grows; fits = b.fits; same = b.same; counted = b.counted; begun = begun_first p f b.part b.begun }
 
   pub ends_done : {A : Type 0} {r : A} {old : W} → Ends w (Done r) old old r
-  ends_done {old = old} = record { part = []; grows = sym (append-nil (w.journal old)); same = Same-refl _; counted = Counted-none _; stands = λ h. h; reads = refl }
+  ends_done {old = old} = record { part = []; grows = sym (append-nil (w.journal old)); fits = tt; same = Same-refl _; counted = Counted-none _; stands = λ h. h; reads = refl }
 
   -- where nothing was asked yet
   pub breaks_here : {A : Type 0} {p : Inquiry A} {old : W} → Breaks w p old old
-  breaks_here {p = p} {old = old} = record { part = []; grows = sym (append-nil (w.journal old)); same = Same-refl _; counted = Counted-none _; begun = begun_here p }
+  breaks_here {p = p} {old = old} = record { part = []; grows = sym (append-nil (w.journal old)); fits = tt; same = Same-refl _; counted = Counted-none _; begun = begun_here p }
 
 pub ruleset asking_steps = (ends_after, waits_after, waits_first, breaks_after, breaks_first, ends_done, breaks_here)
 

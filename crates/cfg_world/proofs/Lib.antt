@@ -4,3 +4,4 @@ pub mod Scripted
 pub mod Pieces
 pub mod Agreeing
 pub mod Beginnings
+pub mod Ordered

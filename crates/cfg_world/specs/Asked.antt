@@ -8,17 +8,17 @@ use Rattle.cfg_world.specs.declared.devices.Fault.TheVariants.{Failed, OutOfMemo
 use Rattle.cfg_world.specs.Fits.{Fits, Pair}
 use Rattle.cfg_world.specs.Faults.{Faults, Counted}
 
--- the same lists are allowed
+-- both allow the same lists
 pub record Same (old new : List Pair → Type 0) : Type 0 where
   pub to : (entries : List Pair) → old entries → new entries
   pub from : (entries : List Pair) → new entries → old entries
 
--- the entry of a question that was answered
+-- the entry of a question that was answered, or nothing
 abbrev pub entered : Question → Option Answer → List Pair
 entered asked None = []
 entered asked (Some answer) = (asked, answer) ∷ []
 
--- One question was put to the devices. Without an answer they lacked memory.
+-- One question was put to the devices. Without an answer memory ran out.
 pub record Asked (old_faults new_faults : Faults) (old_allows new_allows old_stands new_stands : List Pair → Type 0) (asked : Question) (given : Option Answer) : Type 0 where
   -- no call changes which lists are allowed
   pub same : Same old_allows new_allows

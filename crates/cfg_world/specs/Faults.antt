@@ -13,7 +13,7 @@ pub record Faults : Type 0 where
   pub commands : ℕ
   pub lookups : ℕ
 
--- a count that is full stands still
+-- the end of a count of 64 bits, at which it stands still
 abbrev pub full_count : ℕ
 full_count = 18446744073709551615
 

@@ -1,5 +1,6 @@
 -- Which answers fit which questions.
-use Rattle.std.specs.Prelude.{pos, ◌≤ℤ◌}
+use Rattle.std.specs.Prelude.{pos, ◌≤ℤ◌, List}
+use Rattle.std.specs.List.{AllByRecursion}
 use Rattle.cfg_types.specs.declared.request.Request.{Request}
 use Rattle.cfg_types.specs.declared.request.Request.TheVariants as request
 use Rattle.cfg_types.specs.declared.reply.Reply.{Reply}
@@ -35,3 +36,7 @@ Fits (question.Send request) (answer.Failed kind) = IsTransport kind
 -- a question with its answer
 abbrev pub Pair : Type 0
 Pair = Question × Answer
+
+-- every answer fits its question
+abbrev pub EachFits : List Pair → Type 0
+EachFits = AllByRecursion (λ e. Fits e.0 e.1)

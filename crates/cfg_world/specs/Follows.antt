@@ -5,7 +5,7 @@ use Rattle.cfg_world.specs.declared.asking.Stop.{Stop}
 use Rattle.cfg_world.specs.declared.asking.Stop.TheVariants.{OutOfMemory, Open}
 use Rattle.cfg_world.specs.declared.asking.Halt.{Halt}
 use Rattle.cfg_world.specs.declared.asking.Halt.TheVariants.{Stopped, Refused}
-use Rattle.cfg_world.specs.Fits.{Pair}
+use Rattle.cfg_world.specs.Fits.{Pair, EachFits}
 use Rattle.cfg_world.specs.Faults.{Counted}
 use Rattle.cfg_world.specs.Asked.{Same}
 use Rattle.cfg_world.specs.Inquiry.{Inquiry, Reads, AsksNext, Begun}
@@ -14,6 +14,7 @@ use Rattle.cfg_world.specs.Inquiry.{Inquiry, Reads, AsksNext, Begun}
 pub record Ends {A R : Type 0} (a : Ghosts A) (inquiry : Inquiry R) (old new : A) (out : R) : Type 0 where
   pub part : List Pair
   pub grows : a.journal new ≡ a.journal old ++ part
+  pub fits : EachFits part
   pub same : Same (a.allows old) (a.allows new)
   pub counted : Counted part (a.faults old) (a.faults new)
   pub stands : a.stands old (a.journal old) → a.stands new (a.journal new)
@@ -23,6 +24,7 @@ pub record Ends {A R : Type 0} (a : Ghosts A) (inquiry : Inquiry R) (old new : A
 pub record Waits {A R : Type 0} (a : Ghosts A) (inquiry : Inquiry R) (old new : A) : Type 0 where
   pub part : List Pair
   pub grows : a.journal new ≡ a.journal old ++ part
+  pub fits : EachFits part
   pub same : Same (a.allows old) (a.allows new)
   pub counted : Counted part (a.faults old) (a.faults new)
   pub stands : a.stands old (a.journal old) → a.stands new (a.journal new)
@@ -33,10 +35,12 @@ pub record Waits {A R : Type 0} (a : Ghosts A) (inquiry : Inquiry R) (old new : 
 pub record Breaks {A R : Type 0} (a : Ghosts A) (inquiry : Inquiry R) (old new : A) : Type 0 where
   pub part : List Pair
   pub grows : a.journal new ≡ a.journal old ++ part
+  pub fits : EachFits part
   pub same : Same (a.allows old) (a.allows new)
   pub counted : Counted part (a.faults old) (a.faults new)
   pub begun : Begun inquiry part
 
+-- how a call stops: at an open question, or out of memory
 abbrev pub Halts : {A R : Type 0} → Ghosts A → Inquiry R → A → A → Stop → Type 0
 Halts a inquiry old new Open = Waits a inquiry old new
 Halts a inquiry old new OutOfMemory = Breaks a inquiry old new

@@ -1,7 +1,7 @@
 -- What a stretch of a world's life adds to the journal, and what it keeps.
 use Rattle.std.specs.Prelude.{◌≡◌, List, ◌++◌}
 use Rattle.cfg_world.specs.declared.devices.Devices.{Ghosts}
-use Rattle.cfg_world.specs.Fits.{Pair}
+use Rattle.cfg_world.specs.Fits.{Pair, EachFits}
 use Rattle.cfg_world.specs.Faults.{Counted}
 use Rattle.cfg_world.specs.Asked.{Same}
 use Rattle.cfg_world.specs.Held.{Held}
@@ -9,16 +9,18 @@ use Rattle.cfg_world.specs.Held.{Held}
 -- The journal grew by exactly this part. Devices that stood for the journal go on standing for it.
 pub record Grows {D : Type 0} (d : Ghosts D) (part : List Pair) (old new : Held D) : Type 0 where
   pub journal : new.journal ≡ old.journal ++ part
+  pub fits : EachFits part
   pub same : Same (d.allows old.devices) (d.allows new.devices)
   pub counted : Counted part (d.faults old.devices) (d.faults new.devices)
   pub stands : d.stands old.devices old.journal → d.stands new.devices new.journal
 
--- The same of a stretch that ended for want of memory: the devices may have been asked once more.
+-- The same of a stretch that ended out of memory: the devices may have been asked once more.
 pub record Stays {D : Type 0} (d : Ghosts D) (part : List Pair) (old new : Held D) : Type 0 where
   pub journal : new.journal ≡ old.journal ++ part
+  pub fits : EachFits part
   pub same : Same (d.allows old.devices) (d.allows new.devices)
   pub counted : Counted part (d.faults old.devices) (d.faults new.devices)
 
--- a stretch that ended for want of memory, whatever it had entered
+-- a stretch that ended out of memory, whatever it had entered
 abbrev pub Stopped : {D : Type 0} → Ghosts D → Held D → Held D → Type 0
 Stopped d old new = (part : List Pair) × Stays d part old new

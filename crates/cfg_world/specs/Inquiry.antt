@@ -1,9 +1,9 @@
--- A tree of questions: what is asked, and what follows from each answer, up to an outcome.
 use Rattle.std.specs.Prelude.{◌≡◌, List, [], ◌∷◌, Result, Ok, Err}
 use Rattle.cfg_world.specs.declared.ask.Question.{Question}
 use Rattle.cfg_world.specs.declared.ask.Answer.{Answer}
 use Rattle.cfg_world.specs.Fits.{Pair}
 
+-- A tree of questions: done with an outcome, or a question and what follows each answer.
 pub data Inquiry (R : Type 0) : Type 0 where
   Done : (outcome : R) → Inquiry R
   Ask : (question : Question) → (next : Answer → Inquiry R) → Inquiry R
@@ -38,6 +38,7 @@ abbrev pub if_ok : {A B E : Type 0} → (A → Inquiry (Result B E)) → Result 
 if_ok f (Ok x) = f x
 if_ok f (Err e) = Done (Err e)
 
+-- one inquiry after another, which goes on after an Ok alone
 infixl 10 ◌>>=◌
 abbrev pub ◌>>=◌ : {A B E : Type 0} → Inquiry (Result A E) → (A → Inquiry (Result B E)) → Inquiry (Result B E)
 p >>= f = after p (if_ok f)

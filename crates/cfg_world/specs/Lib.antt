@@ -10,5 +10,6 @@ pub mod Leaves
 pub mod Script
 pub mod Agreeing
 pub mod Beginnings
+pub mod Ordered
 pub mod Memory
 pub mod Adapters

@@ -28,6 +28,7 @@ fails_next p = list_any (λ n. nat_eq n (next_call p)) p.failing
 abbrev pub source_left : MemorySource → List ℕ
 source_left s = drop s.at s.bytes.items
 
+-- how a source gives its bytes, and how often it was called
 abbrev pub source_pieces : MemorySource → Pieces
 source_pieces s = record { failing = s.failing.items; most = s.piece; calls = s.calls }
 
@@ -39,6 +40,7 @@ source_faults s = s.faults
 abbrev pub sink_written : MemorySink → List ℕ
 sink_written s = s.bytes.items
 
+-- how a sink takes bytes, and how often it was called
 abbrev pub sink_pieces : MemorySink → Pieces
 sink_pieces s = record { failing = s.failing.items; most = s.piece; calls = s.calls }
 

@@ -18,9 +18,11 @@ pub record Place : Type 0 where
   pub clock : ℕ
   pub assume_role : ℕ
 
+-- the start of each list
 abbrev pub start : Place
 start = record { clock = 0; assume_role = 0 }
 
+-- no device has failed
 abbrev pub no_faults : Faults
 no_faults = record { files = 0; transport = 0; commands = 0; lookups = 0 }
 
@@ -30,13 +32,17 @@ pub record Script : Type 0 where
   pub place : Place
   pub faults : Faults
 
--- one place further, up to the end
+-- one place further in a list, up to its end
 abbrev pub step : ℕ → ℕ → ℕ
 step at n = if nat_lt at n then at + 1 else at
 
+-- where a clock without readings stands
+abbrev pub epoch : Moment
+epoch = record { seconds = pos 0; nanos = 0 }
+
 -- the reading at a place, at the end the last one again, and without one the epoch
 abbrev pub reading_at : List Moment → ℕ → Moment
-reading_at clock at = unwrap_or (slice_get clock (if nat_lt at (length clock) then at else at - 1)) (record { seconds = pos 0; nanos = 0 })
+reading_at clock at = unwrap_or (slice_get clock (if nat_lt at (length clock) then at else at - 1)) epoch
 
 -- the answer of a transport
 abbrev pub sent : Result Reply FailKind → Answer
@@ -47,7 +53,7 @@ sent (Err kind) = answer.Failed kind
 abbrev pub sent_at : List (Result Reply FailKind) → ℕ → Answer
 sent_at replies at = sent (unwrap_or (slice_get replies at) (Err Dispatch))
 
--- the answer at a place
+-- the answer that the lists give to a question at a place
 abbrev pub answer_at : DeviceLists → Place → Question → Answer
 answer_at lists place question.Now = answer.Moment (reading_at lists.clock place.clock)
 answer_at lists place (question.Send (request.AssumeRole call)) = sent_at lists.assume_role place.assume_role
@@ -67,11 +73,11 @@ abbrev pub place_left : DeviceLists → Place → List Pair → Place
 place_left lists place [] = place
 place_left lists place (e ∷ entries) = place_left lists (place_after lists place e.0) entries
 
--- exactly the lists whose answers the script gives
+-- the lists of entries whose answers are exactly those that the script gives
 abbrev pub Allows : Script → List Pair → Type 0
 Allows s entries = Given s.lists start entries
 
--- those that also leave it at the place that was reached
+-- those of them that also leave it at the place that was reached
 abbrev pub Stands : Script → List Pair → Type 0
 Stands s entries = Given s.lists start entries × (place_left s.lists start entries ≡ s.place)
 

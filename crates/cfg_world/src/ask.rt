@@ -1,4 +1,4 @@
-// What devices are asked, and what they answer.
+//! What devices are asked, and what they answer.
 ghost use Rattle.std.specs.Prelude.{◌≡◌, IfOk};
 
 use cfg_types::{FailKind, Instant, OutOfMemory, Reply, Request, TryCopy};
@@ -23,7 +23,6 @@ pub enum Answer {
     Failed(FailKind),
 }
 
-// A call, and not the cases, where a caller lets a question go.
 impl Drop for Question {
     fn drop(self) {
         match self {

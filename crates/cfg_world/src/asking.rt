@@ -1,4 +1,4 @@
-// Where a body puts its questions.
+//! Where a body puts its questions, and why it may stop.
 ghost use Rattle.std.specs.Prelude.{◌≡◌, ◌≢◌, ◌++◌, ◌∷◌, [], List, Option, IfOk, OnErr, IfErr, Some, Err};
 ghost use Rattle.cfg_world.specs.declared.ask.Question.{Question as QuestionAsked};
 ghost use Rattle.cfg_world.specs.Fits.{Fits, Pair};
@@ -84,6 +84,9 @@ pub trait Asking {
         ensures counted { Counted (put_entry result) (faults self.old) (faults self.new) }
         ensures same { Same (allows self.old) (allows self.new) }
         ensures stands { result ≢ Err Stop.OutOfMemory → stands self.old (journal self.old) → stands self.new (journal self.new) };
+
+    /// What stands is allowed.
+    ghost stands_allowed: { (asking : Self) (entries : List Pair) → stands asking entries → allows asking entries };
 }
 
 /// A world answers every question, and so leaves none open.
@@ -99,6 +102,8 @@ impl<D: Devices> Asking for World<D> {
     ghost allows = { λ w. D.allows w.devices };
 
     ghost stands = { λ w. D.stands w.devices };
+
+    ghost stands_allowed = { λ w. D.stands_allowed w.devices };
 
     fn put(&mut self, question: Question) -> Result<Receipt, Stop>
         ensures asked { IfOk result (λ e. (e.0 ≡ question) × Fits e.0 e.1) }

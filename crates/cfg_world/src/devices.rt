@@ -1,4 +1,4 @@
-// The devices that a world asks.
+//! The clock and the transport that a world asks.
 ghost use Rattle.std.specs.Prelude.{List, Some};
 ghost use Rattle.cfg_world.specs.Fits.{Pair};
 ghost use Rattle.cfg_world.specs.Faults.{Faults};
@@ -34,4 +34,7 @@ pub trait Devices {
     /// The reply to a request. It fails with `Dispatch`, `Timeout` or `Broken` alone.
     fn send(&mut self, request: &Request) -> Result<Reply, Fault>
         ensures { Asked (faults self.old) (faults self.new) (allows self.old) (allows self.new) (stands self.old) (stands self.new) (Question.Send request.now) (answer_of Answer.Replied result) };
+
+    /// What stands is allowed.
+    ghost stands_allowed: { (devices : Self) (entries : List Pair) → stands devices entries → allows devices entries };
 }

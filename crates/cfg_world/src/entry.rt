@@ -1,5 +1,5 @@
-// A question with its answer.
-ghost use Rattle.std.specs.Prelude.{◌≡◌, IfOk};
+//! Questions with their answers: what a journal holds.
+ghost use Rattle.std.specs.Prelude.{◌≡◌};
 ghost use Rattle.cfg_world.specs.Fits.{Fits};
 
 use crate::ask::{Answer, Question};
@@ -23,7 +23,6 @@ impl Model for Entry {
     ghost invariant = { λ e. Fits e.question e.answer };
 }
 
-// A call, and not the cases of both enums, where a caller lets an entry go.
 impl Drop for Entry {
     fn drop(self) {
         let Entry {
@@ -92,11 +91,10 @@ impl Receipt {
     {
         &self.entry
     }
+}
 
-    /// The receipt once more.
-    pub fn copy(&self, alloc: Global) -> Result<Receipt, OutOfMemory>
-        ensures { IfOk result (λ r. r ≡ self.now) }
-    {
+impl TryCopy for Receipt {
+    fn copy(&self, alloc: Global) -> Result<Receipt, OutOfMemory> {
         let entry = self.entry.copy(alloc)?;
         Ok(Receipt { entry })
     }

@@ -5,7 +5,8 @@ ghost use Rattle.cfg_world.specs.Fits.{Pair};
 ghost use Rattle.cfg_world.specs.Inquiry.{Inquiry, Reads, Begun, after};
 ghost use Rattle.cfg_world.specs.Agreeing.{AnswerAlike};
 ghost use Rattle.cfg_world.specs.Beginnings.{IsPrefix, BegunInTurn};
-ghost use Rattle.cfg_world.specs.Script.{Place, Given};
+ghost use Rattle.cfg_world.specs.Script.{Place, Given, Script, Allows};
+ghost use Rattle.cfg_world.specs.Ordered.{InOrder};
 
 /// An inquiry has one journal: two journals that it reads, whose answers agree as far as both ask
 /// the same, are equal, and so are their outcomes.
@@ -43,4 +44,10 @@ pub fn a_beginning_is_a_prefix<R>()
 pub fn inquiries_begin_in_turn<A, B>()
     ensures { (first : Inquiry A) (second : A → Inquiry B) (journal : List Pair) →
         Begun (after first second) journal ↔ BegunInTurn first second journal }
+{}
+
+/// Scripted devices allow exactly the lists of entries in which the readings of the clock are their
+/// list and then its last one again, and the replies are their queue and then `Dispatch`.
+pub fn scripted_answers_come_in_order()
+    ensures { (script : Script) (entries : List Pair) → Allows script entries ↔ InOrder script.lists entries }
 {}

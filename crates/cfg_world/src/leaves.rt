@@ -1,4 +1,4 @@
-// One question at a time, and what its answer is read as.
+//! One question at a time, and what its answer is read as.
 ghost use Rattle.std.specs.Prelude.{◌≡◌};
 ghost use Rattle.cfg_world.specs.Follows.{Follows};
 ghost use Rattle.cfg_world.specs.Leaves.{clock, sending};

@@ -17,8 +17,8 @@ pub mod world;
 pub use ask::{Answer, Question};
 pub use asking::{Asking, Halt, Stop};
 pub use cfg_types::{
-    AssumeRole, CallSettings, FailKind, Refusal, RefusalKind, Reply, Request, StsCredentials,
-    StsReply, Tag, Timeouts,
+    AssumeRole, CallSettings, FailKind, OutOfMemory, Refusal, RefusalKind, Reply, Request,
+    StsCredentials, StsReply, Tag, Timeouts,
 };
 pub use devices::{Devices, Fault};
 pub use entry::{Entry, Receipt};

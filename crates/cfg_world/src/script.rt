@@ -1,4 +1,4 @@
-// Devices that answer from lists.
+//! Devices that answer from lists.
 ghost use Rattle.std.specs.Prelude.{◌≡◌, ◌+◌, ◌≤◌, length, min, IfOk, IfErr};
 ghost use Rattle.cfg_world.specs.Faults.{full_count};
 ghost use Rattle.cfg_world.specs.Script.{AllFit, no_faults, start, step, reading_at, sent_at, sent};
@@ -16,6 +16,20 @@ pub struct DeviceLists {
     pub clock: Seq<Instant>,
     /// Replies to `AssumeRole`. Where none is left, nothing is dispatched.
     pub assume_role: Seq<Result<Reply, FailKind>>,
+}
+
+impl DeviceLists {
+    ghost use Rattle.std.specs.Prelude.{[]};
+
+    /// Lists without items: the clock stands at the epoch, and nothing is dispatched.
+    pub fn empty(alloc: Global) -> DeviceLists
+        ensures { result ≡ record { clock = []; assume_role = [] } }
+    {
+        DeviceLists {
+            clock: Seq::of(Vec::new(alloc)),
+            assume_role: Seq::of(Vec::new(alloc)),
+        }
+    }
 }
 
 /// Devices that give the answers of their lists, in order. They allow exactly the lists of entries
@@ -71,6 +85,8 @@ impl Devices for ScriptDevices {
     ghost allows = { Allows };
 
     ghost stands = { Stands };
+
+    ghost stands_allowed = { λ s entries h. h.0 };
 
     fn now(&mut self) -> Instant
         ensures asked { Asked self.old.faults self.new.faults (Allows self.old) (Allows self.new) (Stands self.old) (Stands self.new) Question.Now (Some (Answer.Moment result)) }

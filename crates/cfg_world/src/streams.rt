@@ -1,4 +1,4 @@
-// Where bytes come from and go to.
+//! Where bytes come from and go to, in memory and by the standard library's readers and writers.
 ghost use Rattle.std.specs.Prelude.{◌≡◌, ℕ, ◌<◌, ◌≤◌, List, Option, length, IfOk, Err};
 ghost use Rattle.std.specs.Io.KnownBytes.{ReadConsumes, WriteAppends};
 ghost use Rattle.cfg_world.specs.Faults.{Rose};
@@ -42,11 +42,12 @@ pub trait Sink {
     /// How often it has failed. A count that is full stands still.
     ghost faults: { Self → ℕ };
 
-    /// Takes a front of the bytes, and says how many they are: at least one, where there is one.
-    /// After an error the bytes that were written are as before.
+    /// Takes a prefix of the bytes, and says how many they are: at least one. It is called with at
+    /// least one byte. After an error the bytes that were written are as before.
     fn write(&mut self, bytes: &[u8]) -> Result<usize, StreamFault>
+        requires { 0 < length bytes.now }
         ensures within { IfOk result (λ n. n ≤ length bytes.now) }
-        ensures some { IfOk result (λ n. 0 < length bytes.now → 0 < n) }
+        ensures some { IfOk result (λ n. 0 < n) }
         ensures bytes { WriteAppends (written self.old) (written self.new) result bytes.now }
         ensures counted { faults self.old ≤ faults self.new }
         ensures failed { result ≡ Err StreamFault.Failed → Rose (faults self.old) (faults self.new) };

@@ -1,4 +1,4 @@
-// Devices, with a journal of what they were asked.
+//! Devices, with a journal of what they were asked.
 ghost use Rattle.std.specs.Prelude.{◌≡◌, [], ◌∷◌, IfOk, OnErr};
 ghost use Rattle.cfg_world.specs.Fits.{Fits};
 ghost use Rattle.cfg_world.specs.Faults.{Rose, count_of};
@@ -87,7 +87,7 @@ impl<D: Devices> World<D> {
     }
 }
 
-// The answer to a question. Without one there is no memory.
+// The answer to a question. Without one, memory ran out.
 fn put<D: Devices>(devices: &mut D, question: &Question) -> Result<Answer, OutOfMemory>
     ensures { Asked (D.faults devices.old) (D.faults devices.new) (D.allows devices.old) (D.allows devices.new) (D.stands devices.old) (D.stands devices.new) question.now (given result) }
 {

@@ -1,4 +1,3 @@
-// The standard library's readers and writers as sources and sinks.
 ghost use Rattle.std.specs.Prelude.{◌≡◌, ◌+◌, ◌≤◌, ◌<◌, min, Ok, Err, IfOk, IfErr, length};
 ghost use Rattle.std.specs.Io.KnownBytes.{ReadConsumes, WriteAppends};
 ghost use Rattle.cfg_world.specs.Faults.{Rose, full_count};
@@ -7,6 +6,10 @@ use crate::streams::{Sink, Source, StreamFault};
 use std::io::{Read, Write};
 
 /// A reader as a source. Each error of the reader is a fault.
+///
+/// The clauses tell what an answer of `read` leaves of the bytes and of the count of faults. The
+/// standard library does not say when a reader fails, so no clause refuses a body that hides an
+/// error of the reader as the end of the input where the bytes are not known; a test does.
 #[derive(Drop)]
 pub struct ReaderSource<R: Read + Drop> {
     reader: R,
@@ -48,8 +51,11 @@ impl<R: Read + Drop> Source for ReaderSource<R> {
     }
 }
 
-/// A writer as a sink. Each error of the writer is a fault, and so is each write that takes nothing
-/// of something. Of nothing, the writer is not asked to take any.
+/// A writer as a sink. Each error of the writer is a fault, and so is each write that takes nothing.
+///
+/// The clauses tell what an answer of `write` adds to the bytes and to the count of faults. The
+/// standard library does not say when a writer fails, so no clause refuses a body that asks once
+/// more after an error of the writer; a test does.
 #[derive(Drop)]
 pub struct WriterSink<W: Write + Drop> {
     writer: W,
@@ -76,19 +82,16 @@ impl<W: Write + Drop> Sink for WriterSink<W> {
     ghost faults = { writer_faults };
 
     fn write(&mut self, bytes: &[u8]) -> Result<usize, StreamFault>
+        requires { 0 < length bytes.now }
         ensures within { IfOk result (λ n. n ≤ length bytes.now) }
-        ensures some { IfOk result (λ n. 0 < length bytes.now → 0 < n) }
+        ensures some { IfOk result (λ n. 0 < n) }
         ensures bytes { WriteAppends (W.contents (writer_of self.old)) (W.contents (writer_of self.new)) result bytes.now }
         ensures counted { writer_faults self.old ≤ writer_faults self.new }
         ensures failed { result ≡ Err StreamFault.Failed → Rose (writer_faults self.old) (writer_faults self.new) }
         ensures quiet { IfOk result (λ n. writer_faults self.new ≡ writer_faults self.old) }
         ensures once { IfErr result (λ e. writer_faults self.new ≡ min (writer_faults self.old + 1) full_count) }
         ensures memory { IfErr result (λ e. e ≡ StreamFault.Failed) }
-        ensures empty { length bytes.now ≡ 0 → result ≡ Ok 0 }
     {
-        if bytes.is_empty() {
-            return Ok(0);
-        }
         match self.writer.write(bytes) {
             Ok(n) if n > 0 => Ok(n),
             Ok(_) => Err(count(&mut self.faults)),

@@ -1,4 +1,3 @@
-// Sources and sinks in memory, of which some calls fail.
 ghost use Rattle.std.specs.Prelude.{◌≡◌, ◌↔◌, ◌≤◌, ◌<◌, ◌+◌, min, [], Some, Err, IfOk, IfErr, IsTrue, length, drop, vec_len};
 ghost use Rattle.std.specs.Io.KnownBytes.{ReadConsumes, WriteAppends};
 ghost use Rattle.cfg_world.specs.Faults.{Rose, full_count};
@@ -122,8 +121,9 @@ impl Sink for MemorySink {
     ghost faults = { sink_faults };
 
     fn write(&mut self, bytes: &[u8]) -> Result<usize, StreamFault>
+        requires { 0 < length bytes.now }
         ensures within { IfOk result (λ n. n ≤ length bytes.now) }
-        ensures some { IfOk result (λ n. 0 < length bytes.now → 0 < n) }
+        ensures some { IfOk result (λ n. 0 < n) }
         ensures bytes { WriteAppends (Some (sink_written self.old)) (Some (sink_written self.new)) result bytes.now }
         ensures counted { sink_faults self.old ≤ sink_faults self.new }
         ensures failed { result ≡ Err StreamFault.Failed → Rose (sink_faults self.old) (sink_faults self.new) }

@@ -16,7 +16,7 @@ returns-in-Ok-clause-provides g c = λ no_want.
     let cause = subst (λ conf. HasCause conf e.part out) c.self.view_is (has_cause c.self.inside.config [] e.part out no_want parts) in
     record {
       part = e.part;
-      grows = record { journal = e.grows; same = e.same; counted = e.counted; stands = e.stands };
+      grows = record { journal = e.grows; fits = e.fits; same = e.same; counted = e.counted; stands = e.stands };
       resolves = subst (λ conf. Resolves conf [] e.part out) c.self.view_is parts;
       cause = cause;
       valid = valid_loaded _ e.part out cause;
@@ -27,6 +27,6 @@ returns-in-Ok-clause-stays g c = λ no_memory.
     let e = c.in-Ok.ensures in
     record {
       part = e.part;
-      stays = record { journal = e.grows; same = e.same; counted = e.counted };
+      stays = record { journal = e.grows; fits = e.fits; same = e.same; counted = e.counted };
       begun = subst (λ conf. Begun (chain conf default_members []) e.part) c.self.view_is (read_is_begun (chain c.self.inside.config default_members []) e.part c.in-Ok.outcome e.reads);
     }
