@@ -3,7 +3,7 @@ use Rattle.std.proofs.Common.{◌≡◌, ℕ, zero, suc, inl, inr, List, [], ◌
 use Rattle.std.specs.Prelude.{◌==◌, ◌&&◌}
 use Rattle.std.proofs.lemmas.Bool.{eqb-true, and_parts, ne_eqb}
 use Rattle.cfg_json.specs.Characters.{backslash, lower_u, is_plain, short_escape, code_unit, is_high, is_low, pair_char}
-use Rattle.cfg_json.specs.Gives.{◌>>=◌}
+use Rattle.cfg_json.specs.Reads.{◌>>=◌}
 use Rattle.cfg_json.specs.Strings.{IsContent}
 use Rattle.cfg_json.specs.Reading.{hex_at, low_at, unit_at, escape_at, piece_at, content_of}
 use Rattle.cfg_json.proofs.Options.{given, nothing, none_is, given_is, bind_some, chosen, tested}

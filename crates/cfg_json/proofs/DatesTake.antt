@@ -10,14 +10,14 @@ use borrow.Author.Tests.{ltb-true, leb-true}
 use Rattle.cfg_types.specs.Moment.{Moment}
 use Rattle.cfg_types.specs.Text.{characters}
 use Rattle.cfg_types.proofs.TextLemmas.{characters-chars, characters-encodes, encodes-chars}
-use Rattle.cfg_json.specs.Gives.{◌>>=◌}
+use Rattle.cfg_json.specs.Reads.{◌>>=◌}
 use Rattle.cfg_json.specs.Numbers.{AllDigits}
 use Rattle.cfg_json.specs.Reading.{mark_at}
 use Rattle.cfg_json.specs.declared.dates.local.LocalTime.{LocalTime}
 use Rattle.cfg_json.specs.Dates.{two, four, IsCommonDate, Exists, spelled, seconds_of, fraction_value, first_weight, IsSecondFraction, IsZulu, IsNumericOffset, IsTimeText}
 use Rattle.cfg_json.specs.ReadingDates.{digit, two_at, four_at, next_at, either_at, ReadThree, three_read, day_at, clock_at, local_at, ReadNumber, by_digit, add_front, nanos_from, nanos_at, second_fraction_at, is_civil, is_clock, if_last, offset_at, zone_of, moment_at}
 use Rattle.cfg_json.proofs.Options.{given, nothing, none_is, given_is, bind_some, chosen, tested}
-use Rattle.cfg_json.proofs.BlankLaws.{mark_takes}
+use Rattle.cfg_json.proofs.WhiteSpaceLaws.{mark_takes}
 use Rattle.cfg_json.proofs.NumberLaws.{cons_ascii, nil_ascii, some_ascii}
 use Rattle.cfg_json.proofs.DatesAgain.{Lasts, Zones, moment_again}
 

@@ -7,16 +7,16 @@ use Rattle.std.specs.List.{starts_with}
 use Rattle.std.proofs.lemmas.Bool.{eqb-true, ne_eqb, or_from, both_ways}
 use Rattle.std.proofs.lemmas.Bool.Decides.{Decides-eqb}
 use Rattle.std.proofs.lemmas.Slice.Eq.{starts_is}
-use Rattle.cfg_json.specs.Blanks.{is_blank, AreBlanks}
+use Rattle.cfg_json.specs.WhiteSpace.{is_json_white_space, IsWhiteSpace}
 use Rattle.cfg_json.specs.Characters.{quote}
-use Rattle.cfg_json.specs.Gives.{◌>>=◌}
+use Rattle.cfg_json.specs.Reads.{◌>>=◌}
 use Rattle.cfg_json.specs.Numbers.{IsWhole, IsMinus, IsNumber}
 use Rattle.cfg_json.specs.Strings.{IsString}
 use Rattle.cfg_json.specs.Values.{colon, IsWord, IsKey, IsValue}
-use Rattle.cfg_json.specs.Reading.{after_blanks, mark_at, number_at, after_front, word_at, string_at}
+use Rattle.cfg_json.specs.Reading.{after_white_space, mark_at, number_at, after_front, word_at, string_at}
 use Rattle.cfg_json.specs.ReadingValues.{Read, scalar_at, leaf_at, key_at}
 use Rattle.cfg_json.proofs.Options.{given, none_is, given_is, bind_some, chosen, tested, either}
-use Rattle.cfg_json.proofs.BlankLaws.{NoBlank, blanks_again, blanks_take, mark_again, mark_takes}
+use Rattle.cfg_json.proofs.WhiteSpaceLaws.{NoWhiteSpace, white_space_again, white_space_takes, mark_again, mark_takes}
 use Rattle.cfg_json.proofs.NumberLaws.{EndsNumber, digit_is_no, number_again, number_takes}
 use Rattle.cfg_json.proofs.StringLaws.{string_again, string_takes}
 
@@ -70,7 +70,7 @@ pub record Head (t : List ℕ) : Type 0 where
   pub first : ℕ
   pub others : List ℕ
   pub is : t ≡ first ∷ others
-  pub blank : is_blank first ≡ false
+  pub not_white_space : is_json_white_space first ≡ false
   pub bracket : (first == 93) ≡ false
   pub brace : (first == 125) ≡ false
 
@@ -104,35 +104,35 @@ not_number_flip x c a b h = elim h [
 pub number_no_word : (x : ℕ) (t : List ℕ) → (x ≡ 45) ⊎ (is_ascii_digit x ≡ true) → word_at (x ∷ t) ≡ None
 number_no_word x t h = no_word x t (not_number_flip x 116 refl refl h) (not_number_flip x 102 refl refl h) (not_number_flip x 110 refl refl h)
 
-number_no_blank : (x : ℕ) → (x ≡ 45) ⊎ (is_ascii_digit x ≡ true) → is_blank x ≡ false
-number_no_blank x h =
+number_no_white_space : (x : ℕ) → (x ≡ 45) ⊎ (is_ascii_digit x ≡ true) → is_json_white_space x ≡ false
+number_no_white_space x h =
     or_from _ _ (or_from _ _ (or_from _ _ (not_number x 32 refl refl h) (not_number x 9 refl refl h)) (not_number x 10 refl refl h)) (not_number x 13 refl refl h)
 
 pub number_head_is : (n : List ℕ) → IsNumber n → Head n
 number_head_is n h =
     let k = number_head n h in
-    record { first = k.first; others = k.others; is = k.is; blank = number_no_blank k.first k.digit; bracket = not_number k.first 93 refl refl k.digit; brace = not_number k.first 125 refl refl k.digit }
+    record { first = k.first; others = k.others; is = k.is; not_white_space = number_no_white_space k.first k.digit; bracket = not_number k.first 93 refl refl k.digit; brace = not_number k.first 125 refl refl k.digit }
 
 pub word_head_is : (w : List ℕ) → IsWord w → Head w
 word_head_is w h = elim h [
-  | inl a ↦ record { first = 116; others = codes "rue"; is = a; blank = refl; bracket = refl; brace = refl }
+  | inl a ↦ record { first = 116; others = codes "rue"; is = a; not_white_space = refl; bracket = refl; brace = refl }
   | inr b ↦ (elim b [
-    | inl a ↦ record { first = 102; others = codes "alse"; is = a; blank = refl; bracket = refl; brace = refl }
-    | inr a ↦ record { first = 110; others = codes "ull"; is = a; blank = refl; bracket = refl; brace = refl }
+    | inl a ↦ record { first = 102; others = codes "alse"; is = a; not_white_space = refl; bracket = refl; brace = refl }
+    | inr a ↦ record { first = 110; others = codes "ull"; is = a; not_white_space = refl; bracket = refl; brace = refl }
   ])
 ]
 
 pub value_head : (d : ℕ) (t : List ℕ) (b : Bool) → IsValue d t b → Head t
-value_head _ _ _ (IsValue.string d t s h) = record { first = quote; others = _; is = h.is; blank = refl; bracket = refl; brace = refl }
+value_head _ _ _ (IsValue.string d t s h) = record { first = quote; others = _; is = h.is; not_white_space = refl; bracket = refl; brace = refl }
 value_head _ _ _ (IsValue.number d t h) = number_head_is t h
 value_head _ _ _ (IsValue.word d t h) = word_head_is t h
-value_head _ _ _ (IsValue.no_items d w h) = record { first = 91; others = _; is = refl; blank = refl; bracket = refl; brace = refl }
-value_head _ _ _ (IsValue.items d t b h) = record { first = 91; others = t; is = refl; blank = refl; bracket = refl; brace = refl }
-value_head _ _ _ (IsValue.no_members d w h) = record { first = 123; others = _; is = refl; blank = refl; bracket = refl; brace = refl }
-value_head _ _ _ (IsValue.members d t b h) = record { first = 123; others = t; is = refl; blank = refl; bracket = refl; brace = refl }
+value_head _ _ _ (IsValue.no_items d w h) = record { first = 91; others = _; is = refl; not_white_space = refl; bracket = refl; brace = refl }
+value_head _ _ _ (IsValue.items d t b h) = record { first = 91; others = t; is = refl; not_white_space = refl; bracket = refl; brace = refl }
+value_head _ _ _ (IsValue.no_members d w h) = record { first = 123; others = _; is = refl; not_white_space = refl; bracket = refl; brace = refl }
+value_head _ _ _ (IsValue.members d t b h) = record { first = 123; others = t; is = refl; not_white_space = refl; bracket = refl; brace = refl }
 
-pub head_blank : (t rest : List ℕ) → Head t → NoBlank (t ++ rest)
-head_blank t rest h = subst NoBlank (sym (ap (λ (y : List ℕ). y ++ rest) h.is)) h.blank
+pub head_no_white_space : (t rest : List ℕ) → Head t → NoWhiteSpace (t ++ rest)
+head_no_white_space t rest h = subst NoWhiteSpace (sym (ap (λ (y : List ℕ). y ++ rest) h.is)) h.not_white_space
 
 -- ---- keys
 
@@ -147,18 +147,18 @@ ReadKey = List ℕ × List ℕ
 abbrev a_key : List ℕ → List ℕ → Option ReadKey
 a_key name value = Some (name, value)
 
-colon_again : (name after rest : List ℕ) → AreBlanks after → (mark_at colon (after_blanks (after ++ colon ∷ rest)) >>= a_key name) ≡ a_key name rest
+colon_again : (name after rest : List ℕ) → IsWhiteSpace after → (mark_at colon (after_white_space (after ++ colon ∷ rest)) >>= a_key name) ≡ a_key name rest
 colon_again name after rest h =
-    ap (λ (y : List ℕ). mark_at colon y >>= a_key name) (blanks_again after (colon ∷ rest) h refl) ∙ ap (λ (o : Option (List ℕ)). o >>= a_key name) (mark_again colon rest refl)
+    ap (λ (y : List ℕ). mark_at colon y >>= a_key name) (white_space_again after (colon ∷ rest) h refl) ∙ ap (λ (o : Option (List ℕ)). o >>= a_key name) (mark_again colon rest refl)
 
 pub key_again : (k name rest : List ℕ) → IsKey k name → key_at (k ++ rest) ≡ Some (name, rest)
 unfolding key_at
 key_again k name rest h =
     let f = string_again h.string name h.is_string (h.after ++ colon ∷ rest) in
     let is : k ++ rest ≡ h.before ++ (quote ∷ f.inside) = ap (λ (y : List ℕ). y ++ rest) h.is ∙ key_parts h.before h.string h.after rest ∙ ap (λ (y : List ℕ). h.before ++ y) f.is in
-    let opens : mark_at quote (after_blanks (k ++ rest)) ≡ Some f.inside = ap (λ (y : List ℕ). mark_at quote (after_blanks y)) is ∙ ap (mark_at quote) (blanks_again h.before (quote ∷ f.inside) h.blanks_before refl) ∙ mark_again quote f.inside refl in
+    let opens : mark_at quote (after_white_space (k ++ rest)) ≡ Some f.inside = ap (λ (y : List ℕ). mark_at quote (after_white_space y)) is ∙ ap (mark_at quote) (white_space_again h.before (quote ∷ f.inside) h.white_space_before refl) ∙ mark_again quote f.inside refl in
     let reads = f.reads in
-    rw opens (rw reads (colon_again name h.after rest h.blanks_after))
+    rw opens (rw reads (colon_again name h.after rest h.white_space_after))
 
 -- a key at the front
 pub record KeyTaken (t name rest : List ℕ) : Type 0 where
@@ -166,27 +166,27 @@ pub record KeyTaken (t name rest : List ℕ) : Type 0 where
   pub is : t ≡ key ++ rest
   pub is_key : IsKey key name
 
-key_from : (t inside name behind value : List ℕ) → after_blanks t ≡ quote ∷ inside → string_at inside ≡ given (name, behind) → after_blanks behind ≡ colon ∷ value → KeyTaken t name value
+key_from : (t inside name behind value : List ℕ) → after_white_space t ≡ quote ∷ inside → string_at inside ≡ given (name, behind) → after_white_space behind ≡ colon ∷ value → KeyTaken t name value
 key_from t inside name behind value opens reads ends =
-    let b = blanks_take t in
+    let b = white_space_takes t in
     let s = string_takes inside name behind reads in
-    let a = blanks_take behind in
-    let behind_is : behind ≡ a.blanks ++ colon ∷ value = a.is ∙ ap (λ (y : List ℕ). a.blanks ++ y) ends in
+    let a = white_space_takes behind in
+    let behind_is : behind ≡ a.white_space ++ colon ∷ value = a.is ∙ ap (λ (y : List ℕ). a.white_space ++ y) ends in
     record {
-      key = b.blanks ++ (s.string ++ (a.blanks ++ colon ∷ []));
-      is = b.is ∙ ap (λ (y : List ℕ). b.blanks ++ y) (opens ∙ s.is ∙ ap (λ (y : List ℕ). s.string ++ y) behind_is) ∙ sym (key_parts b.blanks s.string a.blanks value);
-      is_key = record { before = b.blanks; string = s.string; after = a.blanks; is = refl; blanks_before = b.are; is_string = s.is_string; blanks_after = a.are };
+      key = b.white_space ++ (s.string ++ (a.white_space ++ colon ∷ []));
+      is = b.is ∙ ap (λ (y : List ℕ). b.white_space ++ y) (opens ∙ s.is ∙ ap (λ (y : List ℕ). s.string ++ y) behind_is) ∙ sym (key_parts b.white_space s.string a.white_space value);
+      is_key = record { before = b.white_space; string = s.string; after = a.white_space; is = refl; white_space_before = b.are; is_string = s.is_string; white_space_after = a.are };
     }
 
 pub key_takes : (t : List ℕ) (r : ReadKey) → key_at t ≡ given r → KeyTaken t r.0 r.1
 unfolding key_at
 key_takes t r e =
-    let o = bind_some (mark_at quote (after_blanks t)) (λ r. string_at r >>= λ k. mark_at colon (after_blanks k.1) >>= λ v. Some (k.0, v)) r e in
-    let s = bind_some (string_at o.0) (λ k. mark_at colon (after_blanks k.1) >>= λ v. Some (k.0, v)) r o.2 in
-    let c = bind_some (mark_at colon (after_blanks s.0.1)) (λ v. Some (s.0.0, v)) r s.2 in
+    let o = bind_some (mark_at quote (after_white_space t)) (λ r. string_at r >>= λ k. mark_at colon (after_white_space k.1) >>= λ v. Some (k.0, v)) r e in
+    let s = bind_some (string_at o.0) (λ k. mark_at colon (after_white_space k.1) >>= λ v. Some (k.0, v)) r o.2 in
+    let c = bind_some (mark_at colon (after_white_space s.0.1)) (λ v. Some (s.0.0, v)) r s.2 in
     let made : ReadKey = (s.0.0, c.0) in
     subst (λ (q : ReadKey). KeyTaken t q.0 q.1) (given_is made r c.2)
-    (key_from t o.0 s.0.0 s.0.1 c.0 (mark_takes quote (after_blanks t) o.0 o.1) s.1 (mark_takes colon (after_blanks s.0.1) c.0 c.1))
+    (key_from t o.0 s.0.0 s.0.1 c.0 (mark_takes quote (after_white_space t) o.0 o.1) s.1 (mark_takes colon (after_white_space s.0.1) c.0 c.1))
 
 -- ---- values that do not nest
 

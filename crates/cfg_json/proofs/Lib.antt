@@ -4,7 +4,7 @@ pub mod ListSteps
 pub mod Utf8
 pub mod PlainText
 pub mod Options
-pub mod BlankLaws
+pub mod WhiteSpaceLaws
 pub mod NumberLaws
 pub mod ContentLaws
 pub mod StringLaws
@@ -13,6 +13,7 @@ pub mod ValuesAgain
 pub mod ValuesTake
 pub mod ObjectsAgain
 pub mod ObjectsTake
+pub mod InnerObjects
 pub mod AnswerLaws
 pub mod AnswerSteps
 pub mod DateSteps

@@ -1,12 +1,16 @@
 -- The loops over the items of a list and over the members of an object.
-use Rattle.std.proofs.Common.{◌≡◌, ℕ, suc, ◌+◌, ◌-◌, ◌<◌, ◌≤◌, List, [], ◌∷◌, ◌++◌, Bool, true, false, Option, Some, None, refl, sym, ap, ◌∙◌, append_assoc, arith}
+use Rattle.std.proofs.Common.{◌≡◌, ◌⊎◌, inl, inr, ℕ, suc, ◌+◌, ◌-◌, ◌<◌, ◌≤◌, List, [], ◌∷◌, ◌++◌, Bool, true, false, Option, Some, None, refl, sym, ap, ◌∙◌, append_assoc, arith}
 use Rattle.std.specs.Prelude.{◌||◌}
 use Rattle.cfg_types.specs.declared.document.JsonError.{JsonError}
 use Rattle.cfg_types.specs.declared.document.JsonError.TheVariants as json
-use Rattle.cfg_json.specs.Gives.{◌>>=◌, Fails}
+use Rattle.cfg_json.specs.Reads.{◌>>=◌}
 use Rattle.cfg_json.specs.ReadingValues.{Read, or_front, go_on, turn_at, items_at}
 use Rattle.cfg_json.specs.ReadingObjects.{ReadMembers, members_front, go_on_members, member_turn_at, members_at}
 use Rattle.cfg_json.specs.declared.member.Member.{Member}
+
+-- nothing was read, or memory ran out
+abbrev Fails : {Y : Type 0} → JsonError → Option Y → Type 0
+Fails e read = (e ≡ json.OutOfMemory) ⊎ ((e ≡ json.Syntax) × (read ≡ None))
 
 or_twice : (a b : Bool) (r : Option Read) → or_front a (or_front b r) ≡ or_front (a || b) r
 or_twice true b (Some q) = refl
@@ -26,10 +30,10 @@ no_turn k value n i rest has total lt h so_far =
 
 pub items_fail : (k : Bool) (value : List ℕ → Option Read) (n i : ℕ) (rest : List ℕ) (has : Bool) (total : Option Read) (e : JsonError) → i < n → Fails e (turn_at k value rest)
     → or_front has (items_at k value (n - i) rest) ≡ total → Fails e total
-items_fail k value n i rest has total json.NotObject lt h so_far = h
-items_fail k value n i rest has total json.Syntax lt h so_far = no_turn k value n i rest has total lt h so_far
-items_fail k value n i rest has total json.More lt h so_far = h
-items_fail k value n i rest has total json.OutOfMemory lt h so_far = tt
+items_fail k value n i rest has total e lt h so_far = elim h [
+  | inl m ↦ inl m
+  | inr p ↦ inr (p.0, no_turn k value n i rest has total lt p.1 so_far)
+]
 
 pub items_end : (k : Bool) (value : List ℕ → Option Read) (n i : ℕ) (rest next : List ℕ) (has b e : Bool) (total : Option Read) → i < n → turn_at k value rest ≡ Some (b, e, next) → e ≡ true
     → or_front has (items_at k value (n - i) rest) ≡ total → total ≡ Some (has || b, next)
@@ -70,10 +74,10 @@ no_member total n i rest front all lt h so_far =
 
 pub members_fail : (total n i : ℕ) (rest : List ℕ) (front : List Member) (all : Option ReadMembers) (e : JsonError) → i < n → Fails e (member_turn_at total rest)
     → members_front front (members_at total (n - i) rest) ≡ all → Fails e all
-members_fail total n i rest front all json.NotObject lt h so_far = h
-members_fail total n i rest front all json.Syntax lt h so_far = no_member total n i rest front all lt h so_far
-members_fail total n i rest front all json.More lt h so_far = h
-members_fail total n i rest front all json.OutOfMemory lt h so_far = tt
+members_fail total n i rest front all e lt h so_far = elim h [
+  | inl m ↦ inl m
+  | inr p ↦ inr (p.0, no_member total n i rest front all lt p.1 so_far)
+]
 
 pub members_end : (total n i : ℕ) (rest next : List ℕ) (front : List Member) (m : Member) (e : Bool) (all : Option ReadMembers) → i < n → member_turn_at total rest ≡ Some (m, e, next) → e ≡ true
     → members_front front (members_at total (n - i) rest) ≡ all → all ≡ Some (front ++ m ∷ [], next)

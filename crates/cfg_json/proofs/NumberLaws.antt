@@ -6,7 +6,7 @@ use Rattle.std.specs.Str.{IsAscii}
 use Rattle.std.proofs.lemmas.Bool.{eqb-true, eqb-false, ne_eqb, eq-eqb, or_from, or_left, or_right, or_cases, both_ways, leb-true, and_parts}
 use Rattle.std.proofs.lemmas.Str.{IsAscii-append}
 use Rattle.cfg_json.specs.Numbers.{AllDigits, AreDigits, IsWhole, IsFraction, IsSigned, IsExponent, IsMinus, IsNumber}
-use Rattle.cfg_json.specs.Gives.{◌>>=◌}
+use Rattle.cfg_json.specs.Reads.{◌>>=◌}
 use Rattle.cfg_json.specs.Reading.{after_digits, digits_at, after_minus, after_sign, whole_at, fraction_at, exponent_at, number_at}
 use Rattle.cfg_json.proofs.Options.{given, nothing, none_is, given_is, bind_some, chosen}
 

@@ -6,22 +6,22 @@ use Rattle.std.proofs.lemmas.Str.{IsUtf8-from_ascii, chars-IsAscii}
 use Rattle.std.proofs.lemmas.List.{take_at}
 use Rattle.cfg_types.specs.Text.{characters}
 use Rattle.cfg_types.proofs.TextLemmas.{characters-chars}
-use Rattle.cfg_json.specs.Blanks.{AreBlanks}
+use Rattle.cfg_json.specs.WhiteSpace.{IsWhiteSpace}
 use Rattle.cfg_json.specs.Characters.{quote}
 use Rattle.cfg_json.specs.Numbers.{IsNumber}
 use Rattle.cfg_json.specs.Values.{comma, IsWord}
 use Rattle.cfg_json.specs.Objects.{inner_depth, IsMemberValue, IsMember, AreMembers, IsObject, HasObject}
-use Rattle.cfg_json.specs.Reading.{after_blanks, word_at, string_at, utf8_of}
+use Rattle.cfg_json.specs.Reading.{after_white_space, word_at, string_at, utf8_of}
 use Rattle.cfg_json.specs.ReadingValues.{key_at, value_at}
 use Rattle.cfg_json.specs.ReadingObjects.{ReadValue, text_from, number_value_at, text_value_at, nested_value_at, word_value_at, member_value_at, member_at, member_turn_at, ReadMembers, members_at, object_at, opened, object_answer}
 use Rattle.cfg_json.specs.declared.member.Member.{Member}
 use Rattle.cfg_json.specs.declared.member.MemberValue.{MemberValue}
 use Rattle.cfg_json.specs.declared.member.MemberValue.TheVariants as value
-use Rattle.cfg_json.proofs.BlankLaws.{blanks_again}
+use Rattle.cfg_json.proofs.WhiteSpaceLaws.{white_space_again}
 use Rattle.cfg_json.proofs.NumberLaws.{EndsNumber, number_again, number_ascii}
 use Rattle.cfg_json.proofs.StringLaws.{string_again}
-use Rattle.cfg_json.proofs.LeafLaws.{Head, number_head, number_head_is, number_no_word, not_number, word_head_is, head_blank, word_again, key_again}
-use Rattle.cfg_json.proofs.ValuesAgain.{Closes, close_ends, comma_ends, blanks_end, Starts, starts_then, key_starts, starts_at, starts_behind, split, value_again}
+use Rattle.cfg_json.proofs.LeafLaws.{Head, number_head, number_head_is, number_no_word, not_number, word_head_is, head_no_white_space, word_again, key_again}
+use Rattle.cfg_json.proofs.ValuesAgain.{Closes, close_ends, comma_ends, white_space_end, Starts, starts_then, key_starts, starts_at, starts_behind, split, value_again}
 use Rattle.cfg_json.proofs.Utf8.{utf8_of-valid}
 
 -- ---- values of members
@@ -100,10 +100,10 @@ member_value_again _ _ _ (IsMemberValue.array at t b h) total rest is ends = arr
 member_value_again _ _ _ (IsMemberValue.word at t h) total rest is ends = word_value total t rest h
 
 member_value_head : (at : ℕ) (v : List ℕ) (m : MemberValue) → IsMemberValue at v m → Head v
-member_value_head _ _ _ (IsMemberValue.text at t s h) = record { first = quote; others = _; is = h.is; blank = refl; bracket = refl; brace = refl }
+member_value_head _ _ _ (IsMemberValue.text at t s h) = record { first = quote; others = _; is = h.is; not_white_space = refl; bracket = refl; brace = refl }
 member_value_head _ _ _ (IsMemberValue.number at t h) = number_head_is t h
-member_value_head _ _ _ (IsMemberValue.object at t h) = record { first = 123; others = t; is = refl; blank = refl; bracket = refl; brace = refl }
-member_value_head _ _ _ (IsMemberValue.array at t b h) = record { first = 91; others = t; is = refl; blank = refl; bracket = refl; brace = refl }
+member_value_head _ _ _ (IsMemberValue.object at t h) = record { first = 123; others = t; is = refl; not_white_space = refl; bracket = refl; brace = refl }
+member_value_head _ _ _ (IsMemberValue.array at t b h) = record { first = 91; others = t; is = refl; not_white_space = refl; bracket = refl; brace = refl }
 member_value_head _ _ _ (IsMemberValue.word at t h) = word_head_is t h
 
 -- ---- members
@@ -115,7 +115,7 @@ member_parts key before v after rest =
 four_lengths : (a b c d : List ℕ) → length (a ++ (b ++ (c ++ d))) ≡ length a + length b + length (c ++ d)
 four_lengths a b c d = omega (arith, length-append a (b ++ (c ++ d)), length-append b (c ++ d))
 
-member_read : (total : ℕ) (t name behind value_text left rest : List ℕ) (m : MemberValue) → key_at t ≡ Some (name, behind) → after_blanks behind ≡ value_text → member_value_at total value_text ≡ Some (m, left) → after_blanks left ≡ rest
+member_read : (total : ℕ) (t name behind value_text left rest : List ℕ) (m : MemberValue) → key_at t ≡ Some (name, behind) → after_white_space behind ≡ value_text → member_value_at total value_text ≡ Some (m, left) → after_white_space left ≡ rest
     → member_at total t ≡ Some (record { key = name; value = m }, rest)
 unfolding member_at
 member_read total t name behind value_text left rest m k b v a = rw (k, b, v) (ap (λ (y : List ℕ). Some (record { key = name; value = m }, y)) a)
@@ -127,9 +127,9 @@ member_again at t m h total x rest c is =
     let place : total ≡ at + length h.key + length h.before + length (h.value ++ (h.after ++ x ∷ rest)) = omega (arith, is, ap length cut, four_lengths h.key h.before h.value (h.after ++ x ∷ rest)) in
     member_read total (t ++ x ∷ rest) m.key behind (h.value ++ (h.after ++ x ∷ rest)) (h.after ++ x ∷ rest) (x ∷ rest) m.value
     (ap key_at cut ∙ key_again h.key m.key behind h.is_key)
-    (blanks_again h.before _ h.blanks_before (head_blank h.value _ (member_value_head _ h.value m.value h.is_value)))
-    (member_value_again _ h.value m.value h.is_value total (h.after ++ x ∷ rest) place (blanks_end h.after x rest h.blanks_after c))
-    (blanks_again h.after (x ∷ rest) h.blanks_after c.blank)
+    (white_space_again h.before _ h.white_space_before (head_no_white_space h.value _ (member_value_head _ h.value m.value h.is_value)))
+    (member_value_again _ h.value m.value h.is_value total (h.after ++ x ∷ rest) place (white_space_end h.after x rest h.white_space_after c))
+    (white_space_again h.after (x ∷ rest) h.white_space_after c.not_white_space)
 
 member_starts : (at : ℕ) (t : List ℕ) (m : Member) → IsMember at t m → Starts true t
 member_starts at t m h = starts_at true (h.key ++ (h.before ++ (h.value ++ h.after))) t h.is (key_starts h.key m.key (h.before ++ (h.value ++ h.after)) h.is_key)
@@ -176,14 +176,14 @@ pub record ObjectFront (total : ℕ) (t : List ℕ) (ms : List Member) (rest : L
   pub is : t ++ rest ≡ 123 ∷ inside
   pub reads : object_at total inside ≡ Some (ms, rest)
 
-empty_reads : (total : ℕ) (w rest : List ℕ) → AreBlanks w → object_at total (w ++ 125 ∷ rest) ≡ Some ([], rest)
+empty_reads : (total : ℕ) (w rest : List ℕ) → IsWhiteSpace w → object_at total (w ++ 125 ∷ rest) ≡ Some ([], rest)
 unfolding object_at
-empty_reads total w rest h = let e : after_blanks (w ++ 125 ∷ rest) ≡ 125 ∷ rest = blanks_again w (125 ∷ rest) h refl in rw e refl
+empty_reads total w rest h = let e : after_white_space (w ++ 125 ∷ rest) ≡ 125 ∷ rest = white_space_again w (125 ∷ rest) h refl in rw e refl
 
 members_read : (total : ℕ) (t : List ℕ) (r : Option ReadMembers) → Starts true t → (rest : List ℕ) → members_at total (length (t ++ rest)) (t ++ rest) ≡ r → object_at total (t ++ rest) ≡ r
 unfolding object_at
 members_read total t r s rest e =
-    let is : after_blanks (t ++ rest) ≡ s.first ∷ (s.others ++ rest) = starts_behind true t s rest in
+    let is : after_white_space (t ++ rest) ≡ s.first ∷ (s.others ++ rest) = starts_behind true t s rest in
     let opens = s.opens in
     rw (is, opens) e
 
@@ -207,10 +207,10 @@ opened_again total inside ms rest e = rw e refl
 pub answer_again : (bytes : List ℕ) (ms : List Member) (end : ℕ) (h : HasObject bytes ms end) → object_answer bytes ≡ Ok (ms, h.rest)
 unfolding object_answer
 answer_again bytes ms end h =
-    let place : length bytes ≡ length h.blanks + length (h.text ++ h.rest) = ap length h.is ∙ length-append h.blanks (h.text ++ h.rest) in
-    let f = object_again (length h.blanks) h.text ms h.object (length bytes) h.rest place in
-    let behind : after_blanks bytes ≡ 123 ∷ f.inside = ap after_blanks (h.is ∙ ap (λ (y : List ℕ). h.blanks ++ y) f.is) ∙ blanks_again h.blanks (123 ∷ f.inside) h.are_blanks refl in
+    let place : length bytes ≡ length h.white_space + length (h.text ++ h.rest) = ap length h.is ∙ length-append h.white_space (h.text ++ h.rest) in
+    let f = object_again (length h.white_space) h.text ms h.object (length bytes) h.rest place in
+    let behind : after_white_space bytes ≡ 123 ∷ f.inside = ap after_white_space (h.is ∙ ap (λ (y : List ℕ). h.white_space ++ y) f.is) ∙ white_space_again h.white_space (123 ∷ f.inside) h.is_white_space refl in
     ap (opened (length bytes)) behind ∙ opened_again (length bytes) f.inside ms h.rest f.reads
 
 pub end_is : (bytes : List ℕ) (ms : List Member) (end : ℕ) (h : HasObject bytes ms end) → end ≡ length bytes - length h.rest
-end_is bytes ms end h = omega (arith, h.ends, ap length h.is, length-append h.blanks (h.text ++ h.rest), length-append h.text h.rest)
+end_is bytes ms end h = omega (arith, h.ends, ap length h.is, length-append h.white_space (h.text ++ h.rest), length-append h.text h.rest)

@@ -8,17 +8,17 @@ use Rattle.std.proofs.lemmas.List.{take_at}
 use Rattle.cfg_types.specs.Text.{characters}
 use Rattle.cfg_types.proofs.TextLemmas.{characters-chars}
 use Rattle.cfg_json.specs.Characters.{quote}
-use Rattle.cfg_json.specs.Gives.{◌>>=◌}
+use Rattle.cfg_json.specs.Reads.{◌>>=◌}
 use Rattle.cfg_json.specs.Values.{comma, IsValue}
 use Rattle.cfg_json.specs.Objects.{inner_depth, IsMemberValue, IsMember, AreMembers, IsObject}
-use Rattle.cfg_json.specs.Reading.{after_blanks, number_at, word_at, string_at, utf8_of}
+use Rattle.cfg_json.specs.Reading.{after_white_space, number_at, word_at, string_at, utf8_of}
 use Rattle.cfg_json.specs.ReadingValues.{Read, key_at, inside_at, value_at}
 use Rattle.cfg_json.specs.ReadingObjects.{ReadValue, text_from, number_value_at, text_value_at, nested_value_at, word_value_at, member_value_at, member_at, MemberTurn, after_member, member_turn_at, ReadMembers, go_on_members, members_at, object_from, object_at}
 use Rattle.cfg_json.specs.declared.member.Member.{Member}
 use Rattle.cfg_json.specs.declared.member.MemberValue.{MemberValue}
 use Rattle.cfg_json.specs.declared.member.MemberValue.TheVariants as value
 use Rattle.cfg_json.proofs.Options.{given, nothing, none_is, given_is, bind_some, chosen, tested, either}
-use Rattle.cfg_json.proofs.BlankLaws.{blanks_take}
+use Rattle.cfg_json.proofs.WhiteSpaceLaws.{white_space_takes}
 use Rattle.cfg_json.proofs.NumberLaws.{number_takes, number_ascii}
 use Rattle.cfg_json.proofs.StringLaws.{string_takes, utf8_takes}
 use Rattle.cfg_json.proofs.LeafLaws.{Head, value_head, word_takes, key_takes}
@@ -159,27 +159,27 @@ member_parts : (key before v after rest : List ℕ) → (key ++ (before ++ (v ++
 member_parts key before v after rest =
     append_assoc key (before ++ (v ++ after)) rest ∙ ap (λ (y : List ℕ). key ++ y) (append_assoc before (v ++ after) rest ∙ ap (λ (y : List ℕ). before ++ y) (append_assoc v after rest))
 
-member_from : (total at : ℕ) (t name behind left : List ℕ) (m : MemberValue) → total ≡ at + length t → key_at t ≡ given (name, behind) → member_value_at total (after_blanks behind) ≡ given (m, left)
-    → MemberFront at t (record { key = name; value = m }) (after_blanks left)
+member_from : (total at : ℕ) (t name behind left : List ℕ) (m : MemberValue) → total ≡ at + length t → key_at t ≡ given (name, behind) → member_value_at total (after_white_space behind) ≡ given (m, left)
+    → MemberFront at t (record { key = name; value = m }) (after_white_space left)
 member_from total at t name behind left m is k v =
     let key = key_takes t (name, behind) k in
-    let b = blanks_take behind in
-    let place : total ≡ at + length key.key + length b.blanks + length (after_blanks behind) = omega (arith, is, ap length key.is, length-append key.key behind, ap length b.is, length-append b.blanks (after_blanks behind)) in
-    let f = value_takes_at total (at + length key.key + length b.blanks) (after_blanks behind) (m, left) place v in
-    let a = blanks_take left in
-    let cut : t ≡ key.key ++ (b.blanks ++ (f.0 ++ (a.blanks ++ after_blanks left))) =
-    key.is ∙ ap (λ (y : List ℕ). key.key ++ y) (b.is ∙ ap (λ (y : List ℕ). b.blanks ++ y) (f.1 ∙ ap (λ (y : List ℕ). f.0 ++ y) a.is)) in (
-      key.key ++ (b.blanks ++ (f.0 ++ a.blanks)),
-      cut ∙ sym (member_parts key.key b.blanks f.0 a.blanks (after_blanks left)),
-      record { key = key.key; before = b.blanks; value = f.0; after = a.blanks; is = refl; is_key = key.is_key; blanks_before = b.are; is_value = f.2; blanks_after = a.are },
+    let b = white_space_takes behind in
+    let place : total ≡ at + length key.key + length b.white_space + length (after_white_space behind) = omega (arith, is, ap length key.is, length-append key.key behind, ap length b.is, length-append b.white_space (after_white_space behind)) in
+    let f = value_takes_at total (at + length key.key + length b.white_space) (after_white_space behind) (m, left) place v in
+    let a = white_space_takes left in
+    let cut : t ≡ key.key ++ (b.white_space ++ (f.0 ++ (a.white_space ++ after_white_space left))) =
+    key.is ∙ ap (λ (y : List ℕ). key.key ++ y) (b.is ∙ ap (λ (y : List ℕ). b.white_space ++ y) (f.1 ∙ ap (λ (y : List ℕ). f.0 ++ y) a.is)) in (
+      key.key ++ (b.white_space ++ (f.0 ++ a.white_space)),
+      cut ∙ sym (member_parts key.key b.white_space f.0 a.white_space (after_white_space left)),
+      record { key = key.key; before = b.white_space; value = f.0; after = a.white_space; is = refl; is_key = key.is_key; white_space_before = b.are; is_value = f.2; white_space_after = a.are },
     )
 
 member_takes : (total at : ℕ) (t : List ℕ) (r : ReadMember) → total ≡ at + length t → member_at total t ≡ given r → MemberFront at t r.0 r.1
 unfolding member_at
 member_takes total at t r is e =
-    let k = bind_some (key_at t) (λ k. member_value_at total (after_blanks k.1) >>= λ v. Some (record { key = k.0; value = v.0 }, after_blanks v.1)) r e in
-    let v = bind_some (member_value_at total (after_blanks k.0.1)) (λ v. Some (record { key = k.0.0; value = v.0 }, after_blanks v.1)) r k.2 in
-    let made : ReadMember = (record { key = k.0.0; value = v.0.0 }, after_blanks v.0.1) in
+    let k = bind_some (key_at t) (λ k. member_value_at total (after_white_space k.1) >>= λ v. Some (record { key = k.0; value = v.0 }, after_white_space v.1)) r e in
+    let v = bind_some (member_value_at total (after_white_space k.0.1)) (λ v. Some (record { key = k.0.0; value = v.0 }, after_white_space v.1)) r k.2 in
+    let made : ReadMember = (record { key = k.0.0; value = v.0.0 }, after_white_space v.0.1) in
     subst (λ (q : ReadMember). MemberFront at t q.0 q.1) (given_is made r v.2) (member_from total at t k.0.0 k.0.1 v.0.1 v.0.0 is k.1 v.1)
 
 -- the byte behind a member
@@ -243,15 +243,15 @@ members_take total (suc n) at t r is e =
 abbrev pub ObjectTaken : ℕ → List ℕ → List Member → List ℕ → Type 0
 ObjectTaken at all ms rest = (text : List ℕ) × (all ≡ text ++ rest) × IsObject at text ms
 
-from_takes : (total at : ℕ) (t u : List ℕ) (r : ReadMembers) → total ≡ at + length (123 ∷ t) → after_blanks t ≡ u → object_from total t u ≡ given r → ObjectTaken at (123 ∷ t) r.0 r.1
+from_takes : (total at : ℕ) (t u : List ℕ) (r : ReadMembers) → total ≡ at + length (123 ∷ t) → after_white_space t ≡ u → object_from total t u ≡ given r → ObjectTaken at (123 ∷ t) r.0 r.1
 from_takes total at t [] r is b e = absurd (none_is r e)
 from_takes total at t (x ∷ u) r is b e =
     elim (chosen (x == 125) (given ([], u)) (members_at total (length t) t) (given r) e) [
       | inl w ↦ (let made : ReadMembers = ([], u) in
-          let k = blanks_take t in
-          let cut : 123 ∷ t ≡ (123 ∷ (k.blanks ++ 125 ∷ [])) ++ u =
-          ap (λ (y : List ℕ). 123 ∷ y) (k.is ∙ ap (λ (y : List ℕ). k.blanks ++ y) (b ∙ ap (λ (y : ℕ). y ∷ u) (eqb-true x 125 w.0)) ∙ sym (append_assoc k.blanks (125 ∷ []) u)) in
-          subst (λ (q : ReadMembers). ObjectTaken at (123 ∷ t) q.0 q.1) (given_is made r w.1) (123 ∷ (k.blanks ++ 125 ∷ []), cut, IsObject.empty at k.blanks _ k.are refl))
+          let k = white_space_takes t in
+          let cut : 123 ∷ t ≡ (123 ∷ (k.white_space ++ 125 ∷ [])) ++ u =
+          ap (λ (y : List ℕ). 123 ∷ y) (k.is ∙ ap (λ (y : List ℕ). k.white_space ++ y) (b ∙ ap (λ (y : ℕ). y ∷ u) (eqb-true x 125 w.0)) ∙ sym (append_assoc k.white_space (125 ∷ []) u)) in
+          subst (λ (q : ReadMembers). ObjectTaken at (123 ∷ t) q.0 q.1) (given_is made r w.1) (123 ∷ (k.white_space ++ 125 ∷ []), cut, IsObject.empty at k.white_space _ k.are refl))
       | inr w ↦ (let place : total ≡ at + 1 + length t = omega (arith, is) in
           let f = members_take total (length t) (at + 1) t r place w.1 in
           (123 ∷ f.0, ap (λ (y : List ℕ). 123 ∷ y) f.1, IsObject.members at f.0 _ r.0 f.2 refl))
@@ -259,4 +259,4 @@ from_takes total at t (x ∷ u) r is b e =
 
 pub object_takes_at : (total at : ℕ) (t : List ℕ) (r : ReadMembers) → total ≡ at + length (123 ∷ t) → object_at total t ≡ given r → ObjectTaken at (123 ∷ t) r.0 r.1
 unfolding object_at
-object_takes_at total at t r is e = from_takes total at t (after_blanks t) r is refl e
+object_takes_at total at t r is e = from_takes total at t (after_white_space t) r is refl e

@@ -2,20 +2,20 @@
 use Rattle.std.proofs.Common.{◌≡◌, ℕ, List, ◌∷◌, length, true, false, refl, sym, ap, ◌∙◌}
 use Rattle.std.specs.Char.{is_ascii_digit}
 use Rattle.std.proofs.lemmas.List.{nil_from_length}
-use Rattle.cfg_json.specs.Blanks.{is_blank}
-use Rattle.cfg_json.specs.Reading.{after_blanks, after_digits}
+use Rattle.cfg_json.specs.WhiteSpace.{is_json_white_space}
+use Rattle.cfg_json.specs.Reading.{after_white_space, after_digits}
 
-pub one_blank_more : (rest : List ℕ) (x : ℕ) (t total : List ℕ) → rest ≡ x ∷ t → is_blank x ≡ true → after_blanks rest ≡ total → after_blanks t ≡ total
-unfolding after_blanks
-one_blank_more rest x t total is b so_far = let one : after_blanks (x ∷ t) ≡ after_blanks t = rw b refl in sym one ∙ sym (ap after_blanks is) ∙ so_far
+pub one_more_white_space : (rest : List ℕ) (x : ℕ) (t total : List ℕ) → rest ≡ x ∷ t → is_json_white_space x ≡ true → after_white_space rest ≡ total → after_white_space t ≡ total
+unfolding after_white_space
+one_more_white_space rest x t total is b so_far = let one : after_white_space (x ∷ t) ≡ after_white_space t = rw b refl in sym one ∙ sym (ap after_white_space is) ∙ so_far
 
-pub no_blank : (rest : List ℕ) (x : ℕ) (t total : List ℕ) → rest ≡ x ∷ t → is_blank x ≡ false → after_blanks rest ≡ total → rest ≡ total
-unfolding after_blanks
-no_blank rest x t total is b so_far = let one : after_blanks (x ∷ t) ≡ x ∷ t = rw b refl in is ∙ sym one ∙ sym (ap after_blanks is) ∙ so_far
+pub no_white_space : (rest : List ℕ) (x : ℕ) (t total : List ℕ) → rest ≡ x ∷ t → is_json_white_space x ≡ false → after_white_space rest ≡ total → rest ≡ total
+unfolding after_white_space
+no_white_space rest x t total is b so_far = let one : after_white_space (x ∷ t) ≡ x ∷ t = rw b refl in is ∙ sym one ∙ sym (ap after_white_space is) ∙ so_far
 
-pub blanks_at_end : (rest total : List ℕ) → length rest ≡ 0 → after_blanks rest ≡ total → rest ≡ total
-unfolding after_blanks
-blanks_at_end rest total e so_far = let n = nil_from_length rest e in n ∙ sym (ap after_blanks n) ∙ so_far
+pub white_space_at_end : (rest total : List ℕ) → length rest ≡ 0 → after_white_space rest ≡ total → rest ≡ total
+unfolding after_white_space
+white_space_at_end rest total e so_far = let n = nil_from_length rest e in n ∙ sym (ap after_white_space n) ∙ so_far
 
 pub one_digit_more : (rest : List ℕ) (x : ℕ) (t total : List ℕ) → rest ≡ x ∷ t → is_ascii_digit x ≡ true → after_digits rest ≡ total → after_digits t ≡ total
 unfolding after_digits

@@ -11,7 +11,7 @@ use Rattle.std.specs.Str.{is_utf8}
 use Rattle.cfg_types.specs.Text.{characters}
 use Rattle.cfg_types.proofs.TextLemmas.{characters-chars, characters-encodes, encodes-chars}
 use Rattle.cfg_json.specs.Characters.{quote, backslash, lower_u, is_plain, short_escape, hex_digit, code_unit}
-use Rattle.cfg_json.specs.Gives.{◌>>=◌}
+use Rattle.cfg_json.specs.Reads.{◌>>=◌}
 use Rattle.cfg_json.specs.Strings.{IsContent, IsString}
 use Rattle.cfg_json.specs.Reading.{end_of, content_of, utf8_of, text_of, string_at}
 use Rattle.cfg_json.proofs.Options.{given, nothing, none_is, given_is, bind_some, chosen, tested}

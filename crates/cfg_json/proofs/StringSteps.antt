@@ -9,7 +9,7 @@ use lib.Utf8.{scalar}
 use Rattle.cfg_types.specs.Text.{characters}
 use Rattle.cfg_types.proofs.TextLemmas.{characters-chars}
 use Rattle.cfg_json.specs.Characters.{quote, backslash}
-use Rattle.cfg_json.specs.Gives.{◌>>=◌}
+use Rattle.cfg_json.specs.Reads.{◌>>=◌}
 use Rattle.cfg_json.specs.Reading.{piece_at, content_of, end_of}
 
 -- the place so far, and what is left to find

@@ -2,32 +2,32 @@
 use Rattle.std.proofs.Common.{◌≡◌, ℕ, zero, suc, ◌<◌, ◌≤◌, List, [], ◌∷◌, ◌++◌, length, inl, inr, Bool, true, false, Option, Some, refl, sym, ap, subst, ◌∙◌, append_assoc, arith, length-append}
 use Rattle.std.specs.Prelude.{◌||◌, ◌==◌, codes}
 use Rattle.std.proofs.lemmas.Bool.{or_cases, eqb-true}
-use Rattle.cfg_json.specs.Blanks.{is_blank, AreBlanks}
+use Rattle.cfg_json.specs.WhiteSpace.{is_json_white_space, IsWhiteSpace}
 use Rattle.cfg_json.specs.Characters.{quote}
-use Rattle.cfg_json.specs.Gives.{◌>>=◌}
+use Rattle.cfg_json.specs.Reads.{◌>>=◌}
 use Rattle.cfg_json.specs.Values.{comma, colon, close_of, IsWord, IsKey, IsValue, IsItem, AreItems}
-use Rattle.cfg_json.specs.Reading.{after_blanks}
+use Rattle.cfg_json.specs.Reading.{after_white_space}
 use Rattle.cfg_json.specs.ReadingValues.{Read, or_front, leaf_at, key_at, padded_at, after_item, turn_at, items_at, item_at, inside_at, value_at}
-use Rattle.cfg_json.proofs.BlankLaws.{NoBlank, blanks_again}
+use Rattle.cfg_json.proofs.WhiteSpaceLaws.{NoWhiteSpace, white_space_again}
 use Rattle.cfg_json.proofs.NumberLaws.{IsEnd, EndsNumber}
-use Rattle.cfg_json.proofs.LeafLaws.{Head, value_head, head_blank, number_head, not_number, key_again, string_leaf, word_leaf, number_leaf}
+use Rattle.cfg_json.proofs.LeafLaws.{Head, value_head, head_no_white_space, number_head, not_number, key_again, string_leaf, word_leaf, number_leaf}
 use Rattle.cfg_json.proofs.StringLaws.{string_again}
 
 -- no white space, and nothing of a number
 pub record Closes (x : ℕ) : Type 0 where
-  pub blank : is_blank x ≡ false
+  pub not_white_space : is_json_white_space x ≡ false
   pub end : IsEnd x
 
 pub close_ends : (k : Bool) → Closes (close_of k)
-close_ends true = record { blank = refl; end = record { digit = refl; point = refl; exponent = refl } }
-close_ends false = record { blank = refl; end = record { digit = refl; point = refl; exponent = refl } }
+close_ends true = record { not_white_space = refl; end = record { digit = refl; point = refl; exponent = refl } }
+close_ends false = record { not_white_space = refl; end = record { digit = refl; point = refl; exponent = refl } }
 
 pub comma_ends : Closes comma
-comma_ends = record { blank = refl; end = record { digit = refl; point = refl; exponent = refl } }
+comma_ends = record { not_white_space = refl; end = record { digit = refl; point = refl; exponent = refl } }
 
 -- white space is nothing of a number
-blank_ends : (x : ℕ) → is_blank x ≡ true → IsEnd x
-blank_ends x e =
+one_white_space_ends : (x : ℕ) → is_json_white_space x ≡ true → IsEnd x
+one_white_space_ends x e =
     let at_32 : IsEnd 32 = record { digit = refl; point = refl; exponent = refl } in
     let at_9 : IsEnd 9 = record { digit = refl; point = refl; exponent = refl } in
     let at_10 : IsEnd 10 = record { digit = refl; point = refl; exponent = refl } in
@@ -43,18 +43,18 @@ blank_ends x e =
       | inr a ↦ subst IsEnd (sym (eqb-true x 13 a)) at_13
     ]
 
-pub blanks_end : (w : List ℕ) (x : ℕ) (rest : List ℕ) → AreBlanks w → Closes x → EndsNumber (w ++ x ∷ rest)
-blanks_end [] x rest h c = c.end
-blanks_end (y ∷ w) x rest h c = blank_ends y h.0
+pub white_space_end : (w : List ℕ) (x : ℕ) (rest : List ℕ) → IsWhiteSpace w → Closes x → EndsNumber (w ++ x ∷ rest)
+white_space_end [] x rest h c = c.end
+white_space_end (y ∷ w) x rest h c = one_white_space_ends y h.0
 
 -- an item begins, behind white space, with no bracket that closes
 pub record Starts (k : Bool) (t : List ℕ) : Type 0 where
-  pub blanks : List ℕ
+  pub white_space : List ℕ
   pub first : ℕ
   pub others : List ℕ
-  pub is : t ≡ blanks ++ first ∷ others
-  pub are_blanks : AreBlanks blanks
-  pub blank : is_blank first ≡ false
+  pub is : t ≡ white_space ++ first ∷ others
+  pub is_white_space : IsWhiteSpace white_space
+  pub not_white_space : is_json_white_space first ≡ false
   pub opens : (first == close_of k) ≡ false
 
 head_opens : (k : Bool) (t : List ℕ) (h : Head t) → (h.first == close_of k) ≡ false
@@ -63,32 +63,32 @@ head_opens false t h = h.bracket
 
 pub key_starts : (key name v : List ℕ) → IsKey key name → Starts true (key ++ v)
 key_starts key name v h = record {
-  blanks = h.before;
+  white_space = h.before;
   first = quote;
   others = _;
   is = ap (λ (y : List ℕ). y ++ v) h.is ∙ append_assoc h.before (h.string ++ (h.after ++ colon ∷ [])) v ∙ ap (λ (y : List ℕ). h.before ++ ((y ++ (h.after ++ colon ∷ [])) ++ v)) h.is_string.is;
-  are_blanks = h.blanks_before;
-  blank = refl;
+  is_white_space = h.white_space_before;
+  not_white_space = refl;
   opens = refl;
 }
 
 pub starts_at : (k : Bool) (u t : List ℕ) → t ≡ u → Starts k u → Starts k t
-starts_at k u t e s = record { blanks = s.blanks; first = s.first; others = s.others; is = e ∙ s.is; are_blanks = s.are_blanks; blank = s.blank; opens = s.opens }
+starts_at k u t e s = record { white_space = s.white_space; first = s.first; others = s.others; is = e ∙ s.is; is_white_space = s.is_white_space; not_white_space = s.not_white_space; opens = s.opens }
 
 item_starts : (k : Bool) (d : ℕ) (t : List ℕ) (b : Bool) → IsItem k d t b → Starts k t
 item_starts _ _ _ _ (IsItem.bare d v before after t b h hb ha is) =
     let k = value_head d v b h in
-    record { blanks = before; first = k.first; others = k.others ++ after; is = is ∙ ap (λ (y : List ℕ). before ++ (y ++ after)) k.is; are_blanks = hb; blank = k.blank; opens = k.bracket }
+    record { white_space = before; first = k.first; others = k.others ++ after; is = is ∙ ap (λ (y : List ℕ). before ++ (y ++ after)) k.is; is_white_space = hb; not_white_space = k.not_white_space; opens = k.bracket }
 item_starts _ _ _ _ (IsItem.keyed d key name v t b h hv is) = starts_at true _ t is (key_starts key name v h)
 
 pub starts_then : (k : Bool) (v t : List ℕ) → Starts k v → (more : List ℕ) → t ≡ v ++ more → Starts k t
 starts_then k v t s more e = record {
-  blanks = s.blanks;
+  white_space = s.white_space;
   first = s.first;
   others = s.others ++ more;
-  is = e ∙ ap (λ (x : List ℕ). x ++ more) s.is ∙ append_assoc s.blanks (s.first ∷ s.others) more;
-  are_blanks = s.are_blanks;
-  blank = s.blank;
+  is = e ∙ ap (λ (x : List ℕ). x ++ more) s.is ∙ append_assoc s.white_space (s.first ∷ s.others) more;
+  is_white_space = s.is_white_space;
+  not_white_space = s.not_white_space;
   opens = s.opens;
 }
 
@@ -114,10 +114,10 @@ word_value d t rest h = let s : leaf_at (t ++ rest) ≡ Some (false, rest) = wor
   ])
 ]
 
-closed_again : (k : Bool) (value : List ℕ → Option Read) (w rest : List ℕ) → AreBlanks w → inside_at k value ((w ++ close_of k ∷ []) ++ rest) ≡ Some (false, rest)
+closed_again : (k : Bool) (value : List ℕ → Option Read) (w rest : List ℕ) → IsWhiteSpace w → inside_at k value ((w ++ close_of k ∷ []) ++ rest) ≡ Some (false, rest)
 unfolding inside_at
-closed_again true value w rest h = let e : after_blanks ((w ++ 125 ∷ []) ++ rest) ≡ 125 ∷ rest = ap after_blanks (append_assoc w (125 ∷ []) rest) ∙ blanks_again w (125 ∷ rest) h refl in rw e refl
-closed_again false value w rest h = let e : after_blanks ((w ++ 93 ∷ []) ++ rest) ≡ 93 ∷ rest = ap after_blanks (append_assoc w (93 ∷ []) rest) ∙ blanks_again w (93 ∷ rest) h refl in rw e refl
+closed_again true value w rest h = let e : after_white_space ((w ++ 125 ∷ []) ++ rest) ≡ 125 ∷ rest = ap after_white_space (append_assoc w (125 ∷ []) rest) ∙ white_space_again w (125 ∷ rest) h refl in rw e refl
+closed_again false value w rest h = let e : after_white_space ((w ++ 93 ∷ []) ++ rest) ≡ 93 ∷ rest = ap after_white_space (append_assoc w (93 ∷ []) rest) ∙ white_space_again w (93 ∷ rest) h refl in rw e refl
 
 array_again : (d : ℕ) (t : List ℕ) (r : Option Read) → inside_at false (value_at d) t ≡ r → value_at (suc d) (91 ∷ t) ≡ r
 unfolding value_at
@@ -128,14 +128,14 @@ unfolding value_at
 object_again d t r e = ap (or_front true) e
 
 -- the byte at which it begins, behind the white space
-pub starts_behind : (k : Bool) (t : List ℕ) (s : Starts k t) → (rest : List ℕ) → after_blanks (t ++ rest) ≡ s.first ∷ (s.others ++ rest)
+pub starts_behind : (k : Bool) (t : List ℕ) (s : Starts k t) → (rest : List ℕ) → after_white_space (t ++ rest) ≡ s.first ∷ (s.others ++ rest)
 starts_behind k t s rest =
-    ap (λ (x : List ℕ). after_blanks (x ++ rest)) s.is ∙ ap after_blanks (append_assoc s.blanks (s.first ∷ s.others) rest) ∙ blanks_again s.blanks (s.first ∷ (s.others ++ rest)) s.are_blanks s.blank
+    ap (λ (x : List ℕ). after_white_space (x ++ rest)) s.is ∙ ap after_white_space (append_assoc s.white_space (s.first ∷ s.others) rest) ∙ white_space_again s.white_space (s.first ∷ (s.others ++ rest)) s.is_white_space s.not_white_space
 
 inside_again : (k : Bool) (value : List ℕ → Option Read) (t : List ℕ) (r : Option Read) → Starts k t → (rest : List ℕ) → items_at k value (length (t ++ rest)) (t ++ rest) ≡ r → inside_at k value (t ++ rest) ≡ r
 unfolding inside_at
 inside_again k value t r s rest e =
-    let is : after_blanks (t ++ rest) ≡ s.first ∷ (s.others ++ rest) = starts_behind k t s rest in
+    let is : after_white_space (t ++ rest) ≡ s.first ∷ (s.others ++ rest) = starts_behind k t s rest in
     let opens = s.opens in
     rw (is, opens) e
 
@@ -167,14 +167,14 @@ next_turn k value n t b c next rest e more = rw (e, more) refl
 pub split : (v u t rest : List ℕ) (x : ℕ) → t ≡ v ++ x ∷ u → t ++ rest ≡ v ++ (x ∷ (u ++ rest))
 split v u t rest x e = ap (λ (y : List ℕ). y ++ rest) e ∙ append_assoc v (x ∷ u) rest
 
-pub padded_again : (value : List ℕ → Option Read) (before v after rest : List ℕ) (x : ℕ) (b : Bool) → AreBlanks before → AreBlanks after → NoBlank (v ++ (after ++ x ∷ rest)) → is_blank x ≡ false
+pub padded_again : (value : List ℕ → Option Read) (before v after rest : List ℕ) (x : ℕ) (b : Bool) → IsWhiteSpace before → IsWhiteSpace after → NoWhiteSpace (v ++ (after ++ x ∷ rest)) → is_json_white_space x ≡ false
     → value (v ++ (after ++ x ∷ rest)) ≡ Some (b, after ++ x ∷ rest) → padded_at value ((before ++ (v ++ after)) ++ x ∷ rest) ≡ Some (b, x ∷ rest)
 unfolding padded_at
-padded_again value before v after rest x b hb ha head blank e =
+padded_again value before v after rest x b hb ha head not_white_space e =
     let is : (before ++ (v ++ after)) ++ x ∷ rest ≡ before ++ (v ++ (after ++ x ∷ rest)) = append_assoc before (v ++ after) (x ∷ rest) ∙ ap (λ (y : List ℕ). before ++ y) (append_assoc v after (x ∷ rest)) in
-    let here : after_blanks ((before ++ (v ++ after)) ++ x ∷ rest) ≡ v ++ (after ++ x ∷ rest) = ap after_blanks is ∙ blanks_again before _ hb head in
-    let read : value (after_blanks ((before ++ (v ++ after)) ++ x ∷ rest)) ≡ Some (b, after ++ x ∷ rest) = ap value here ∙ e in
-    ap (λ (o : Option Read). o >>= λ p. Some (p.0, after_blanks p.1)) read ∙ ap (λ (y : List ℕ). Some (b, y)) (blanks_again after (x ∷ rest) ha blank)
+    let here : after_white_space ((before ++ (v ++ after)) ++ x ∷ rest) ≡ v ++ (after ++ x ∷ rest) = ap after_white_space is ∙ white_space_again before _ hb head in
+    let read : value (after_white_space ((before ++ (v ++ after)) ++ x ∷ rest)) ≡ Some (b, after ++ x ∷ rest) = ap value here ∙ e in
+    ap (λ (o : Option Read). o >>= λ p. Some (p.0, after_white_space p.1)) read ∙ ap (λ (y : List ℕ). Some (b, y)) (white_space_again after (x ∷ rest) ha not_white_space)
 
 keyed_again : (value : List ℕ → Option Read) (key name v rest : List ℕ) (b : Bool) → IsKey key name → padded_at value (v ++ rest) ≡ Some (b, rest) → item_at true value ((key ++ v) ++ rest) ≡ Some (b, rest)
 unfolding item_at
@@ -210,7 +210,7 @@ mutual
   item_again _ _ _ _ (IsItem.bare d v before after t b h hb ha is) x rest c =
       bare_again (value_at d) t (x ∷ rest) b
       (ap (λ (y : List ℕ). padded_at (value_at d) (y ++ x ∷ rest)) is
-      ∙ padded_again (value_at d) before v after rest x b hb ha (head_blank v _ (value_head d v b h)) c.blank (value_again d v b h (after ++ x ∷ rest) (blanks_end after x rest ha c)))
+      ∙ padded_again (value_at d) before v after rest x b hb ha (head_no_white_space v _ (value_head d v b h)) c.not_white_space (value_again d v b h (after ++ x ∷ rest) (white_space_end after x rest ha c)))
   item_again _ _ _ _ (IsItem.keyed d key name v t b h hv is) x rest c =
       ap (λ (y : List ℕ). item_at true (value_at d) (y ++ x ∷ rest)) is
       ∙ keyed_again (value_at d) key name v (x ∷ rest) b h (bare_is (value_at d) _ _ (item_again false d v b hv x rest c))

@@ -2,12 +2,12 @@
 use Rattle.std.proofs.Common.{◌≡◌, ℕ, zero, suc, List, [], ◌∷◌, ◌++◌, length, ◌⊎◌, inl, inr, Bool, true, false, cond, Some, refl, sym, ap, subst, ◌∙◌, append_assoc}
 use Rattle.std.specs.Prelude.{◌||◌, ◌==◌}
 use Rattle.std.proofs.lemmas.Bool.{eqb-true}
-use Rattle.cfg_json.specs.Blanks.{AreBlanks}
+use Rattle.cfg_json.specs.WhiteSpace.{IsWhiteSpace}
 use Rattle.cfg_json.specs.Values.{comma, close_of, IsValue, IsItem, AreItems}
-use Rattle.cfg_json.specs.Reading.{after_blanks}
+use Rattle.cfg_json.specs.Reading.{after_white_space}
 use Rattle.cfg_json.specs.ReadingValues.{Read, Turn, or_front, leaf_at, key_at, padded_at, after_item, go_on, turn_at, items_at, item_at, inside_from, inside_at, value_at}
 use Rattle.cfg_json.proofs.Options.{given, nothing, none_is, given_is, bind_some, chosen, tested}
-use Rattle.cfg_json.proofs.BlankLaws.{blanks_take}
+use Rattle.cfg_json.proofs.WhiteSpaceLaws.{white_space_takes}
 use Rattle.cfg_json.proofs.LeafLaws.{Front, key_takes, leaf_takes}
 
 abbrev ItemFront : Bool → ℕ → List ℕ → Bool → List ℕ → Type 0
@@ -26,15 +26,15 @@ padded_parts before v after rest t behind e f =
 padded_takes : (d : ℕ) → Takes d → (t : List ℕ) (r : Read) → padded_at (value_at d) t ≡ given r → ItemFront false d t r.0 r.1
 unfolding padded_at
 padded_takes d takes t r e =
-    let p = bind_some (value_at d (after_blanks t)) (λ p. Some (p.0, after_blanks p.1)) r e in
-    let made : Read = (p.0.0, after_blanks p.0.1) in
-    let b = blanks_take t in
-    let f = takes (after_blanks t) p.0 p.1 in
-    let a = blanks_take p.0.1 in
+    let p = bind_some (value_at d (after_white_space t)) (λ p. Some (p.0, after_white_space p.1)) r e in
+    let made : Read = (p.0.0, after_white_space p.0.1) in
+    let b = white_space_takes t in
+    let f = takes (after_white_space t) p.0 p.1 in
+    let a = white_space_takes p.0.1 in
     subst (λ (q : Read). ItemFront false d t q.0 q.1) (given_is made r p.2) (
-      b.blanks ++ (f.0 ++ a.blanks),
-      padded_parts b.blanks f.0 a.blanks _ t p.0.1 (b.is ∙ ap (λ (y : List ℕ). b.blanks ++ y) f.1) a.is,
-      IsItem.bare d f.0 b.blanks a.blanks _ p.0.0 f.2 b.are a.are refl,
+      b.white_space ++ (f.0 ++ a.white_space),
+      padded_parts b.white_space f.0 a.white_space _ t p.0.1 (b.is ∙ ap (λ (y : List ℕ). b.white_space ++ y) f.1) a.is,
+      IsItem.bare d f.0 b.white_space a.white_space _ p.0.0 f.2 b.are a.are refl,
     )
 
 item_takes : (k : Bool) (d : ℕ) → Takes d → (t : List ℕ) (r : Read) → item_at k (value_at d) t ≡ given r → ItemFront k d t r.0 r.1
@@ -99,22 +99,22 @@ items_take k d takes (suc n) t r e =
 
 -- what stands behind an opening bracket: white space and the closing one, or items
 abbrev InsideFront : Bool → ℕ → List ℕ → Bool → List ℕ → Type 0
-InsideFront k d t b rest = ((w : List ℕ) × AreBlanks w × (t ≡ (w ++ close_of k ∷ []) ++ rest) × (b ≡ false)) ⊎ ItemsFront k d t b rest
+InsideFront k d t b rest = ((w : List ℕ) × IsWhiteSpace w × (t ≡ (w ++ close_of k ∷ []) ++ rest) × (b ≡ false)) ⊎ ItemsFront k d t b rest
 
-inside_from_takes : (k : Bool) (d : ℕ) → Takes d → (t u : List ℕ) (r : Read) → after_blanks t ≡ u → inside_from k (value_at d) t u ≡ given r → InsideFront k d t r.0 r.1
+inside_from_takes : (k : Bool) (d : ℕ) → Takes d → (t u : List ℕ) (r : Read) → after_white_space t ≡ u → inside_from k (value_at d) t u ≡ given r → InsideFront k d t r.0 r.1
 inside_from_takes k d takes t [] r is e = absurd (none_is r e)
 inside_from_takes k d takes t (x ∷ u) r is e =
     elim (chosen (x == close_of k) (given (false, u)) (items_at k (value_at d) (length t) t) (given r) e) [
       | inl w ↦ (let made : Read = (false, u) in
-          let b = blanks_take t in
+          let b = white_space_takes t in
           subst (λ (q : Read). InsideFront k d t q.0 q.1) (given_is made r w.1)
-          (inl (b.blanks, b.are, b.is ∙ ap (λ (y : List ℕ). b.blanks ++ y) (is ∙ ap (λ (y : ℕ). y ∷ u) (eqb-true x (close_of k) w.0)) ∙ sym (append_assoc b.blanks (close_of k ∷ []) u), refl)))
+          (inl (b.white_space, b.are, b.is ∙ ap (λ (y : List ℕ). b.white_space ++ y) (is ∙ ap (λ (y : ℕ). y ∷ u) (eqb-true x (close_of k) w.0)) ∙ sym (append_assoc b.white_space (close_of k ∷ []) u), refl)))
       | inr w ↦ inr (items_take k d takes (length t) t r w.1)
     ]
 
 inside_takes : (k : Bool) (d : ℕ) → Takes d → (t : List ℕ) (r : Read) → inside_at k (value_at d) t ≡ given r → InsideFront k d t r.0 r.1
 unfolding inside_at
-inside_takes k d takes t r e = inside_from_takes k d takes t (after_blanks t) r refl e
+inside_takes k d takes t r e = inside_from_takes k d takes t (after_white_space t) r refl e
 
 array_front : (d : ℕ) (t : List ℕ) (r : Read) → InsideFront false d t r.0 r.1 → Front (suc d) (91 ∷ t) r.0 r.1
 array_front d t r h = elim h [

@@ -23,7 +23,7 @@ member_bytes : (key value : List ℕ) → bytes (member_text key value) ≡ (byt
 member_bytes key value = encodes-append (quoted key) (58 ∷ value) ∙ ap (λ (t : List ℕ). bytes (quoted key) ++ t) (ascii_first 58 value (omega arith)) ∙ sym (append_assoc (bytes (quoted key)) (58 ∷ []) (bytes value))
 
 key_is : (key : List ℕ) → all_scalars key ≡ true → IsKey (bytes (quoted key) ++ 58 ∷ []) key
-key_is key h = record { before = []; string = bytes (quoted key); after = []; is = refl; blanks_before = tt; is_string = written_string key h; blanks_after = tt }
+key_is key h = record { before = []; string = bytes (quoted key); after = []; is = refl; white_space_before = tt; is_string = written_string key h; white_space_after = tt }
 
 braced_bytes : (t : List ℕ) → bytes (braced t) ≡ 123 ∷ (bytes t ++ 125 ∷ [])
 unfolding braced
@@ -103,9 +103,9 @@ member_is at key value v h k = record {
   after = [];
   is = member_bytes key value ∙ ap (λ (t : List ℕ). (bytes (quoted key) ++ 58 ∷ []) ++ t) (sym (append-nil (bytes value)));
   is_key = key_is key h;
-  blanks_before = tt;
+  white_space_before = tt;
   is_value = k;
-  blanks_after = tt;
+  white_space_after = tt;
 }
 
 object_value : (at : ℕ) (w : WrittenObject) → HasScalars w → Nests w 126 → IsMemberValue at (bytes (braced (members_text w))) (value.Object at (at + length (bytes (braced (members_text w)))))
@@ -170,4 +170,4 @@ pub written_object : (w : WrittenObject) → HasScalars w → Nests w 127
 written_object w h n =
     let b = object_back w h n in
     let t : List ℕ = encode_utf8_all (braced (members_text w)) in
-    (b.list, length t, record { blanks = []; text = t; rest = []; is = sym (append-nil t); are_blanks = tt; object = b.object; ends = omega arith }, refl, b.tells)
+    (b.list, length t, record { white_space = []; text = t; rest = []; is = sym (append-nil t); is_white_space = tt; object = b.object; ends = omega arith }, refl, b.tells)

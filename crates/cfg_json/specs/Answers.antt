@@ -1,25 +1,18 @@
 -- What the readers of whole objects answer.
 use Rattle.std.specs.Prelude.{◌≡◌, ◌≢◌, ℕ, ◌-◌, length, ◌⊎◌, List, [], ◌∷◌, ◌++◌, false, drop, Result, Ok, Err}
+use Rattle.cfg_types.specs.Gives.{Gives, IsSaid}
 use Rattle.cfg_types.specs.declared.document.JsonError.{JsonError}
 use Rattle.cfg_types.specs.declared.document.JsonError.TheVariants as json
-use Rattle.cfg_json.specs.Blanks.{is_blank, AreBlanks}
+use Rattle.cfg_json.specs.WhiteSpace.{is_json_white_space, IsWhiteSpace}
 use Rattle.cfg_json.specs.Objects.{HasObject}
-use Rattle.cfg_json.specs.Reading.{after_blanks}
+use Rattle.cfg_json.specs.Reading.{after_white_space}
 use Rattle.cfg_json.specs.ReadingObjects.{ReadMembers, Answer, object_answer}
 use Rattle.cfg_json.specs.declared.member.Member.{Member}
 use Rattle.cfg_json.specs.declared.member.Members.{Members}
 
--- the error is this answer, or tells that memory ran out
-abbrev pub Refuses : {Y : Type 0} → JsonError → Result Y JsonError → Type 0
-Refuses json.NotObject answer = answer ≡ Err json.NotObject
-Refuses json.Syntax answer = answer ≡ Err json.Syntax
-Refuses json.More answer = answer ≡ Err json.More
-Refuses json.OutOfMemory answer = Unit {0}
-
--- what a function returned, seen by view, is this answer, unless memory ran out
+-- what a function returned, its value seen by view, is this answer; or memory ran out
 abbrev pub Answers : {X Y : Type 0} → (X → Y) → Result X JsonError → Result Y JsonError → Type 0
-Answers view (Ok x) answer = answer ≡ Ok (view x)
-Answers view (Err e) answer = Refuses e answer
+Answers view result answer = Gives json.OutOfMemory result (IsSaid view answer)
 
 -- a list of members, and where the object ends
 abbrev pub MemberList : Type 0
@@ -30,28 +23,28 @@ member_list m = (m.list, m.end)
 
 -- the first byte that is no white space opens an object
 abbrev pub OpensObject : List ℕ → Type 0
-OpensObject bytes = (blanks : List ℕ) × (rest : List ℕ) × AreBlanks blanks × (bytes ≡ blanks ++ 123 ∷ rest)
+OpensObject bytes = (white_space : List ℕ) × (rest : List ℕ) × IsWhiteSpace white_space × (bytes ≡ white_space ++ 123 ∷ rest)
 
 -- it is another byte, or there is none
 abbrev pub OpensOther : List ℕ → Type 0
-OpensOther bytes = AreBlanks bytes ⊎ ((blanks : List ℕ) × (x : ℕ) × (rest : List ℕ) × AreBlanks blanks × (is_blank x ≡ false) × (x ≢ 123) × (bytes ≡ blanks ++ x ∷ rest))
+OpensOther bytes = IsWhiteSpace bytes ⊎ ((white_space : List ℕ) × (x : ℕ) × (rest : List ℕ) × IsWhiteSpace white_space × (is_json_white_space x ≡ false) × (x ≢ 123) × (bytes ≡ white_space ++ x ∷ rest))
 
--- no front of the bytes is an object
+-- no prefix of the bytes is an object
 abbrev pub HasNoObject : List ℕ → Type 0
 HasNoObject bytes = (list : List Member) (end : ℕ) → HasObject bytes list end → ⊥
 
 -- nothing but white space stands from the place on
-abbrev pub OnlyBlanksFrom : List ℕ → ℕ → Type 0
-OnlyBlanksFrom bytes end = AreBlanks (drop end bytes)
+abbrev pub OnlyWhiteSpaceFrom : List ℕ → ℕ → Type 0
+OnlyWhiteSpaceFrom bytes end = IsWhiteSpace (drop end bytes)
 
 -- Read from left to right, for the functions below the public ones.
 
-abbrev pub only_blanks : List ℕ → ReadMembers → List ℕ → Answer
-only_blanks bytes r [] = Ok r
-only_blanks bytes r (x ∷ t) = Err json.More
+abbrev pub only_white_space : List ℕ → ReadMembers → List ℕ → Answer
+only_white_space bytes r [] = Ok r
+only_white_space bytes r (x ∷ t) = Err json.More
 
 abbrev pub only_from : List ℕ → Answer → Answer
-only_from bytes (Ok r) = only_blanks bytes r (after_blanks r.1)
+only_from bytes (Ok r) = only_white_space bytes r (after_white_space r.1)
 only_from bytes (Err e) = Err e
 
 -- an object, and nothing but white space behind it

@@ -91,7 +91,7 @@ IsDateText = IsTimeText IsZulu
 abbrev pub IsOffsetDateText : List ℕ → Moment → Type 0
 IsOffsetDateText = IsTimeText IsOffset
 
--- outside the years 1 to 9999
+-- outside the years 1 to 9999: before 0001-01-01T00:00:00Z, or after 9999-12-31T23:59:59Z
 abbrev pub IsOutside : ℤ → Type 0
 IsOutside seconds = (seconds <ℤ negsuc 62135596799) ⊎ (pos 253402300799 <ℤ seconds)
 

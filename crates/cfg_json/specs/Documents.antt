@@ -5,6 +5,7 @@ use Rattle.std.specs.Int.{w32}
 use Rattle.std.specs.Ordering.{int_eq}
 use Rattle.std.specs.Str.{encode_utf8_all, bytes_eq}
 use Rattle.std.specs.Str.Parse.{IsNumeral, without_leading_sign, signed_digits_value}
+use Rattle.cfg_types.specs.Gives.{Gives, IsSaid, ◌>>=◌}
 use Rattle.cfg_types.specs.Moment.{Moment}
 use Rattle.cfg_types.specs.Keys.{Keys}
 use Rattle.cfg_types.specs.Field.{field_name}
@@ -13,24 +14,19 @@ use Rattle.cfg_types.specs.declared.document.JsonError.TheVariants as json
 use Rattle.cfg_types.specs.declared.document.Field.{Field}
 use Rattle.cfg_types.specs.declared.document.Field.TheVariants as field
 use Rattle.cfg_types.specs.declared.document.FieldFault.TheVariants as fault
-use Rattle.cfg_types.specs.declared.document.JsonCredentials.{JsonCredentials}
-use Rattle.cfg_types.specs.declared.document.JsonCredentials.TheVariants as document
+use Rattle.cfg_json.specs.declared.credentials.JsonCredentials.{JsonCredentials}
+use Rattle.cfg_json.specs.declared.credentials.JsonCredentials.TheVariants as document
 use Rattle.cfg_types.specs.declared.document.InvalidJsonCredentials.{InvalidJsonCredentials}
 use Rattle.cfg_types.specs.declared.document.InvalidJsonCredentials.TheVariants as invalid
 use Rattle.cfg_json.specs.declared.member.Member.{Member}
 use Rattle.cfg_json.specs.declared.member.Members.{Members}
 use Rattle.cfg_json.specs.Objects.{HasObject}
-use Rattle.cfg_json.specs.Answers.{OpensObject, OpensOther, HasNoObject, OnlyBlanksFrom}
+use Rattle.cfg_json.specs.Answers.{OpensObject, OpensOther, HasNoObject, OnlyWhiteSpaceFrom}
 use Rattle.cfg_json.specs.Lookups.{last_text, last_number}
 use Rattle.cfg_json.specs.ReadingDates.{moment_at}
 
 abbrev pub Read : Type 0 → Type 0
 Read A = Result A InvalidJsonCredentials
-
-infixl 10 ◌>>=◌
-abbrev pub ◌>>=◌ : {A B : Type 0} → Read A → (A → Read B) → Read B
-(Ok x) >>= f = f x
-(Err e) >>= f = Err e
 
 -- the last text of a field, or of another one
 abbrev pub field_text : List Member → Field → Field → Option (List ℕ)
@@ -88,26 +84,17 @@ ReadsVersion None (Some o) = ⊥
 ReadsVersion (Some t) None = ⊥
 ReadsVersion (Some t) (Some o) = ReadsWhole (encode_utf8_all t) o
 
--- the fault of a field is this answer, or tells that memory ran out
-abbrev pub FieldFails : {A : Type 0} → InvalidJsonCredentials → Read A → Type 0
-FieldFails (invalid.JsonError e) answer = ⊥
-FieldFails (invalid.MissingField f) answer = answer ≡ Err (invalid.MissingField f)
-FieldFails (invalid.InvalidField f e) answer = answer ≡ Err (invalid.InvalidField f e)
-FieldFails (invalid.Other t) answer = ⊥
-FieldFails invalid.OutOfMemory answer = Unit {0}
-
--- what a function returned is this answer of a table of fields, unless memory ran out
+-- what a function returned is this answer of a table of fields; or memory ran out
 abbrev pub UnlessMemory : {A : Type 0} → Read A → Read A → Type 0
-UnlessMemory (Ok x) answer = answer ≡ Ok x
-UnlessMemory (Err e) answer = FieldFails e answer
+UnlessMemory result answer = Gives invalid.OutOfMemory result (IsSaid (λ x. x) answer)
 
 -- the text is an object with these members, and nothing else
 abbrev pub IsDocument : List ℕ → List Member → Type 0
-IsDocument bytes ms = (end : ℕ) × HasObject bytes ms end × OnlyBlanksFrom bytes end
+IsDocument bytes ms = (end : ℕ) × HasObject bytes ms end × OnlyWhiteSpaceFrom bytes end
 
 -- an object, and more behind it
 abbrev pub IsFollowed : List ℕ → Type 0
-IsFollowed bytes = (ms : List Member) × (end : ℕ) × HasObject bytes ms end × ¬ (OnlyBlanksFrom bytes end)
+IsFollowed bytes = (ms : List Member) × (end : ℕ) × HasObject bytes ms end × ¬ (OnlyWhiteSpaceFrom bytes end)
 
 abbrev pub more_tokens : List ℕ
 more_tokens = codes "found more JSON tokens after completing parsing"

@@ -1,10 +1,11 @@
-pub mod Gives
+pub mod Reads
 pub mod Characters
-pub mod Blanks
+pub mod WhiteSpace
 pub mod Strings
 pub mod Numbers
 pub mod Values
 pub mod Objects
+pub mod Places
 pub mod Reading
 pub mod ReadingValues
 pub mod ReadingObjects
@@ -15,4 +16,5 @@ pub mod WritingDates
 pub mod Writing
 pub mod Lookups
 pub mod Documents
+pub mod ShownDocuments
 pub mod WrittenObjects

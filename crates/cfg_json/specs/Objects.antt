@@ -1,6 +1,6 @@
 -- The outer object of a text, and the list of its members.
 use Rattle.std.specs.Prelude.{◌≡◌, ℕ, ◌+◌, List, [], ◌∷◌, ◌++◌, length, true}
-use Rattle.cfg_json.specs.Blanks.{AreBlanks}
+use Rattle.cfg_json.specs.WhiteSpace.{IsWhiteSpace}
 use Rattle.cfg_json.specs.Strings.{IsString}
 use Rattle.cfg_json.specs.Numbers.{IsNumber}
 use Rattle.cfg_json.specs.Values.{comma, IsWord, IsKey, IsValue}
@@ -28,9 +28,9 @@ pub record IsMember (at : ℕ) (bytes : List ℕ) (m : Member) : Type 0 where
   pub after : List ℕ
   pub is : bytes ≡ key ++ (before ++ (value ++ after))
   pub is_key : IsKey key m.key
-  pub blanks_before : AreBlanks before
+  pub white_space_before : IsWhiteSpace before
   pub is_value : IsMemberValue (at + length key + length before) value m.value
-  pub blanks_after : AreBlanks after
+  pub white_space_after : IsWhiteSpace after
 
 -- one or more members with commas between, and the brace that ends them, from the place on
 pub data AreMembers : ℕ → List ℕ → List Member → Type 0 where
@@ -39,15 +39,15 @@ pub data AreMembers : ℕ → List ℕ → List Member → Type 0 where
 
 -- an object whose opening brace stands at the place
 pub data IsObject : ℕ → List ℕ → List Member → Type 0 where
-  empty : (at : ℕ) (w t : List ℕ) → AreBlanks w → t ≡ 123 ∷ (w ++ 125 ∷ []) → IsObject at t []
+  empty : (at : ℕ) (w t : List ℕ) → IsWhiteSpace w → t ≡ 123 ∷ (w ++ 125 ∷ []) → IsObject at t []
   members : (at : ℕ) (u t : List ℕ) (ms : List Member) → AreMembers (at + 1) u ms → t ≡ 123 ∷ u → IsObject at t ms
 
 -- an object stands at the front, behind white space, and ends at the place
 pub record HasObject (bytes : List ℕ) (list : List Member) (end : ℕ) : Type 0 where
-  pub blanks : List ℕ
+  pub white_space : List ℕ
   pub text : List ℕ
   pub rest : List ℕ
-  pub is : bytes ≡ blanks ++ (text ++ rest)
-  pub are_blanks : AreBlanks blanks
-  pub object : IsObject (length blanks) text list
-  pub ends : end ≡ length blanks + length text
+  pub is : bytes ≡ white_space ++ (text ++ rest)
+  pub is_white_space : IsWhiteSpace white_space
+  pub object : IsObject (length white_space) text list
+  pub ends : end ≡ length white_space + length text

@@ -5,14 +5,14 @@ use Rattle.std.specs.Char.{is_ascii_digit}
 use Rattle.std.specs.List.{starts_with}
 use Rattle.std.specs.Str.{is_utf8}
 use Rattle.cfg_types.specs.Text.{characters}
-use Rattle.cfg_json.specs.Gives.{◌>>=◌}
+use Rattle.cfg_json.specs.Reads.{◌>>=◌}
 use Rattle.cfg_json.specs.Characters.{quote, backslash, lower_u, is_plain, short_escape, code_unit, is_high, is_low, pair_char}
-use Rattle.cfg_json.specs.Blanks.{is_blank}
+use Rattle.cfg_json.specs.WhiteSpace.{is_json_white_space}
 
 -- what follows the white space at the front
-unfoldable pub after_blanks : List ℕ → List ℕ
-after_blanks [] = []
-after_blanks (x ∷ t) = if is_blank x then after_blanks t else x ∷ t
+unfoldable pub after_white_space : List ℕ → List ℕ
+after_white_space [] = []
+after_white_space (x ∷ t) = if is_json_white_space x then after_white_space t else x ∷ t
 
 -- what follows the byte c
 unfoldable pub mark_at : ℕ → List ℕ → Option (List ℕ)

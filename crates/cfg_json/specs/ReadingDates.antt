@@ -2,7 +2,7 @@
 use Rattle.std.specs.Prelude.{ℕ, ◌+◌, ◌-◌, ◌*◌, ◌/◌, List, [], ◌∷◌, Bool, ◌&&◌, ◌||◌, nat_lt, nat_le, ◌==◌, Option, Some, None, if◌then◌else◌, ℤ, pos, neg_ℤ, ◌-ℤ◌}
 use Rattle.jiff_core.specs.Calendar.{days_in_month}
 use Rattle.cfg_types.specs.Moment.{Moment}
-use Rattle.cfg_json.specs.Gives.{◌>>=◌}
+use Rattle.cfg_json.specs.Reads.{◌>>=◌}
 use Rattle.cfg_json.specs.Reading.{mark_at}
 use Rattle.cfg_json.specs.Dates.{seconds_of, first_weight}
 use Rattle.cfg_json.specs.declared.dates.local.LocalTime.{LocalTime}

@@ -4,11 +4,11 @@ use Rattle.std.specs.Prelude.{ℕ, zero, suc, ◌-◌, List, [], ◌∷◌, ◌+
 use Rattle.cfg_types.specs.Text.{characters}
 use Rattle.cfg_types.specs.declared.document.JsonError.{JsonError}
 use Rattle.cfg_types.specs.declared.document.JsonError.TheVariants as json
-use Rattle.cfg_json.specs.Gives.{◌>>=◌}
+use Rattle.cfg_json.specs.Reads.{◌>>=◌}
 use Rattle.cfg_json.specs.Characters.{quote}
 use Rattle.cfg_json.specs.Values.{comma}
 use Rattle.cfg_json.specs.Objects.{inner_depth}
-use Rattle.cfg_json.specs.Reading.{after_blanks, number_at, word_at, string_at, utf8_of}
+use Rattle.cfg_json.specs.Reading.{after_white_space, number_at, word_at, string_at, utf8_of}
 use Rattle.cfg_json.specs.ReadingValues.{key_at, value_at}
 use Rattle.cfg_json.specs.declared.member.Member.{Member}
 use Rattle.cfg_json.specs.declared.member.MemberValue.{MemberValue}
@@ -39,7 +39,7 @@ member_value_at total [] = None
 member_value_at total (x ∷ t) = if x == quote then text_value_at t else (if (x == 123) || (x == 91) then nested_value_at total (x == 123) (x ∷ t) else option_or (word_value_at (x ∷ t)) (number_value_at (x ∷ t)))
 
 unfoldable pub member_at : ℕ → List ℕ → Option (Member × List ℕ)
-member_at total t = key_at t >>= λ k. member_value_at total (after_blanks k.1) >>= λ v. Some (record { key = k.0; value = v.0 }, after_blanks v.1)
+member_at total t = key_at t >>= λ k. member_value_at total (after_white_space k.1) >>= λ v. Some (record { key = k.0; value = v.0 }, after_white_space v.1)
 
 -- a member and the byte behind it: the member, whether this ends the object, and what follows
 abbrev pub MemberTurn : Type 0
@@ -73,7 +73,7 @@ object_from total t (x ∷ u) = if x == 125 then Some ([], u) else members_at to
 
 -- behind the opening brace
 unfoldable pub object_at : ℕ → List ℕ → Option ReadMembers
-object_at total t = object_from total t (after_blanks t)
+object_at total t = object_from total t (after_white_space t)
 
 -- what reading the front of the bytes gives: the members and what follows the object, or why there is none
 abbrev pub Answer : Type 0
@@ -88,4 +88,4 @@ opened total [] = Err json.NotObject
 opened total (x ∷ t) = if x == 123 then answer_of (object_at total t) else Err json.NotObject
 
 unfoldable pub object_answer : List ℕ → Answer
-object_answer bytes = opened (length bytes) (after_blanks bytes)
+object_answer bytes = opened (length bytes) (after_white_space bytes)

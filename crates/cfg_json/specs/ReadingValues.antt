@@ -1,10 +1,10 @@
 -- Reading a value from left to right: whether an object stands in it, and what follows it.
 use Rattle.std.specs.Option.{option_or}
 use Rattle.std.specs.Prelude.{ℕ, zero, suc, List, [], ◌∷◌, length, Bool, true, false, ◌||◌, ◌==◌, Option, Some, None, if◌then◌else◌}
-use Rattle.cfg_json.specs.Gives.{◌>>=◌}
+use Rattle.cfg_json.specs.Reads.{◌>>=◌}
 use Rattle.cfg_json.specs.Characters.{quote}
 use Rattle.cfg_json.specs.Values.{comma, colon, close_of}
-use Rattle.cfg_json.specs.Reading.{after_blanks, mark_at, number_at, word_at, string_at}
+use Rattle.cfg_json.specs.Reading.{after_white_space, mark_at, number_at, word_at, string_at}
 
 abbrev pub Read : Type 0
 Read = Bool × List ℕ
@@ -23,11 +23,11 @@ leaf_at (x ∷ t) = if x == quote then (string_at t >>= λ p. Some (false, p.1))
 
 -- a key and its colon: the key's characters, and what follows
 unfoldable pub key_at : List ℕ → Option (List ℕ × List ℕ)
-key_at t = mark_at quote (after_blanks t) >>= λ r. string_at r >>= λ k. mark_at colon (after_blanks k.1) >>= λ v. Some (k.0, v)
+key_at t = mark_at quote (after_white_space t) >>= λ r. string_at r >>= λ k. mark_at colon (after_white_space k.1) >>= λ v. Some (k.0, v)
 
 -- a value with the white space round it
 unfoldable pub padded_at : (List ℕ → Option Read) → List ℕ → Option Read
-padded_at value t = value (after_blanks t) >>= λ p. Some (p.0, after_blanks p.1)
+padded_at value t = value (after_white_space t) >>= λ p. Some (p.0, after_white_space p.1)
 
 unfoldable pub item_at : Bool → (List ℕ → Option Read) → List ℕ → Option Read
 item_at false value t = padded_at value t
@@ -59,7 +59,7 @@ inside_from keyed value t (x ∷ u) = if x == close_of keyed then Some (false, u
 
 -- behind the opening bracket
 unfoldable pub inside_at : Bool → (List ℕ → Option Read) → List ℕ → Option Read
-inside_at keyed value t = inside_from keyed value t (after_blanks t)
+inside_at keyed value t = inside_from keyed value t (after_white_space t)
 
 unfoldable pub value_at : ℕ → List ℕ → Option Read
 value_at d [] = None

@@ -1,6 +1,6 @@
 -- Values that nest (RFC 8259, sections 3 to 5), down to a depth.
 use Rattle.std.specs.Prelude.{◌≡◌, ℕ, suc, List, [], ◌∷◌, ◌++◌, Bool, true, false, ◌||◌, ◌⊎◌, codes, if◌then◌else◌}
-use Rattle.cfg_json.specs.Blanks.{AreBlanks}
+use Rattle.cfg_json.specs.WhiteSpace.{IsWhiteSpace}
 use Rattle.cfg_json.specs.Strings.{IsString}
 use Rattle.cfg_json.specs.Numbers.{IsNumber}
 
@@ -24,9 +24,9 @@ pub record IsKey (bytes characters : List ℕ) : Type 0 where
   pub string : List ℕ
   pub after : List ℕ
   pub is : bytes ≡ before ++ (string ++ (after ++ colon ∷ []))
-  pub blanks_before : AreBlanks before
+  pub white_space_before : IsWhiteSpace before
   pub is_string : IsString string characters
-  pub blanks_after : AreBlanks after
+  pub white_space_after : IsWhiteSpace after
 
 -- the depth that is left, the text, and whether an object stands in it
 mutual
@@ -34,14 +34,14 @@ mutual
     string : (d : ℕ) (t s : List ℕ) → IsString t s → IsValue d t false
     number : (d : ℕ) (t : List ℕ) → IsNumber t → IsValue d t false
     word : (d : ℕ) (t : List ℕ) → IsWord t → IsValue d t false
-    no_items : (d : ℕ) (w : List ℕ) → AreBlanks w → IsValue (suc d) (91 ∷ (w ++ 93 ∷ [])) false
+    no_items : (d : ℕ) (w : List ℕ) → IsWhiteSpace w → IsValue (suc d) (91 ∷ (w ++ 93 ∷ [])) false
     items : (d : ℕ) (t : List ℕ) (b : Bool) → AreItems false d t b → IsValue (suc d) (91 ∷ t) b
-    no_members : (d : ℕ) (w : List ℕ) → AreBlanks w → IsValue (suc d) (123 ∷ (w ++ 125 ∷ [])) true
+    no_members : (d : ℕ) (w : List ℕ) → IsWhiteSpace w → IsValue (suc d) (123 ∷ (w ++ 125 ∷ [])) true
     members : (d : ℕ) (t : List ℕ) (b : Bool) → AreItems true d t b → IsValue (suc d) (123 ∷ t) true
 
   -- a value with the white space round it; in an object a key stands before it
   pub data IsItem : Bool → ℕ → List ℕ → Bool → Type 0 where
-    bare : (d : ℕ) (v before after t : List ℕ) (b : Bool) → IsValue d v b → AreBlanks before → AreBlanks after → t ≡ before ++ (v ++ after) → IsItem false d t b
+    bare : (d : ℕ) (v before after t : List ℕ) (b : Bool) → IsValue d v b → IsWhiteSpace before → IsWhiteSpace after → t ≡ before ++ (v ++ after) → IsItem false d t b
     keyed : (d : ℕ) (key name v t : List ℕ) (b : Bool) → IsKey key name → IsItem false d v b → t ≡ key ++ v → IsItem true d t b
 
   -- one or more items with commas between, and what ends them

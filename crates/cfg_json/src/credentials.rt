@@ -1,16 +1,36 @@
-// Documents of credentials.
+//! Documents of credentials, as instance metadata, containers and endpoints answer them.
 ghost use Rattle.std.specs.Prelude.{◌≡◌, IfOk, option_map, Ok, unwrap_or, codes};
-ghost use Rattle.cfg_json.specs.Documents.{UnlessMemory, AnswersDocument, field_text, required as required_text, dated, date_in, refreshable as refreshable_of, refused as refused_of, document_of, IsTable, ReadsDocument, fault_of};
+ghost use Rattle.cfg_json.specs.declared.credentials.JsonCredentials.TheVariants as document;
+ghost use Rattle.cfg_types.specs.Gives.{IsSaid};
+ghost use Rattle.cfg_json.specs.Documents.{UnlessMemory, AnswersDocument, field_text, required as required_text, dated as dated_at, date_in, refreshable as refreshable_of, refused as refused_of, document_of, IsTable, ReadsDocument, fault_of};
 
 use crate::dates::reading::parse_date;
 use crate::lookup::last_text;
 use crate::member::{Member, Members};
 use crate::reading::only_members;
 use cfg_types::{
-    Field, FieldFault, Instant, InvalidJsonCredentials, JsonCredentials, JsonError, OutOfMemory,
-    Text, TryCopy,
+    Field, FieldFault, Instant, InvalidJsonCredentials, JsonError, OutOfMemory, Text, TryCopy,
 };
 use std::alloc::Global;
+use std::fmt;
+
+/// What a document of credentials says.
+#[derive(PartialEq, Eq, Drop)]
+pub enum JsonCredentials {
+    /// Credentials, and when they end.
+    RefreshableCredentials {
+        access_key_id: Text,
+        secret_access_key: Text,
+        session_token: Text,
+        account_id: Option<Text>,
+        expiration: Instant,
+    },
+    /// Why there are none.
+    Error {
+        code: Text,
+        message: Text,
+    },
+}
 
 /// A fault of the text, as a document's error.
 fn text_fault(alloc: Global, error: JsonError) -> InvalidJsonCredentials
@@ -49,17 +69,16 @@ pub fn find_text<'a>(members: &'a [Member], field: Field, other: Field) -> Optio
     last_text(members, field.as_str(), other.as_str())
 }
 
-/// A copy of the last text of a field, or of another one, one of which has to be there.
-pub fn required(
-    alloc: Global,
-    members: &[Member],
+/// The last text of a field, or of another one, one of which has to be there.
+pub fn required<'a>(
+    members: &'a [Member],
     field: Field,
     other: Field,
-) -> Result<Text, InvalidJsonCredentials>
-    ensures { UnlessMemory result (required_text field (field_text members.now field other)) }
+) -> Result<&'a Text, InvalidJsonCredentials>
+    ensures { IsSaid (λ t. t.now) (required_text field (field_text members.now field other)) result }
 {
     match find_text(members, field, other) {
-        Some(text) => Ok(text.copy(alloc)?),
+        Some(text) => Ok(text),
         None => Err(InvalidJsonCredentials::MissingField(field)),
     }
 }
@@ -81,11 +100,11 @@ pub fn optional(
     }
 }
 
-#[tactic(auto, unfolding(crate::specs::Documents::date_in))]
-fn expiration(text: &Text) -> Result<Instant, InvalidJsonCredentials>
-    ensures { UnlessMemory result (dated Field.Expiration (date_in text.now)) }
+/// The moment that an `Expiration` was read as. Where there is none, it is no date.
+pub fn dated(moment: Option<Instant>) -> Result<Instant, InvalidJsonCredentials>
+    ensures { IsSaid (λ m. m) (dated_at Field.Expiration moment) result }
 {
-    match parse_date(text.as_str()) {
+    match moment {
         Some(moment) => Ok(moment),
         None => Err(InvalidJsonCredentials::InvalidField {
             field: Field::Expiration,
@@ -94,20 +113,26 @@ fn expiration(text: &Text) -> Result<Instant, InvalidJsonCredentials>
     }
 }
 
-#[tactic(auto, unfolding(crate::specs::Documents::refreshable))]
-fn refreshable(alloc: Global, members: &[Member]) -> Result<JsonCredentials, InvalidJsonCredentials>
-    ensures { UnlessMemory result (refreshable_of members.now) }
+#[tactic(auto, unfolding(crate::specs::Documents::date_in))]
+fn expiration(text: &Text) -> Result<Instant, InvalidJsonCredentials>
+    ensures { IsSaid (λ m. m) (dated_at Field.Expiration (date_in text.now)) result }
 {
-    let access_key_id = required(alloc, members, Field::AccessKeyId, Field::AccessKeyId)?;
-    let secret_access_key = required(
-        alloc,
-        members,
-        Field::SecretAccessKey,
-        Field::SecretAccessKey,
-    )?;
-    let session_token = required(alloc, members, Field::Token, Field::SessionToken)?;
-    let end = required(alloc, members, Field::Expiration, Field::ExpiresAt)?;
-    let expiration = expiration(&end)?;
+    dated(parse_date(text.as_str()))
+}
+
+fn with_keys(
+    alloc: Global,
+    members: &[Member],
+    id: &Text,
+    secret: &Text,
+    token: &Text,
+    expiration: Instant,
+) -> Result<JsonCredentials, OutOfMemory>
+    ensures { IfOk result (λ d. d ≡ document.RefreshableCredentials id.now secret.now token.now (field_text members.now Field.AccountId Field.AccountId) expiration) }
+{
+    let access_key_id = id.copy(alloc)?;
+    let secret_access_key = secret.copy(alloc)?;
+    let session_token = token.copy(alloc)?;
     let account_id = optional(alloc, members, Field::AccountId)?;
     Ok(JsonCredentials::RefreshableCredentials {
         access_key_id,
@@ -116,6 +141,18 @@ fn refreshable(alloc: Global, members: &[Member]) -> Result<JsonCredentials, Inv
         account_id,
         expiration,
     })
+}
+
+#[tactic(auto, unfolding(crate::specs::Documents::refreshable))]
+fn refreshable(alloc: Global, members: &[Member]) -> Result<JsonCredentials, InvalidJsonCredentials>
+    ensures { UnlessMemory result (refreshable_of members.now) }
+{
+    let id = required(members, Field::AccessKeyId, Field::AccessKeyId)?;
+    let secret = required(members, Field::SecretAccessKey, Field::SecretAccessKey)?;
+    let token = required(members, Field::Token, Field::SessionToken)?;
+    let end = required(members, Field::Expiration, Field::ExpiresAt)?;
+    let expiration = expiration(end)?;
+    Ok(with_keys(alloc, members, id, secret, token, expiration)?)
 }
 
 fn message_of(alloc: Global, members: &[Member]) -> Result<Text, OutOfMemory>
@@ -158,9 +195,18 @@ fn document(alloc: Global, members: &[Member]) -> Result<JsonCredentials, Invali
 /// `ExpiresAt`, and `Message`. Of a field counts the last text, without regard to the case of ASCII
 /// letters.
 ///
-/// A text that is no object is a `JsonError`, and one with more than an object `Other`. Then the
-/// fields that a document with keys needs are missed in their order, and at last an `Expiration`
-/// that is no date is refused.
+/// # Errors
+///
+/// A fault of the text comes before a fault of a field.
+///
+/// - `JsonError(NotObject)`: the first character that is no white space is not `{`, or there is
+///   none.
+/// - `JsonError(Syntax)`: it is `{`, and no prefix of the text is an object.
+/// - `Other`: more than white space follows the object.
+/// - `MissingField`: where `Code` is absent or `Success`, the first of `AccessKeyId`,
+///   `SecretAccessKey`, `Token` and `Expiration` for which there is no text.
+/// - `InvalidField`: all of these are there, and the expiration is no date in UTC.
+/// - `OutOfMemory`: memory runs out.
 pub fn parse_json_credentials(
     alloc: Global,
     text: &str,
@@ -169,4 +215,58 @@ pub fn parse_json_credentials(
 {
     let members = document_members(alloc, text.as_bytes())?;
     document(alloc, members.list.as_slice())
+}
+
+// The text depends on neither the secret nor the session token.
+impl fmt::Debug for JsonCredentials {
+    ghost use Rattle.std.specs.Prelude.{Some};
+    ghost use Rattle.cfg_json.specs.ShownDocuments.{shown_document};
+
+    ghost debug_output = { λ c. Some (shown_document c) };
+
+    fn fmt<W: fmt::Write>(&self, f: &mut fmt::Formatter<W>) -> fmt::Result {
+        match self {
+            JsonCredentials::RefreshableCredentials {
+                access_key_id,
+                secret_access_key: _,
+                session_token: _,
+                account_id,
+                expiration,
+            } => {
+                let id = access_key_id.as_str();
+                let account = ShownAccount(account_id);
+                let seconds = expiration.seconds();
+                let nanos = expiration.nanos();
+                write!(
+                    f,
+                    "RefreshableCredentials {{ access_key_id: \"{id}\", secret_access_key: \"** redacted **\", session_token: \"** redacted **\"{account}, expiration: {seconds} s {nanos} ns }}"
+                )
+            }
+            JsonCredentials::Error { code, message } => {
+                let code = code.as_str();
+                let message = message.as_str();
+                write!(f, "Error {{ code: \"{code}\", message: \"{message}\" }}")
+            }
+        }
+    }
+}
+
+#[derive(Drop)]
+struct ShownAccount<'a>(&'a Option<Text>);
+
+impl fmt::Display for ShownAccount<'_> {
+    ghost use Rattle.std.specs.Prelude.{Some};
+    ghost use Rattle.cfg_types.specs.Shown.{shown_account};
+
+    ghost output = { λ a. Some (shown_account a.0.now) };
+
+    fn fmt<W: fmt::Write>(&self, f: &mut fmt::Formatter<W>) -> fmt::Result {
+        match self.0 {
+            None => Ok(()),
+            Some(account) => {
+                let id = account.as_str();
+                write!(f, ", account_id: \"{id}\"")
+            }
+        }
+    }
 }

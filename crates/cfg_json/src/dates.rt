@@ -1,5 +1,3 @@
-// Dates, as texts and as moments.
-
 pub mod digits;
 pub mod local;
 pub mod reading;

@@ -1,4 +1,3 @@
-// Characters as a string spells them.
 ghost use Rattle.std.specs.Prelude.{◌≡◌, ◌<◌, ◌+◌, ◌≤◌, length, IfSome};
 ghost use Rattle.cfg_json.specs.Characters.{short_escape, code_unit, hex_digit};
 ghost use Rattle.cfg_json.specs.Reading.{hex_at, low_at, unit_at, escape_at, piece_at};

@@ -1,5 +1,5 @@
 //! Laws of the grammar, each on a call that shows it.
-ghost use Rattle.std.specs.Prelude.{◌≡◌, ◌↔◌, ℕ, List, Some, ◌++◌, map, length, true};
+ghost use Rattle.std.specs.Prelude.{◌≡◌, ◌↔◌, ℕ, ◌-◌, List, Some, ◌∷◌, ◌++◌, map, length, true};
 ghost use Rattle.std.specs.Str.{encode_utf8_all, all_scalars};
 ghost use Rattle.cfg_json.specs.declared.member.Member.{Member};
 ghost use Rattle.cfg_types.specs.Moment.{Moment};
@@ -9,6 +9,8 @@ ghost use Rattle.cfg_json.specs.Strings.{IsString};
 ghost use Rattle.cfg_json.specs.Writing.{quoted, braced};
 ghost use Rattle.cfg_json.specs.WrittenObjects.{WrittenObject, members_text, HasScalars, Nests, told, told_member};
 ghost use Rattle.cfg_json.specs.Objects.{IsObject, HasObject};
+ghost use Rattle.cfg_json.specs.Places.{between};
+ghost use Rattle.cfg_json.specs.declared.member.MemberValue.TheVariants.{Object};
 
 /// Some bytes have one list of members, and one end of the object.
 pub fn one_list()
@@ -20,6 +22,14 @@ pub fn one_list()
 pub fn no_object_begins_another()
     ensures { (at : ℕ) (t u x y : List ℕ) (list other : List Member)
         → IsObject at t list → IsObject at u other → t ++ x ≡ u ++ y → (t ≡ u) × (list ≡ other) × (x ≡ y) }
+{}
+
+/// The bytes of a member that is an object, from the place where it begins to the place where it
+/// ends, are an object, which can be read in turn.
+pub fn members_that_are_objects_hold_objects()
+    ensures { (bytes : List ℕ) (before after : List Member) (m : Member) (end from to : ℕ)
+        → HasObject bytes (before ++ m ∷ after) end → m.value ≡ Object from to
+        → (inner : List Member) × HasObject (between bytes from to) inner (to - from) }
 {}
 
 /// What is written for a moment stands for it, and so `parse_date` gives the moment back.

@@ -3,7 +3,6 @@
 //! every function here: each equals the grammar that its contract names.
 #![tactic(auto)]
 
-mod blanks;
 mod credentials;
 mod dates;
 mod escapes;
@@ -16,10 +15,11 @@ mod process;
 mod reading;
 mod strings;
 mod values;
+mod white_space;
 mod writer;
 
-pub use cfg_types::{Field, FieldFault, InvalidJsonCredentials, JsonCredentials, JsonError};
-pub use credentials::parse_json_credentials;
+pub use cfg_types::{Field, FieldFault, InvalidJsonCredentials, JsonError, OutOfMemory};
+pub use credentials::{JsonCredentials, parse_json_credentials};
 pub use dates::reading::{parse_date, parse_offset_date};
 pub use dates::writing::write_date;
 pub use member::{Member, MemberValue, Members};

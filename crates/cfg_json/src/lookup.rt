@@ -1,7 +1,6 @@
-// The last member of a name.
+//! The last member of a name.
 ghost use Rattle.std.specs.Prelude.{◌≡◌, option_map};
 ghost use Rattle.std.specs.Str.{str_eq_ignore_ascii_case, encode_utf8_all};
-ghost use Rattle.std.specs.Option.{option_or};
 ghost use Rattle.cfg_json.specs.Lookups.{is_named, text_under, number_under, last_text as last_text_of, last_number as last_number_of};
 
 use crate::member::{Member, MemberValue};
@@ -44,15 +43,6 @@ fn number_of<'a>(member: &'a Member, name: &str) -> Option<&'a Text>
     }
 }
 
-fn or_else<'a>(text: Option<&'a Text>, other: Option<&'a Text>) -> Option<&'a Text>
-    ensures { option_map (λ t. t.now) result ≡ option_or (option_map (λ t. t.now) text.entry) (option_map (λ t. t.now) other.entry) }
-{
-    match text {
-        Some(text) => Some(text),
-        None => other,
-    }
-}
-
 /// The last text under a name, or under another one, without regard to the case of ASCII letters.
 /// Members of another kind change nothing.
 pub fn last_text<'a>(members: &'a [Member], name: &str, other: &str) -> Option<&'a Text>
@@ -60,7 +50,7 @@ pub fn last_text<'a>(members: &'a [Member], name: &str, other: &str) -> Option<&
 {
     let mut found = None;
     for member in members {
-        found = or_else(text_of(member, name, other), found);
+        found = text_of(member, name, other).or(found);
     }
     found
 }
@@ -71,7 +61,7 @@ pub fn last_number<'a>(members: &'a [Member], name: &str) -> Option<&'a Text>
 {
     let mut found = None;
     for member in members {
-        found = or_else(number_of(member, name), found);
+        found = number_of(member, name).or(found);
     }
     found
 }

@@ -1,8 +1,8 @@
-// Members of an object.
+//! Members of an object. Their values may be secrets, so no type here has a Debug text.
 use cfg_types::{Seq, Text};
 
 /// What a member of an object holds.
-#[derive(Debug, PartialEq, Eq, Drop)]
+#[derive(Drop)]
 pub enum MemberValue {
     /// A string, unescaped.
     Text(Text),
@@ -17,7 +17,6 @@ pub enum MemberValue {
 }
 
 /// A member of an object, its key unescaped.
-#[derive(Debug, PartialEq, Eq)]
 pub struct Member {
     pub key: Text,
     pub value: MemberValue,
@@ -32,7 +31,7 @@ impl Drop for Member {
 
 /// The members of an object in their order, repeats kept, and how many bytes the object takes with
 /// what stands before it.
-#[derive(Debug, PartialEq, Eq, Drop)]
+#[derive(Drop)]
 pub struct Members {
     pub list: Seq<Member>,
     pub end: usize,

@@ -1,4 +1,3 @@
-// Numbers and words.
 ghost use Rattle.std.specs.Prelude.{◌≡◌, option_map};
 ghost use Rattle.cfg_json.specs.Reading.{after_digits, digits_at, after_minus, after_sign, whole_at, fraction_at, exponent_at, number_at, after_front, word_at};
 

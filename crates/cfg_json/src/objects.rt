@@ -1,22 +1,21 @@
-// The outer object.
 ghost use Rattle.std.specs.Prelude.{◌≡◌, length};
-ghost use Rattle.cfg_json.specs.Gives.{Gives};
+ghost use Rattle.cfg_json.specs.Reads.{Reads};
 ghost use Rattle.cfg_json.specs.ReadingObjects.{text_from, number_value_at, text_value_at, nested_value_at, word_value_at, member_value_at, member_at, member_turn_at, members_at, object_at};
 
-use crate::blanks::skip_blanks;
 use crate::member::{Member, MemberValue};
 use crate::numbers::{skip_number, skip_word};
 use crate::strings::{read_string, utf8_text};
 use crate::values::{read_key, skip_value};
+use crate::white_space::skip_white_space;
 use cfg_types::{JsonError, Text};
 use std::alloc::Global;
 
-/// How deep values nest inside the outer object.
+/// How deep values nest inside the outer object: 128 levels in all, its own taken.
 const INNER_DEPTH: u8 = 127;
 
 #[tactic(auto, unfolding(crate::specs::ReadingObjects::text_from))]
 fn text_of_bytes(alloc: Global, bytes: &[u8]) -> Result<Text, JsonError>
-    ensures { Gives (λ t. t) result (text_from bytes.now) }
+    ensures { Reads (λ t. t) result (text_from bytes.now) }
 {
     let Some(text) = utf8_text(bytes) else {
         return Err(JsonError::Syntax);
@@ -26,7 +25,7 @@ fn text_of_bytes(alloc: Global, bytes: &[u8]) -> Result<Text, JsonError>
 
 #[tactic(auto, unfolding(crate::specs::ReadingObjects::number_value_at))]
 fn read_number(alloc: Global, text: &[u8]) -> Result<(MemberValue, &[u8]), JsonError>
-    ensures { Gives (λ p. (p.0, p.1.now)) result (number_value_at text.now) }
+    ensures { Reads (λ p. (p.0, p.1.now)) result (number_value_at text.now) }
 {
     let Some(rest) = skip_number(text) else {
         return Err(JsonError::Syntax);
@@ -38,7 +37,7 @@ fn read_number(alloc: Global, text: &[u8]) -> Result<(MemberValue, &[u8]), JsonE
 
 #[tactic(auto, unfolding(crate::specs::ReadingObjects::text_value_at))]
 fn read_text(alloc: Global, text: &[u8]) -> Result<(MemberValue, &[u8]), JsonError>
-    ensures { Gives (λ p. (p.0, p.1.now)) result (text_value_at text.now) }
+    ensures { Reads (λ p. (p.0, p.1.now)) result (text_value_at text.now) }
 {
     let (text, rest) = read_string(alloc, text)?;
     Ok((MemberValue::Text(text), rest))
@@ -51,7 +50,7 @@ fn read_nested(
     total: usize,
     keyed: bool,
 ) -> Result<(MemberValue, &[u8]), JsonError>
-    ensures { Gives (λ p. (p.0, p.1.now)) result (nested_value_at total keyed text.now) }
+    ensures { Reads (λ p. (p.0, p.1.now)) result (nested_value_at total keyed text.now) }
 {
     let (has_object, rest) = skip_value(alloc, text, INNER_DEPTH)?;
     if keyed {
@@ -65,7 +64,7 @@ fn read_nested(
 
 #[tactic(auto, unfolding(crate::specs::ReadingObjects::member_value_at, crate::specs::ReadingObjects::word_value_at))]
 fn read_value(alloc: Global, text: &[u8], total: usize) -> Result<(MemberValue, &[u8]), JsonError>
-    ensures { Gives (λ p. (p.0, p.1.now)) result (member_value_at total text.now) }
+    ensures { Reads (λ p. (p.0, p.1.now)) result (member_value_at total text.now) }
 {
     let Some((x, inside)) = text.split_first() else {
         return Err(JsonError::Syntax);
@@ -84,16 +83,16 @@ fn read_value(alloc: Global, text: &[u8], total: usize) -> Result<(MemberValue, 
 
 #[tactic(auto, unfolding(crate::specs::ReadingObjects::member_at))]
 fn read_member(alloc: Global, text: &[u8], total: usize) -> Result<(Member, &[u8]), JsonError>
-    ensures { Gives (λ p. (p.0, p.1.now)) result (member_at total text.now) }
+    ensures { Reads (λ p. (p.0, p.1.now)) result (member_at total text.now) }
 {
     let (key, rest) = read_key(alloc, text)?;
-    let (value, rest) = read_value(alloc, skip_blanks(rest), total)?;
-    Ok((Member { key, value }, skip_blanks(rest)))
+    let (value, rest) = read_value(alloc, skip_white_space(rest), total)?;
+    Ok((Member { key, value }, skip_white_space(rest)))
 }
 
 #[tactic(auto, unfolding(crate::specs::ReadingObjects::member_turn_at))]
 fn read_turn(alloc: Global, text: &[u8], total: usize) -> Result<(Member, bool, &[u8]), JsonError>
-    ensures { Gives (λ p. (p.0, p.1, p.2.now)) result (member_turn_at total text.now) }
+    ensures { Reads (λ p. (p.0, p.1, p.2.now)) result (member_turn_at total text.now) }
 {
     let (member, after) = read_member(alloc, text, total)?;
     let Some((x, next)) = after.split_first() else {
@@ -109,7 +108,7 @@ fn read_turn(alloc: Global, text: &[u8], total: usize) -> Result<(Member, bool, 
 }
 
 fn read_members(alloc: Global, text: &[u8], total: usize) -> Result<(Vec<Member>, &[u8]), JsonError>
-    ensures { Gives (λ p. (p.0.items, p.1.now)) result (members_at total (length text.now) text.now) }
+    ensures { Reads (λ p. (p.0.items, p.1.now)) result (members_at total (length text.now) text.now) }
 {
     let mut members = Vec::new(alloc);
     let mut rest = text;
@@ -134,9 +133,9 @@ pub fn read_object(
     text: &[u8],
     total: usize,
 ) -> Result<(Vec<Member>, &[u8]), JsonError>
-    ensures { Gives (λ p. (p.0.items, p.1.now)) result (object_at total text.now) }
+    ensures { Reads (λ p. (p.0.items, p.1.now)) result (object_at total text.now) }
 {
-    let Some((x, rest)) = skip_blanks(text).split_first() else {
+    let Some((x, rest)) = skip_white_space(text).split_first() else {
         return Err(JsonError::Syntax);
     };
     if *x == b'}' {

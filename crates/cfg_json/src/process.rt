@@ -1,11 +1,12 @@
-// Documents that a credential process prints.
+//! Documents that a credential process prints.
 ghost use Rattle.std.specs.Option.{option_or};
-ghost use Rattle.std.specs.Prelude.{◌≡◌, IfOk, option_map, None, codes, []};
+ghost use Rattle.std.specs.Prelude.{◌≡◌, IfOk, option_map, codes, []};
 ghost use Rattle.cfg_types.specs.Field.{field_name};
 ghost use Rattle.cfg_json.specs.Lookups.{last_number as last_number_of};
-ghost use Rattle.cfg_json.specs.Documents.{UnlessMemory, AnswersDocument, ReadsWhole, ReadsVersion, field_text, dated, offset_date_in, known_version, optional_end as end_of, process_of, IsProcessTable};
+ghost use Rattle.cfg_types.specs.Gives.{IsSaid};
+ghost use Rattle.cfg_json.specs.Documents.{UnlessMemory, AnswersDocument, ReadsWhole, ReadsVersion, field_text, dated as dated_at, offset_date_in, known_version, optional_end as end_of, process_of, IsProcessTable};
 
-use crate::credentials::{document_members, find_text, optional, required};
+use crate::credentials::{dated, document_members, find_text, optional, required};
 use crate::dates::reading::parse_offset_date;
 use crate::lookup::last_number;
 use crate::member::Member;
@@ -34,7 +35,7 @@ fn version_of(members: &[Member]) -> Option<Option<i32>>
 }
 
 fn check_version(version: Option<Option<i32>>) -> Result<(), InvalidJsonCredentials>
-    ensures { UnlessMemory result (known_version version) }
+    ensures { IsSaid (λ u. u) (known_version version) result }
 {
     match version {
         None => Err(InvalidJsonCredentials::MissingField(Field::Version)),
@@ -51,25 +52,19 @@ fn check_version(version: Option<Option<i32>>) -> Result<(), InvalidJsonCredenti
 }
 
 #[tactic(auto, unfolding(crate::specs::Documents::offset_date_in))]
-fn end_of_text(text: &Text) -> Result<Instant, InvalidJsonCredentials>
-    ensures { UnlessMemory result (dated Field.Expiration (offset_date_in text.now)) }
+fn expiration(text: &Text) -> Result<Instant, InvalidJsonCredentials>
+    ensures { IsSaid (λ m. m) (dated_at Field.Expiration (offset_date_in text.now)) result }
 {
-    match parse_offset_date(text.as_str()) {
-        Some(moment) => Ok(moment),
-        None => Err(InvalidJsonCredentials::InvalidField {
-            field: Field::Expiration,
-            fault: FieldFault::Date,
-        }),
-    }
+    dated(parse_offset_date(text.as_str()))
 }
 
 fn optional_end(members: &[Member]) -> Result<Option<Instant>, InvalidJsonCredentials>
-    ensures { UnlessMemory result (end_of (field_text members.now Field.Expiration Field.Expiration)) }
+    ensures { IsSaid (λ o. o) (end_of (field_text members.now Field.Expiration Field.Expiration)) result }
 {
     let Some(text) = find_text(members, Field::Expiration, Field::Expiration) else {
         return Ok(None);
     };
-    let moment = end_of_text(text)?;
+    let moment = expiration(text)?;
     Ok(Some(moment))
 }
 
@@ -93,61 +88,35 @@ fn account_of(
     }
 }
 
-fn with_token(
-    builder: CredentialsBuilder,
-    token: Option<Text>,
-) -> Result<CredentialsBuilder, OutOfMemory>
-    requires { builder.session_token ≡ None }
-    ensures { IfOk result (λ b. b ≡ record builder { session_token = token }) }
-{
-    match token {
-        None => Ok(builder),
-        Some(token) => builder.session_token(token.as_str()),
-    }
-}
-
-fn with_end(builder: CredentialsBuilder, end: Option<Instant>) -> CredentialsBuilder
-    requires { builder.expiry ≡ None }
-    ensures { result ≡ record builder { expiry = end } }
-{
-    match end {
-        None => builder,
-        Some(end) => builder.expiry(end),
-    }
-}
-
-fn with_account(builder: CredentialsBuilder, account: Option<AccountId>) -> CredentialsBuilder
-    requires { builder.account_id ≡ None }
-    ensures { result ≡ record builder { account_id = account } }
-{
-    match account {
-        None => builder,
-        Some(account) => builder.account_id(account),
-    }
-}
-
-fn keys_of(
+fn with_keys(
     alloc: Global,
+    members: &[Member],
     id: &Text,
     secret: &Text,
-    token: Option<Text>,
     end: Option<Instant>,
-    account: Option<AccountId>,
+    profile: Option<&AccountId>,
 ) -> Result<Credentials, OutOfMemory>
     ensures { IfOk result (λ k. k ≡ record {
       access_key_id = id.now;
       secret_access_key = secret.now;
-      session_token = token;
+      session_token = field_text members.now Field.SessionToken Field.SessionToken;
       expiry = end;
-      account_id = account;
+      account_id = option_or (field_text members.now Field.AccountId Field.AccountId) (option_map (λ a. a.now) profile.entry);
       provider_name = codes "CredentialProcess";
       features = [];
     }) }
 {
-    let bare = CredentialsBuilder::new(alloc, id.as_str(), secret.as_str(), "CredentialProcess")?;
-    let builder = with_token(bare, token)?;
-    let builder = with_end(builder, end);
-    let builder = with_account(builder, account);
+    let token = optional(alloc, members, Field::SessionToken)?;
+    let account = account_of(alloc, members, profile)?;
+    let mut builder = CredentialsBuilder::new(
+        alloc,
+        id.as_str(),
+        secret.as_str(),
+        "CredentialProcess",
+    )?;
+    builder.set_session_token(token);
+    builder.set_expiry(end);
+    builder.set_account_id(account);
     builder.build()
 }
 
@@ -161,27 +130,31 @@ fn process_document(
     ensures { UnlessMemory result (process_of members.now version (option_map (λ a. a.now) profile.entry)) }
 {
     check_version(version)?;
-    let id = required(alloc, members, Field::AccessKeyId, Field::AccessKeyId)?;
-    let secret = required(
-        alloc,
-        members,
-        Field::SecretAccessKey,
-        Field::SecretAccessKey,
-    )?;
+    let id = required(members, Field::AccessKeyId, Field::AccessKeyId)?;
+    let secret = required(members, Field::SecretAccessKey, Field::SecretAccessKey)?;
     let end = optional_end(members)?;
-    let token = optional(alloc, members, Field::SessionToken)?;
-    let account = account_of(alloc, members, profile)?;
-    Ok(keys_of(alloc, &id, &secret, token, end, account)?)
+    Ok(with_keys(alloc, members, id, secret, end, profile)?)
 }
 
 /// The credentials that the document of a process holds: the text of one JSON object with the
 /// fields `Version`, which is the last number of that name and has to be 1, `AccessKeyId`,
 /// `SecretAccessKey`, `SessionToken`, `Expiration` and `AccountId`. Where it names no account, the
-/// credentials are of the profile's.
+/// credentials are of the profile's. Their provider is `CredentialProcess`.
 ///
-/// A text that is no object is a `JsonError`, and one with more than an object `Other`. Then come a
-/// `Version` that is no whole number of 32 bits, a missing one, one other than 1, a missing key or
-/// secret, and an `Expiration` that is no date.
+/// # Errors
+///
+/// A fault of the text comes before a fault of a field, and the faults of fields in this order.
+///
+/// - `JsonError(NotObject)`: the first character that is no white space is not `{`, or there is
+///   none.
+/// - `JsonError(Syntax)`: it is `{`, and no prefix of the text is an object.
+/// - `Other`: more than white space follows the object.
+/// - `InvalidField` of `Version`: it is no whole number of 32 bits.
+/// - `MissingField` of `Version`: there is none.
+/// - `InvalidField` of `version`: it is not 1.
+/// - `MissingField` of `AccessKeyId`, then of `SecretAccessKey`: there is no such text.
+/// - `InvalidField` of `Expiration`: it is no date with a zone.
+/// - `OutOfMemory`: memory runs out.
 pub fn parse_credential_process_json_credentials(
     alloc: Global,
     text: &str,

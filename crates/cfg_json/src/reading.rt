@@ -1,20 +1,19 @@
-// Whole objects, at the front of some bytes.
 ghost use Rattle.std.specs.Prelude.{◌≡◌, ℕ, List, Ok, Err, IfOk, IsErrOf};
 ghost use Rattle.cfg_json.specs.declared.member.Member.{Member};
 ghost use Rattle.cfg_json.specs.Objects.{HasObject};
 ghost use Rattle.cfg_json.specs.ReadingObjects.{object_answer};
-ghost use Rattle.cfg_json.specs.Answers.{Answers, member_list, OpensObject, OpensOther, HasNoObject, OnlyBlanksFrom, list_answer, only_list_answer, only_answer};
+ghost use Rattle.cfg_json.specs.Answers.{Answers, member_list, OpensObject, OpensOther, HasNoObject, OnlyWhiteSpaceFrom, list_answer, only_list_answer, only_answer};
 
-use crate::blanks::skip_blanks;
 use crate::member::{Member, Members};
 use crate::objects::read_object;
+use crate::white_space::skip_white_space;
 use cfg_types::{JsonError, Seq};
 use std::alloc::Global;
 
 fn read_front(alloc: Global, bytes: &[u8]) -> Result<(Vec<Member>, &[u8]), JsonError>
     ensures { Answers (λ p. (p.0.items, p.1.now)) result (object_answer bytes.now) }
 {
-    let Some((x, inside)) = skip_blanks(bytes).split_first() else {
+    let Some((x, inside)) = skip_white_space(bytes).split_first() else {
         return Err(JsonError::NotObject);
     };
     if *x != b'{' {
@@ -27,7 +26,7 @@ fn read_only(alloc: Global, bytes: &[u8]) -> Result<(Vec<Member>, &[u8]), JsonEr
     ensures { Answers (λ p. (p.0.items, p.1.now)) result (only_answer bytes.now) }
 {
     let (list, rest) = read_front(alloc, bytes)?;
-    if skip_blanks(rest).is_empty() {
+    if skip_white_space(rest).is_empty() {
         Ok((list, rest))
     } else {
         Err(JsonError::More)
@@ -54,18 +53,18 @@ fn only_list(alloc: Global, bytes: &[u8]) -> Result<Members, JsonError>
     })
 }
 
-/// The members of the object at the front of the bytes, behind white space. What follows the object
-/// is not looked at.
+/// The members of the object that stands first in the bytes, after white space at most, and the
+/// place where it ends. What follows the object is not looked at.
 ///
-/// It answers `NotObject` where the first byte that is no white space is not `{`, or there is none,
-/// and `Syntax` where it is `{` and no front of the bytes is an object.
+/// # Errors
+///
+/// - `NotObject`: the first byte that is no white space is not `{`, or there is none.
+/// - `Syntax`: it is `{`, and no prefix of the bytes is an object.
+/// - `OutOfMemory`: memory runs out.
 pub fn members(alloc: Global, bytes: &[u8]) -> Result<Members, JsonError>
-    // What is answered stands in the bytes.
     ensures found { IfOk result (λ m. HasObject bytes.now m.list m.end) }
-    // What stands in the bytes is answered, unless memory runs out.
     ensures only { (list : List Member) (end : ℕ) → HasObject bytes.now list end → Answers member_list result (Ok (list, end)) }
 
-    // When each error comes, and that it comes there, unless memory runs out.
     ensures not_object { IsErrOf result JsonError.NotObject → OpensOther bytes.now }
     ensures opens_other { OpensOther bytes.now → Answers member_list result (Err JsonError.NotObject) }
     ensures syntax { IsErrOf result JsonError.Syntax → OpensObject bytes.now × HasNoObject bytes.now }
@@ -75,19 +74,22 @@ pub fn members(alloc: Global, bytes: &[u8]) -> Result<Members, JsonError>
     front_list(alloc, bytes)
 }
 
-/// The same, of bytes that hold nothing but the object and white space.
+/// The members of the object that the bytes are, with white space around it at most, and the place
+/// where it ends.
 ///
-/// It answers `More` where an object stands at the front, and a byte that is no white space follows.
+/// # Errors
+///
+/// Those of `members`, and `More`: an object stands first, and more than white space follows.
 pub fn only_members(alloc: Global, bytes: &[u8]) -> Result<Members, JsonError>
-    ensures found { IfOk result (λ m. HasObject bytes.now m.list m.end × OnlyBlanksFrom bytes.now m.end) }
-    ensures only { (list : List Member) (end : ℕ) → HasObject bytes.now list end → OnlyBlanksFrom bytes.now end → Answers member_list result (Ok (list, end)) }
+    ensures found { IfOk result (λ m. HasObject bytes.now m.list m.end × OnlyWhiteSpaceFrom bytes.now m.end) }
+    ensures only { (list : List Member) (end : ℕ) → HasObject bytes.now list end → OnlyWhiteSpaceFrom bytes.now end → Answers member_list result (Ok (list, end)) }
 
     ensures not_object { IsErrOf result JsonError.NotObject → OpensOther bytes.now }
     ensures opens_other { OpensOther bytes.now → Answers member_list result (Err JsonError.NotObject) }
     ensures syntax { IsErrOf result JsonError.Syntax → OpensObject bytes.now × HasNoObject bytes.now }
     ensures broken { OpensObject bytes.now → HasNoObject bytes.now → Answers member_list result (Err JsonError.Syntax) }
-    ensures more { IsErrOf result JsonError.More → (list : List Member) × (end : ℕ) × HasObject bytes.now list end × ¬ (OnlyBlanksFrom bytes.now end) }
-    ensures followed { (list : List Member) (end : ℕ) → HasObject bytes.now list end → ¬ (OnlyBlanksFrom bytes.now end) → Answers member_list result (Err JsonError.More) }
+    ensures more { IsErrOf result JsonError.More → (list : List Member) × (end : ℕ) × HasObject bytes.now list end × ¬ (OnlyWhiteSpaceFrom bytes.now end) }
+    ensures followed { (list : List Member) (end : ℕ) → HasObject bytes.now list end → ¬ (OnlyWhiteSpaceFrom bytes.now end) → Answers member_list result (Err JsonError.More) }
 {
     only_list(alloc, bytes)
 }

@@ -1,10 +1,9 @@
-// Strings.
 ghost use Rattle.std.specs.Prelude.{◌≡◌, ◌<◌, ◌++◌, ◌==◌, ◌&&◌, not, length, IfSome, IfOk, OnOk, true, false, Some, None, option_map, string_bytes};
 ghost use Rattle.std.specs.List.{list_all};
 ghost use Rattle.std.specs.Char.{encode_utf8};
 ghost use lib.Utf8.{scalar};
 ghost use Rattle.cfg_types.specs.Text.{characters};
-ghost use Rattle.cfg_json.specs.Gives.{Gives};
+ghost use Rattle.cfg_json.specs.Reads.{Reads};
 ghost use Rattle.cfg_json.specs.Characters.{quote, backslash, is_plain as is_plain_character};
 ghost use Rattle.cfg_json.specs.Reading.{end_of, content_of, utf8_of, text_of, string_at};
 
@@ -60,7 +59,7 @@ pub fn push_character(out: &mut String, c: char) -> Result<(), OutOfMemory>
 }
 
 fn unescaped(alloc: Global, text: &[char]) -> Result<String, JsonError>
-    ensures { Gives (λ s. characters (string_bytes s)) result (content_of 0 text.now) }
+    ensures { Reads (λ s. characters (string_bytes s)) result (content_of 0 text.now) }
 {
     let mut out = String::new(alloc);
     let mut rest = text;
@@ -81,14 +80,14 @@ pub fn characters_of(alloc: Global, text: &str) -> Result<Vec<char>, AllocError>
 }
 
 fn unescaped_text(alloc: Global, text: &[char]) -> Result<Text, JsonError>
-    ensures { Gives (λ t. t) result (content_of 0 text.now) }
+    ensures { Reads (λ t. t) result (content_of 0 text.now) }
 {
     let unescaped = unescaped(alloc, text)?;
     Ok(Text::from_string(unescaped))
 }
 
 fn content(alloc: Global, text: &str) -> Result<Text, JsonError>
-    ensures { Gives (λ t. t) result (content_of 0 (characters text.now)) }
+    ensures { Reads (λ t. t) result (content_of 0 (characters text.now)) }
 {
     if all_plain(text) {
         return Ok(Text::of(alloc, text)?);
@@ -109,7 +108,7 @@ pub fn utf8_text(bytes: &[u8]) -> Option<&str>
 
 #[tactic(auto, unfolding(crate::specs::Reading::text_of))]
 fn text_between(alloc: Global, bytes: &[u8]) -> Result<Text, JsonError>
-    ensures { Gives (λ t. t) result (text_of bytes.now) }
+    ensures { Reads (λ t. t) result (text_of bytes.now) }
 {
     let Some(text) = utf8_text(bytes) else {
         return Err(JsonError::Syntax);
@@ -120,7 +119,7 @@ fn text_between(alloc: Global, bytes: &[u8]) -> Result<Text, JsonError>
 /// The characters of the string whose first quotation mark was read, and what follows it.
 #[tactic(auto, unfolding(crate::specs::Reading::string_at))]
 pub fn read_string(alloc: Global, text: &[u8]) -> Result<(Text, &[u8]), JsonError>
-    ensures { Gives (λ x. (x.0, x.1.now)) result (string_at text.now) }
+    ensures { Reads (λ x. (x.0, x.1.now)) result (string_at text.now) }
 {
     let Some(end) = string_end(text) else {
         return Err(JsonError::Syntax);

@@ -1,12 +1,11 @@
-// Values that nest.
 ghost use Rattle.std.specs.Prelude.{◌≡◌, option_map, length};
-ghost use Rattle.cfg_json.specs.Gives.{Gives};
+ghost use Rattle.cfg_json.specs.Reads.{Reads};
 ghost use Rattle.cfg_json.specs.Values.{close_of};
 ghost use Rattle.cfg_json.specs.ReadingValues.{scalar_at, leaf_at, key_at, padded_at, item_at, turn_at, items_at, inside_at, value_at};
 
-use crate::blanks::{skip_blanks, skip_mark};
 use crate::numbers::{skip_number, skip_word};
 use crate::strings::read_string;
+use crate::white_space::{skip_mark, skip_white_space};
 use cfg_types::{JsonError, Text};
 use std::alloc::Global;
 
@@ -22,7 +21,7 @@ fn skip_scalar(text: &[u8]) -> Option<&[u8]>
 
 #[tactic(auto, unfolding(crate::specs::ReadingValues::leaf_at))]
 fn skip_leaf(alloc: Global, text: &[u8]) -> Result<(bool, &[u8]), JsonError>
-    ensures { Gives (λ p. (p.0, p.1.now)) result (leaf_at text.now) }
+    ensures { Reads (λ p. (p.0, p.1.now)) result (leaf_at text.now) }
 {
     let Some((x, inside)) = text.split_first() else {
         return Err(JsonError::Syntax);
@@ -40,13 +39,13 @@ fn skip_leaf(alloc: Global, text: &[u8]) -> Result<(bool, &[u8]), JsonError>
 /// A key and its colon, and what follows.
 #[tactic(auto, unfolding(crate::specs::ReadingValues::key_at))]
 pub fn read_key(alloc: Global, text: &[u8]) -> Result<(Text, &[u8]), JsonError>
-    ensures { Gives (λ p. (p.0, p.1.now)) result (key_at text.now) }
+    ensures { Reads (λ p. (p.0, p.1.now)) result (key_at text.now) }
 {
-    let Some(inside) = skip_mark(b'"', skip_blanks(text)) else {
+    let Some(inside) = skip_mark(b'"', skip_white_space(text)) else {
         return Err(JsonError::Syntax);
     };
     let (key, rest) = read_string(alloc, inside)?;
-    let Some(value) = skip_mark(b':', skip_blanks(rest)) else {
+    let Some(value) = skip_mark(b':', skip_white_space(rest)) else {
         return Err(JsonError::Syntax);
     };
     Ok((key, value))
@@ -62,7 +61,7 @@ fn closing(keyed: bool) -> u8
 #[cycle(nesting)]
 #[tactic(auto, unfolding(crate::specs::ReadingValues::value_at))]
 pub fn skip_value(alloc: Global, text: &[u8], depth: u8) -> Result<(bool, &[u8]), JsonError>
-    ensures { Gives (λ p. (p.0, p.1.now)) result (value_at depth text.now) }
+    ensures { Reads (λ p. (p.0, p.1.now)) result (value_at depth text.now) }
 {
     let Some((x, inside)) = text.split_first() else {
         return Err(JsonError::Syntax);
@@ -88,9 +87,9 @@ fn skip_inside(
     depth: u8,
     keyed: bool,
 ) -> Result<(bool, &[u8]), JsonError>
-    ensures { Gives (λ p. (p.0, p.1.now)) result (inside_at keyed (value_at depth) text.now) }
+    ensures { Reads (λ p. (p.0, p.1.now)) result (inside_at keyed (value_at depth) text.now) }
 {
-    let Some((x, rest)) = skip_blanks(text).split_first() else {
+    let Some((x, rest)) = skip_white_space(text).split_first() else {
         return Err(JsonError::Syntax);
     };
     if *x == closing(keyed) {
@@ -106,7 +105,7 @@ fn skip_items(
     depth: u8,
     keyed: bool,
 ) -> Result<(bool, &[u8]), JsonError>
-    ensures { Gives (λ p. (p.0, p.1.now)) result (items_at keyed (value_at depth) (length text.now) text.now) }
+    ensures { Reads (λ p. (p.0, p.1.now)) result (items_at keyed (value_at depth) (length text.now) text.now) }
 {
     let mut has = false;
     let mut rest = text;
@@ -132,7 +131,7 @@ fn skip_turn(
     depth: u8,
     keyed: bool,
 ) -> Result<(bool, bool, &[u8]), JsonError>
-    ensures { Gives (λ p. (p.0, p.1, p.2.now)) result (turn_at keyed (value_at depth) text.now) }
+    ensures { Reads (λ p. (p.0, p.1, p.2.now)) result (turn_at keyed (value_at depth) text.now) }
 {
     let (has, after) = skip_item(alloc, text, depth, keyed)?;
     let Some((x, next)) = after.split_first() else {
@@ -150,7 +149,7 @@ fn skip_turn(
 #[cycle(nesting)]
 #[tactic(auto, unfolding(crate::specs::ReadingValues::item_at))]
 fn skip_item(alloc: Global, text: &[u8], depth: u8, keyed: bool) -> Result<(bool, &[u8]), JsonError>
-    ensures { Gives (λ p. (p.0, p.1.now)) result (item_at keyed (value_at depth) text.now) }
+    ensures { Reads (λ p. (p.0, p.1.now)) result (item_at keyed (value_at depth) text.now) }
 {
     if !keyed {
         return skip_padded(alloc, text, depth);
@@ -162,8 +161,8 @@ fn skip_item(alloc: Global, text: &[u8], depth: u8, keyed: bool) -> Result<(bool
 #[cycle(nesting)]
 #[tactic(auto, unfolding(crate::specs::ReadingValues::padded_at))]
 fn skip_padded(alloc: Global, text: &[u8], depth: u8) -> Result<(bool, &[u8]), JsonError>
-    ensures { Gives (λ p. (p.0, p.1.now)) result (padded_at (value_at depth) text.now) }
+    ensures { Reads (λ p. (p.0, p.1.now)) result (padded_at (value_at depth) text.now) }
 {
-    let (has, rest) = skip_value(alloc, skip_blanks(text), depth)?;
-    Ok((has, skip_blanks(rest)))
+    let (has, rest) = skip_value(alloc, skip_white_space(text), depth)?;
+    Ok((has, skip_white_space(rest)))
 }

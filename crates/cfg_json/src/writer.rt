@@ -1,4 +1,4 @@
-// Objects that are written.
+//! Objects that are written, member by member.
 ghost use Rattle.std.specs.Prelude.{◌≡◌, ◌++◌, ◌∷◌, [], ◌<◌, ◌/◌, ◌%◌, true, false, OnOk, IfOk};
 ghost use Rattle.std.specs.List.{flat_map};
 ghost use Rattle.std.specs.Char.{digit_char, encode_utf8};
@@ -88,10 +88,9 @@ fn hex_digit(n: u32) -> char
     requires { n < 16 }
     ensures { result ≡ digit_char n }
 {
-    if n < 10 {
-        (48 + n as u8) as char
-    } else {
-        (87 + n as u8) as char
+    match char::from_digit(n, 16) {
+        Some(digit) => digit,
+        None => unreachable!(),
     }
 }
 
@@ -100,10 +99,7 @@ fn push_code(out: &mut Written, code: u32) -> Result<(), OutOfMemory>
     requires { code < 32 }
     ensures { OnOk result (out.new ≡ out.old ++ 92 ∷ 117 ∷ 48 ∷ 48 ∷ digit_char (code / 16) ∷ digit_char (code % 16) ∷ []) }
 {
-    out.push('\\')?;
-    out.push('u')?;
-    out.push('0')?;
-    out.push('0')?;
+    out.push_text("\\u00")?;
     out.push(hex_digit(code / 16))?;
     out.push(hex_digit(code % 16))
 }

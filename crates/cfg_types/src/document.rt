@@ -1,8 +1,7 @@
-// Documents of credentials, and what can be wrong with them.
+// What can be wrong with a document of credentials.
 ghost use Rattle.std.specs.Prelude.{◌≡◌};
 ghost use Rattle.cfg_types.specs.Field.{field_name};
 
-use crate::instant::Instant;
 use crate::memory::OutOfMemory;
 use crate::text::Text;
 use std::alloc::{AllocError, AllocFailed};
@@ -97,24 +96,6 @@ pub enum FieldFault {
     UnknownVersion(i32),
     /// It is no date.
     Date,
-}
-
-/// What a document of credentials says.
-#[derive(PartialEq, Eq, Drop)]
-pub enum JsonCredentials {
-    /// Credentials, and when they end.
-    RefreshableCredentials {
-        access_key_id: Text,
-        secret_access_key: Text,
-        session_token: Text,
-        account_id: Option<Text>,
-        expiration: Instant,
-    },
-    /// Why there are none.
-    Error {
-        code: Text,
-        message: Text,
-    },
 }
 
 /// Why a text is no document of credentials.
@@ -249,59 +230,5 @@ impl From<OutOfMemory> for InvalidJsonCredentials {
 
     fn from(_: OutOfMemory) -> InvalidJsonCredentials {
         InvalidJsonCredentials::OutOfMemory
-    }
-}
-
-// The text depends on neither the secret nor the session token.
-impl fmt::Debug for JsonCredentials {
-    ghost use Rattle.std.specs.Prelude.{Some};
-    ghost use Rattle.cfg_types.specs.DocumentText.{shown_document};
-
-    ghost debug_output = { λ c. Some (shown_document c) };
-
-    fn fmt<W: fmt::Write>(&self, f: &mut fmt::Formatter<W>) -> fmt::Result {
-        match self {
-            JsonCredentials::RefreshableCredentials {
-                access_key_id,
-                secret_access_key: _,
-                session_token: _,
-                account_id,
-                expiration,
-            } => {
-                let id = access_key_id.as_str();
-                let account = ShownAccount(account_id);
-                let seconds = expiration.seconds();
-                let nanos = expiration.nanos();
-                write!(
-                    f,
-                    "RefreshableCredentials {{ access_key_id: \"{id}\", secret_access_key: \"** redacted **\", session_token: \"** redacted **\"{account}, expiration: {seconds} s {nanos} ns }}"
-                )
-            }
-            JsonCredentials::Error { code, message } => {
-                let code = code.as_str();
-                let message = message.as_str();
-                write!(f, "Error {{ code: \"{code}\", message: \"{message}\" }}")
-            }
-        }
-    }
-}
-
-#[derive(Drop)]
-struct ShownAccount<'a>(&'a Option<Text>);
-
-impl fmt::Display for ShownAccount<'_> {
-    ghost use Rattle.std.specs.Prelude.{Some};
-    ghost use Rattle.cfg_types.specs.Shown.{shown_account};
-
-    ghost output = { λ a. Some (shown_account a.0.now) };
-
-    fn fmt<W: fmt::Write>(&self, f: &mut fmt::Formatter<W>) -> fmt::Result {
-        match self.0 {
-            None => Ok(()),
-            Some(account) => {
-                let id = account.as_str();
-                write!(f, ", account_id: \"{id}\"")
-            }
-        }
     }
 }

@@ -26,7 +26,7 @@ pub use boxed::Boxed;
 pub use bytes::Bytes;
 pub use copies::{TryCopy, copy_option};
 pub use credentials::{AccountId, AwsCredentialFeature, Credentials, CredentialsBuilder};
-pub use document::{Field, FieldFault, InvalidJsonCredentials, JsonCredentials, JsonError};
+pub use document::{Field, FieldFault, InvalidJsonCredentials, JsonError};
 pub use environment::{Env, EnvText, VarError};
 pub use errors::{
     Class, ConfigCause, CredentialsError, NotLoadedCause, ProfileFileError, ProviderAttempt,

@@ -1,15 +1,14 @@
-// Numbers of a fixed count of digits.
 ghost use Rattle.std.specs.Prelude.{◌≡◌, ◌<◌, ◌≤◌, option_map, IfSome};
 ghost use Rattle.cfg_json.specs.ReadingDates.{digit, two_at, four_at, next_at, either_at};
 
-use crate::blanks::skip_mark;
+use crate::white_space::skip_mark;
 
 pub fn digit_of(byte: u8) -> Option<u32>
     ensures value { result ≡ digit byte }
     ensures small { IfSome result (λ d. d ≤ 9) }
 {
     if b'0' <= byte && byte <= b'9' {
-        Some(u32::from(byte - 48))
+        Some(u32::from(byte - b'0'))
     } else {
         None
     }

@@ -1,7 +1,5 @@
-// A date and a time of day.
-
 /// A date and a time of day, in no zone.
-#[derive(Clone, Copy, Debug, PartialEq, Eq)]
+#[derive(Clone, Copy)]
 pub struct LocalTime {
     pub year: u16,
     pub month: u16,

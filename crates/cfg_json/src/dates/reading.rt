@@ -1,4 +1,3 @@
-// Dates that are read.
 ghost use Rattle.std.specs.Prelude.{◌≡◌, ◌≤◌, ◌<◌, ◌+◌, ◌*◌, ℤ, pos, negsuc, ◌≤ℤ◌, ◌-ℤ◌, true, false, IsTrue, IfSome, Some, option_map};
 ghost use Rattle.jiff_core.specs.Calendar.{days_from_civil, IsEpochDay};
 ghost use Rattle.cfg_types.specs.Moment.{Moment};
@@ -113,6 +112,7 @@ fn read_offset(text: &[u8]) -> Option<u32>
     }
 }
 
+// An offset is at most 23:59, so less than a day of 86400 seconds.
 #[tactic(auto, unfolding(crate::specs::ReadingDates::zone_of))]
 fn read_zone(text: &[u8], offsets: bool) -> Option<i64>
     ensures value { result ≡ zone_of offsets text.now }
@@ -168,6 +168,7 @@ fn day_of(local: LocalTime) -> i64
     date.to_unix_epoch_day() as i64
 }
 
+// The bound is a round one that the years 1 to 9999 keep to, so that an offset may be taken off.
 #[tactic(auto, unfolding(crate::specs::Dates::seconds_of))]
 fn count_seconds(local: LocalTime) -> i64
     requires date { IsTrue (is_civil local.year local.month local.day) }
@@ -180,7 +181,6 @@ fn count_seconds(local: LocalTime) -> i64
     day_of(local) * 86400 + time
 }
 
-// The moment of a local time in a zone that is so far ahead.
 fn moment_of(local: LocalTime, nanos: u32, offset: i64) -> Option<Instant>
     requires date { IsTrue (is_civil local.year local.month local.day) }
     requires clock { IsTrue (is_clock local.hour local.minute local.second) }
@@ -209,8 +209,9 @@ fn read_moment(text: &[u8], offsets: bool) -> Option<Instant>
     }
 }
 
-/// The moment that a date in UTC stands for, as `2009-02-13T23:31:30.5Z`: a year of 1 to 9999, and
-/// a fraction of at most nine digits. None exactly where the text is no such date.
+/// The moment that a date in UTC stands for, as `2009-02-13T23:31:30.5Z` (RFC 3339, section 5.6):
+/// a year of 1 to 9999, and a fraction of at most nine digits. None exactly where the text is no
+/// such date.
 pub fn parse_date(text: &str) -> Option<Instant>
     ensures found { IfSome result (IsDateText (characters text.now)) }
     ensures only { (m : Moment) → IsDateText (characters text.now) m → result ≡ Some m }
@@ -219,8 +220,8 @@ pub fn parse_date(text: &str) -> Option<Instant>
     read_moment(text.as_bytes(), false)
 }
 
-/// The same of a date whose zone may also be an offset, as `+02:00`: the moment is the local time
-/// less the offset.
+/// The moment that a date in UTC or with an offset stands for, as `2009-02-14T01:31:30+02:00`: with
+/// an offset it is the local time less the offset. None exactly where the text is no such date.
 pub fn parse_offset_date(text: &str) -> Option<Instant>
     ensures found { IfSome result (IsOffsetDateText (characters text.now)) }
     ensures only { (m : Moment) → IsOffsetDateText (characters text.now) m → result ≡ Some m }

@@ -1,4 +1,3 @@
-// Dates that are written.
 ghost use Rattle.std.specs.Prelude.{◌≡◌, ◌<◌, ◌≤◌, ◌+◌, ◌*◌, ◌++◌, ◌∷◌, [], pos, ◌+ℤ◌, ◌*ℤ◌, ◌-ℤ◌, negsuc, ◌<ℤ◌, ◌⊎◌, OnOk, IfOk, IfSome, IfNone, None};
 ghost use Rattle.std.specs.Int.{int_rem_euclid};
 ghost use Rattle.jiff_core.specs.Calendar.{days_from_civil};
@@ -31,8 +30,8 @@ fn push_two(out: &mut Vec<u8>, n: u16) -> Result<(), OutOfMemory>
     requires { n < 100 }
     ensures { OnOk result (out.new.items ≡ out.old.items ++ two n) }
 {
-    push(out, 48 + (n / 10) as u8)?;
-    push(out, 48 + (n % 10) as u8)
+    push(out, b'0' + (n / 10) as u8)?;
+    push(out, b'0' + (n % 10) as u8)
 }
 
 #[tactic(auto, using(std::proofs::lemmas::Grind::common_steps))]
@@ -49,9 +48,9 @@ fn push_three(out: &mut Vec<u8>, n: u32) -> Result<(), OutOfMemory>
     requires { n < 1000 }
     ensures { OnOk result (out.new.items ≡ out.old.items ++ three n) }
 {
-    push(out, 48 + (n / 100) as u8)?;
-    push(out, 48 + (n / 10 % 10) as u8)?;
-    push(out, 48 + (n % 10) as u8)
+    push(out, b'0' + (n / 100) as u8)?;
+    push(out, b'0' + (n / 10 % 10) as u8)?;
+    push(out, b'0' + (n % 10) as u8)
 }
 
 #[tactic(auto, using(std::proofs::lemmas::Grind::common_steps), unfolding(crate::specs::WritingDates::nine))]
@@ -158,6 +157,7 @@ fn time_in(seconds: i64) -> u32
     seconds.rem_euclid(86400) as u32
 }
 
+// The day -719162 is 0001-01-01, and 2932896 is 9999-12-31.
 fn date_of(day: i64) -> Option<(u16, u16, u16)>
     ensures value { IfSome result (λ d. IsCommonDate d.0 d.1 d.2 × (days_from_civil (pos d.0) d.1 d.2 ≡ day)) }
     ensures none { IfNone result ((day <ℤ negsuc 719161) ⊎ (pos 2932896 <ℤ day)) }

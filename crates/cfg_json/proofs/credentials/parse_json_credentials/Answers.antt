@@ -1,7 +1,7 @@
 use Rattle.std.proofs.Common.{refl}
 use Rattle.std.proofs.lemmas.Result.{err_from_is_err_and}
 use Rattle.cfg_json.specs.Documents.{IsTable, document_of}
-use Rattle.cfg_json.proofs.DocumentLaws.{text_fails_at, fields_answer}
+use Rattle.cfg_json.proofs.DocumentLaws.{text_fails_at, fields_answer, document_fields}
 use Rattle.cfg_json.proofs.credentials.parse_json_credentials.Goals as goal
 
 pub returns-in_err-members : goal.returns-in_err-members
@@ -9,4 +9,4 @@ returns-in_err-members c = let p = err_from_is_err_and c.from_residual.result c.
 
 pub returns : goal.returns
 returns c =
-    fields_answer IsTable c.args.text.now c.in_ok-members.members.list (document_of c.in_ok-members.members.list) c.document.result (rw c.as_bytes.ensures.value at c.in_ok-members.ensures) refl (rw c.as_slice.ensures at c.document.ensures)
+    fields_answer IsTable c.args.text.now c.in_ok-members.members.list (document_of c.in_ok-members.members.list) c.document.result (rw c.as_bytes.ensures.value at c.in_ok-members.ensures) refl (document_fields c.in_ok-members.members.list) (rw c.as_slice.ensures at c.document.ensures)

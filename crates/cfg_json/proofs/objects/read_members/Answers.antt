@@ -1,4 +1,4 @@
-use Rattle.std.proofs.Common.{length}
+use Rattle.std.proofs.Common.{inr, refl, length}
 use Rattle.cfg_json.proofs.ListSteps.{members_fail, members_end, members_further, members_run_out}
 use Rattle.cfg_json.proofs.objects.read_members.Goals as goal
 
@@ -16,4 +16,4 @@ loop-preserved c =
     (members_further c.args.total (length c.args.text.now) c.loop.counter c.loop.rest.now c.in-Ok.turn.2.now c.loop.members.items c.in-Ok.turn.0 c.in-Ok.turn.1 _ c.loop-test.true c.in-Ok.ensures c.if-ends.false c.loop.invariant)
 
 pub returns : goal.returns
-returns c = members_run_out c.args.total (length c.args.text.now) c.loop.counter c.loop.rest.now c.loop.members.items _ c.loop-test.false c.loop.invariant
+returns c = inr (refl, members_run_out c.args.total (length c.args.text.now) c.loop.counter c.loop.rest.now c.loop.members.items _ c.loop-test.false c.loop.invariant)

@@ -1,10 +1,10 @@
-use Rattle.std.proofs.Common.{sym}
+use Rattle.std.proofs.Common.{inr, refl, sym}
 use Rattle.std.proofs.lemmas.Str.{IsUtf8-string_bytes}
 use Rattle.cfg_json.proofs.StringSteps.{content_further, content_ends, content_fails}
 use Rattle.cfg_json.proofs.strings.unescaped.Goals as goal
 
 pub returns-in_default-piece : goal.returns-in_default-piece
-returns-in_default-piece c = content_fails _ c.loop-after.rest.now _ c.in-Some.after.now _ c.in-Some.ensures.cases.0 (sym c.in_default-piece.ensures.value) c.loop-after.invariant
+returns-in_default-piece c = inr (refl, content_fails _ c.loop-after.rest.now _ c.in-Some.after.now _ c.in-Some.ensures.cases.0 (sym c.in_default-piece.ensures.value) c.loop-after.invariant)
 
 pub loop-after-preserved : goal.loop-after-preserved
 loop-after-preserved c =

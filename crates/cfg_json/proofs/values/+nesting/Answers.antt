@@ -1,4 +1,4 @@
-use Rattle.std.proofs.Common.{length}
+use Rattle.std.proofs.Common.{inr, refl, length}
 use Rattle.cfg_json.specs.ReadingValues.{value_at}
 use Rattle.cfg_json.proofs.ListSteps.{items_fail, items_end, items_further, items_run_out}
 use Rattle.cfg_json.proofs.values.+nesting.Goals as goal
@@ -15,4 +15,4 @@ skip_items-loop-preserved t c =
     items_further c.args.keyed (value_at c.args.depth) (length c.args.text.now) c.loop.counter c.loop.rest.now c.in-Ok.turn.2.now c.loop.has c.in-Ok.turn.0 c.in-Ok.turn.1 _ c.loop-test.true c.in-Ok.ensures c.if-ends.false c.loop.invariant
 
 pub skip_items-returns : goal.skip_items-returns
-skip_items-returns t c = items_run_out c.args.keyed (value_at c.args.depth) (length c.args.text.now) c.loop.counter c.loop.rest.now c.loop.has _ c.loop-test.false c.loop.invariant
+skip_items-returns t c = inr (refl, items_run_out c.args.keyed (value_at c.args.depth) (length c.args.text.now) c.loop.counter c.loop.rest.now c.loop.has _ c.loop-test.false c.loop.invariant)

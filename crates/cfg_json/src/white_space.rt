@@ -1,21 +1,20 @@
-// White space, and single bytes.
 ghost use Rattle.std.specs.Prelude.{◌≡◌, option_map};
-ghost use Rattle.cfg_json.specs.Blanks.{is_blank as is_blank_byte};
-ghost use Rattle.cfg_json.specs.Reading.{after_blanks, mark_at};
+ghost use Rattle.cfg_json.specs.WhiteSpace.{is_json_white_space as is_white_space_byte};
+ghost use Rattle.cfg_json.specs.Reading.{after_white_space, mark_at};
 
-pub fn is_blank(byte: u8) -> bool
-    ensures { result ≡ is_blank_byte byte }
+pub fn is_json_white_space(byte: u8) -> bool
+    ensures { result ≡ is_white_space_byte byte }
 {
     byte == b' ' || byte == b'\t' || byte == b'\n' || byte == b'\r'
 }
 
 /// What follows the white space at the front.
-pub fn skip_blanks(text: &[u8]) -> &[u8]
-    ensures { result.now ≡ after_blanks text.now }
+pub fn skip_white_space(text: &[u8]) -> &[u8]
+    ensures { result.now ≡ after_white_space text.now }
 {
     let mut rest = text;
     while let Some((x, after)) = rest.split_first() {
-        if !is_blank(*x) {
+        if !is_json_white_space(*x) {
             break;
         }
         rest = after;
