@@ -3,10 +3,11 @@ ghost use Rattle.std.specs.Prelude.{◌≡◌, IfOk};
 
 use crate::memory::OutOfMemory;
 use std::alloc::Global;
+use std::fmt;
 use std::marker::Model;
 
 /// A value behind a pointer, so that an error may hold an error. Contracts see the value.
-#[derive(Debug, Drop)]
+#[derive(Drop)]
 pub struct Boxed<T> {
     inner: Box<T>,
 }
@@ -44,6 +45,14 @@ impl<T: Drop> Boxed<T> {
         Ok(Boxed {
             inner: Box::new(alloc, value)?,
         })
+    }
+}
+
+impl<T: fmt::Debug> fmt::Debug for Boxed<T> {
+    ghost debug_output = { T.debug_output };
+
+    fn fmt<W: fmt::Write>(&self, f: &mut fmt::Formatter<W>) -> fmt::Result {
+        fmt::Debug::fmt(self.get(), f)
     }
 }
 
