@@ -3,7 +3,7 @@ ghost use Rattle.std.specs.Prelude.{◌≡◌, Option, option_map, map};
 ghost use Rattle.serde_json.specs.Data.{Data};
 ghost use Rattle.serde_json.specs.View.{view, items_view};
 ghost use Rattle.cfg_script.specs.Forms.{each, list_from};
-ghost use Rattle.cfg_script.specs.Gives.{Gives};
+ghost use Rattle.cfg_script.specs.Gives.{GivesPart};
 
 use crate::script::ScriptError;
 use crate::value::items_of;
@@ -21,12 +21,12 @@ pub(crate) trait Part: Drop {
     fn read(alloc: Global, value: Value) -> Result<Self, ScriptError>
     where
         Self: Sized,
-        ensures { Gives seen result (form (view value)) };
+        ensures { GivesPart seen result (form (view value)) };
 }
 
 /// Each item of a list, read.
 pub(crate) fn parts_of<P: Part>(alloc: Global, items: Vec<Value>) -> Result<Vec<P>, ScriptError>
-    ensures { Gives (λ v. map P.seen v.items) result (each P.form (items_view items.items)) }
+    ensures { GivesPart (λ v. map P.seen v.items) result (each P.form (items_view items.items)) }
 {
     let mut parts = Vec::with_capacity(alloc, items.len())?;
     for value in items {
@@ -40,7 +40,7 @@ pub(crate) fn parts_under<P: Part>(
     alloc: Global,
     member: Option<Value>,
 ) -> Result<Vec<P>, ScriptError>
-    ensures { Gives (λ v. map P.seen v.items) result (list_from P.form (option_map view member)) }
+    ensures { GivesPart (λ v. map P.seen v.items) result (list_from P.form (option_map view member)) }
 {
     let Some(value) = member else {
         return Ok(Vec::new(alloc));

@@ -1,7 +1,7 @@
 // From bytes to a script.
 ghost use Rattle.std.specs.Prelude.{◌≡◌, IfOk, Ok, Err};
 ghost use Rattle.serde_json.specs.View.{view, members_view};
-ghost use Rattle.cfg_script.specs.Gives.{Gives, GivesScript};
+ghost use Rattle.cfg_script.specs.Gives.{GivesPart, GivesScript};
 ghost use Rattle.cfg_script.specs.Held.{script_parts};
 ghost use Rattle.cfg_script.specs.Reading.{script_parts_in, plain_of, plain_from, json_value, script_of_members, script_of};
 ghost use Rattle.cfg_script.specs.Script.{plain, NoScript, NotBuilt};
@@ -18,7 +18,7 @@ use std::alloc::Global;
 
 #[tactic(auto, using(crate::proofs::Bytes::value_is, crate::proofs::Bytes::none_is))]
 fn value_of(alloc: Global, bytes: &[u8]) -> Result<Value, ScriptError>
-    ensures { Gives view result (json_value bytes.now) }
+    ensures { GivesPart view result (json_value bytes.now) }
 {
     match Value::from_slice(alloc, bytes) {
         Ok(value) => Ok(value),
@@ -62,7 +62,7 @@ fn script_members(mut members: Map<String, Value>) -> ScriptMembers
 
 #[tactic(auto, unfolding(crate::specs::Reading::plain_of))]
 fn script_by(alloc: Global, members: ScriptMembers) -> Result<Script, ScriptError>
-    ensures { Gives plain result (plain_of (script_parts members)) }
+    ensures { GivesPart plain result (plain_of (script_parts members)) }
 {
     let ScriptMembers {
         variables,
@@ -90,7 +90,7 @@ fn script_by(alloc: Global, members: ScriptMembers) -> Result<Script, ScriptErro
 
 #[tactic(auto, unfolding(crate::specs::Reading::plain_from))]
 fn script_in(alloc: Global, members: Map<String, Value>) -> Result<Script, ScriptError>
-    ensures { Gives plain result (plain_from (members_view members.entries)) }
+    ensures { GivesPart plain result (plain_from (members_view members.entries)) }
 {
     if !every_named::<Built>(&members) {
         return Err(ScriptError::NoScript);

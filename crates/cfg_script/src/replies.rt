@@ -1,7 +1,7 @@
 // Replies of the Security Token Service.
 ghost use Rattle.std.specs.Prelude.{◌≡◌, option_map, map};
 ghost use Rattle.serde_json.specs.View.{view, members_view};
-ghost use Rattle.cfg_script.specs.Gives.{Gives};
+ghost use Rattle.cfg_script.specs.Gives.{GivesPart};
 ghost use Rattle.cfg_script.specs.Held.{credential_parts};
 ghost use Rattle.cfg_script.specs.Replies.{fail_kind, refusal_kind, required_text as required, optional_text as optional, required_moment as moment_at, refusal_of, refusal_from, credential_parts_in, credentials_of, credentials_from, object_reply, reply_from, replies_in, replies_from};
 
@@ -193,7 +193,7 @@ fn read_replies(
     alloc: Global,
     mut members: Map<String, Value>,
 ) -> Result<Vec<Result<Reply, FailKind>>, ScriptError>
-    ensures { Gives (λ v. v.items) result (replies_in (members_view members.entries)) }
+    ensures { GivesPart (λ v. v.items) result (replies_in (members_view members.entries)) }
 {
     if !every_named::<BuiltReplies>(&members) {
         return Err(ScriptError::NoScript);
@@ -206,7 +206,7 @@ pub(crate) fn replies_under(
     alloc: Global,
     member: Option<Value>,
 ) -> Result<Vec<Result<Reply, FailKind>>, ScriptError>
-    ensures { Gives (λ v. v.items) result (replies_from (option_map view member)) }
+    ensures { GivesPart (λ v. v.items) result (replies_from (option_map view member)) }
 {
     let Some(value) = member else {
         return Ok(Vec::new(alloc));

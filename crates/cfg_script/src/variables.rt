@@ -2,7 +2,7 @@
 ghost use Rattle.std.specs.Prelude.{◌≡◌, option_map};
 ghost use Rattle.serde_json.specs.View.{view};
 ghost use Rattle.cfg_types.specs.TextMap.{named};
-ghost use Rattle.cfg_script.specs.Gives.{Gives};
+ghost use Rattle.cfg_script.specs.Gives.{GivesPart};
 ghost use Rattle.cfg_script.specs.Script.{property_bytes, section_bytes};
 ghost use Rattle.cfg_script.specs.Variables.{env_text_from, variable_from, property_from, section_from};
 
@@ -77,7 +77,7 @@ impl Part for (String, String) {
 
 #[tactic(auto, unfolding(crate::specs::Variables::section_from))]
 fn read_section(alloc: Global, value: Value) -> Result<(String, Vec<(String, String)>), ScriptError>
-    ensures { Gives section_bytes result (section_from (view value)) }
+    ensures { GivesPart section_bytes result (section_from (view value)) }
 {
     let (name, properties) = pair_of(value).ok_or(ScriptError::NoScript)?;
     let name = text_of(name).ok_or(ScriptError::NoScript)?;
