@@ -2,3 +2,4 @@ pub mod TextLemmas
 pub mod MapLookups
 pub mod InstantOrder
 pub mod Trimming
+pub mod StyledWrites

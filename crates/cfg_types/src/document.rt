@@ -151,14 +151,17 @@ impl fmt::Display for FieldFault {
 
     ghost output = { λ e. Some (field_fault_text e) };
 
+    ghost styled_output = { λ e _. Some (field_fault_text e) };
+
     fn fmt<W: fmt::Write>(&self, f: &mut fmt::Formatter<W>) -> fmt::Result {
         match self {
-            FieldFault::Version => write!(f, "not a whole number of 32 bits"),
+            FieldFault::Version => f.write_str("not a whole number of 32 bits"),
             FieldFault::UnknownVersion(n) => {
-                let n = *n;
-                write!(f, "unknown version number: {n}")
+                let mut digits = itoa::Buffer::new();
+                f.write_str("unknown version number: ")?;
+                f.write_str(digits.format(*n))
             }
-            FieldFault::Date => write!(f, "not a date"),
+            FieldFault::Date => f.write_str("not a date"),
         }
     }
 }
@@ -169,20 +172,27 @@ impl fmt::Display for InvalidJsonCredentials {
 
     ghost output = { λ e. Some (invalid_credentials_text e) };
 
+    ghost styled_output = { λ e _. Some (invalid_credentials_text e) };
+
     fn fmt<W: fmt::Write>(&self, f: &mut fmt::Formatter<W>) -> fmt::Result {
         match self {
-            InvalidJsonCredentials::JsonError(e) => write!(f, "invalid JSON in response: {e}"),
+            InvalidJsonCredentials::JsonError(e) => {
+                f.write_str("invalid JSON in response: ")?;
+                e.fmt(f)
+            }
             InvalidJsonCredentials::MissingField(field) => {
-                write!(f, "Expected field `{field}` in response but it was missing")
+                f.write_str("Expected field `")?;
+                f.write_str(field.as_str())?;
+                f.write_str("` in response but it was missing")
             }
             InvalidJsonCredentials::InvalidField { field, fault } => {
-                write!(f, "Invalid field in response: `{field}`. {fault}")
+                f.write_str("Invalid field in response: `")?;
+                f.write_str(field.as_str())?;
+                f.write_str("`. ")?;
+                fault.fmt(f)
             }
-            InvalidJsonCredentials::Other(text) => {
-                let text = text.as_str();
-                write!(f, "{text}")
-            }
-            InvalidJsonCredentials::OutOfMemory => write!(f, "out of memory"),
+            InvalidJsonCredentials::Other(text) => f.write_str(text.as_str()),
+            InvalidJsonCredentials::OutOfMemory => f.write_str("out of memory"),
         }
     }
 }
