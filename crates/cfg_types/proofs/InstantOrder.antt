@@ -1,9 +1,9 @@
 -- Moments by their parts and by their numbers.
-use Rattle.std.proofs.Common.{◌≡◌, ℕ, ◌<◌, arith}
-use Rattle.std.specs.Prelude.{ℤ, pos, ◌+ℤ◌, ◌*ℤ◌, ◌<ℤ◌}
+use Rattle.std.proofs.Common.{◌≡◌, ℕ, ◌<◌, true, refl, arith}
+use Rattle.std.specs.Prelude.{◌↔◌, ℤ, pos, ◌+ℤ◌, ◌*ℤ◌, ◌<ℤ◌}
 use Rattle.std.specs.declared.cmp.Ordering.{Ordering}
 use Rattle.std.specs.declared.cmp.Ordering.TheVariants.{Less, Equal, Greater}
-use Rattle.std.specs.Ordering.{MatchOrdering, ordering_then, nat_cmp, int_cmp}
+use Rattle.std.specs.Ordering.{MatchOrdering, ordering_then, nat_cmp, int_cmp, is_lt}
 use Rattle.std.specs.Cmp.{ranks, int_ranks, int_cmp_is}
 use Rattle.std.proofs.lemmas.Int.{ints}
 use Rattle.cfg_types.specs.Moment.{Moment}
@@ -32,3 +32,12 @@ same_seconds a b low high e = omega (arith, ints, e)
 
 pub same_nanos : (a b : Moment) → a.nanos < 1000000000 → b.nanos < 1000000000 → number a ≡ number b → a.nanos ≡ b.nanos
 same_nanos a b low high e = omega (arith, ints, e)
+
+ranked_below : (r : Ordering) (x y : ℤ) → MatchOrdering r (x <ℤ y) (x ≡ y) (y <ℤ x) → (is_lt r ≡ true) ↔ (x <ℤ y)
+ranked_below Less x y rank = (λ e. rank, λ below. refl)
+ranked_below Equal x y rank = (λ e. cc, λ below. absurd (omega (arith, ints, rank, below)))
+ranked_below Greater x y rank = (λ e. cc, λ below. absurd (omega (arith, ints, rank, below)))
+
+-- what compares as below is below
+pub is_below : (x y : ℤ) → (is_lt (int_cmp x y) ≡ true) ↔ (x <ℤ y)
+is_below x y = ranked_below (int_cmp x y) x y (int_ranks x y)

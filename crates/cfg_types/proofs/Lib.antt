@@ -3,3 +3,4 @@ pub mod MapLookups
 pub mod InstantOrder
 pub mod Trimming
 pub mod StyledWrites
+pub mod LastNames
