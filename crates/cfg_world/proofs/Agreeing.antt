@@ -1,10 +1,8 @@
 -- One inquiry over answers that agree has one journal and one outcome.
-use Rattle.std.proofs.Common.{◌≡◌, List, [], ◌∷◌, ◌++◌, ◌⊎◌, inl, inr, refl, sym, ap, ◌∙◌, subst}
-use Rattle.cfg_world.specs.declared.ask.Question.{Question}
-use Rattle.cfg_world.specs.declared.ask.Answer.{Answer}
+use Rattle.std.proofs.Common.{◌≡◌, List, [], ◌∷◌, refl, sym, ap, ◌∙◌, subst}
 use Rattle.cfg_world.specs.declared.script.DeviceLists.{DeviceLists}
 use Rattle.cfg_world.specs.Fits.{Pair}
-use Rattle.cfg_world.specs.Inquiry.{Inquiry, Done, Ask, Reads, Begun, after}
+use Rattle.cfg_world.specs.Inquiry.{Inquiry, Done, Ask, Reads}
 use Rattle.cfg_world.specs.Script.{Place, answer_at, place_after, Given}
 use Rattle.cfg_world.specs.Agreeing.{AnswerAlike}
 

@@ -1,5 +1,5 @@
 -- Beginnings of one inquiry's journals.
-use Rattle.std.proofs.Common.{◌≡◌, ◌↔◌, List, [], ◌∷◌, ◌++◌, ◌⊎◌, inl, inr, refl, sym, ap, ◌∙◌, subst}
+use Rattle.std.proofs.Common.{◌≡◌, List, [], ◌∷◌, ◌++◌, ◌⊎◌, inl, inr, refl, sym, ap, ◌∙◌, subst}
 use Rattle.cfg_world.specs.Fits.{Pair}
 use Rattle.cfg_world.specs.Inquiry.{Inquiry, Done, Ask, Reads, Begun, after}
 use Rattle.cfg_world.specs.Agreeing.{AnswerAlike}

@@ -1,6 +1,6 @@
 -- What scripted devices allow, each kind of answer in its own order.
-use Rattle.std.proofs.Common.{rules, arith, ◌≡◌, ◌↔◌, ℕ, zero, suc, ◌+◌, ◌-◌, ◌≤◌, ◌<◌, ◌⊎◌, inl, inr, Bool, true, false, List, [], ◌∷◌, ◌++◌, Option, Some, None, Result, Ok, Err, refl, sym, ap, ◌∙◌, subst}
-use Rattle.std.specs.Prelude.{pos, unwrap_or, slice_get, min, length, nat_lt, if◌then◌else◌}
+use Rattle.std.proofs.Common.{arith, ◌≡◌, ℕ, zero, suc, ◌+◌, ◌-◌, Bool, true, false, List, [], ◌∷◌, Some, Result, Err, refl, sym, ap, ◌∙◌, subst}
+use Rattle.std.specs.Prelude.{unwrap_or, slice_get, min, length, nat_lt, if◌then◌else◌}
 use Rattle.std.proofs.lemmas.Option.{slice_get_past}
 use Rattle.std.proofs.lemmas.Bool.{ltb-true, ltb-false}
 use Rattle.cfg_types.specs.Moment.{Moment}
@@ -13,7 +13,7 @@ use Rattle.cfg_world.specs.declared.ask.Answer.{Answer}
 use Rattle.cfg_world.specs.declared.ask.Answer.TheVariants as answer
 use Rattle.cfg_world.specs.declared.script.DeviceLists.{DeviceLists}
 use Rattle.cfg_world.specs.Fits.{Pair}
-use Rattle.cfg_world.specs.Script.{Place, start, epoch, step, reading_at, sent, sent_at, answer_at, place_after, Given}
+use Rattle.cfg_world.specs.Script.{Place, start, epoch, step, reading_at, sent, sent_at, place_after, Given}
 use Rattle.cfg_world.specs.Ordered.{nth_reading, nth_item, clock_answers, send_answers, InOrder}
 
 -- the place of a list of n items that was asked so often, and one place further

@@ -7,9 +7,9 @@ use std::io::{Read, Write};
 
 /// A reader as a source. Each error of the reader is a fault.
 ///
-/// The clauses tell what an answer of `read` leaves of the bytes and of the count of faults. The
-/// standard library does not say when a reader fails, so no clause refuses a body that hides an
-/// error of the reader as the end of the input where the bytes are not known; a test does.
+/// The clauses tell what each answer leaves of the bytes and of the count of faults. The standard
+/// library does not say when a reader fails, so no clause refuses a body that asks the reader once
+/// more after its error; a test does.
 #[derive(Drop)]
 pub struct ReaderSource<R: Read + Drop> {
     reader: R,
@@ -53,9 +53,9 @@ impl<R: Read + Drop> Source for ReaderSource<R> {
 
 /// A writer as a sink. Each error of the writer is a fault, and so is each write that takes nothing.
 ///
-/// The clauses tell what an answer of `write` adds to the bytes and to the count of faults. The
-/// standard library does not say when a writer fails, so no clause refuses a body that asks once
-/// more after an error of the writer; a test does.
+/// The clauses tell what each answer adds to the bytes and to the count of faults. The standard
+/// library does not say when a writer fails, so no clause refuses a body that asks the writer once
+/// more after its error; a test does.
 #[derive(Drop)]
 pub struct WriterSink<W: Write + Drop> {
     writer: W,
