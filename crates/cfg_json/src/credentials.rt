@@ -2,7 +2,7 @@
 ghost use Rattle.std.specs.Prelude.{◌≡◌, IfOk, option_map, Ok, unwrap_or, codes};
 ghost use Rattle.cfg_json.specs.declared.credentials.JsonCredentials.TheVariants as document;
 ghost use Rattle.cfg_types.specs.Gives.{IsSaid};
-ghost use Rattle.cfg_json.specs.Documents.{UnlessMemory, AnswersDocument, field_text, required as required_text, dated as dated_at, date_in, refreshable as refreshable_of, refused as refused_of, document_of, IsTable, ReadsDocument, fault_of};
+ghost use Rattle.cfg_json.specs.Documents.{UnlessMemory, AnswersDocument, field_text, required as required_text, dated as dated_at, refreshable as refreshable_of, refused as refused_of, document_of, IsTable, ReadsDocument, fault_of};
 
 use crate::dates::reading::parse_date;
 use crate::lookup::last_text;
@@ -15,7 +15,7 @@ use std::alloc::Global;
 use std::fmt;
 
 /// What a document of credentials says.
-#[derive(PartialEq, Eq, Drop)]
+#[derive(Drop)]
 pub enum JsonCredentials {
     /// Credentials, and when they end.
     RefreshableCredentials {
@@ -113,13 +113,6 @@ pub fn dated(moment: Option<Instant>) -> Result<Instant, InvalidJsonCredentials>
     }
 }
 
-#[tactic(auto, unfolding(crate::specs::Documents::date_in))]
-fn expiration(text: &Text) -> Result<Instant, InvalidJsonCredentials>
-    ensures { IsSaid (λ m. m) (dated_at Field.Expiration (date_in text.now)) result }
-{
-    dated(parse_date(text.as_str()))
-}
-
 fn with_keys(
     alloc: Global,
     members: &[Member],
@@ -143,7 +136,7 @@ fn with_keys(
     })
 }
 
-#[tactic(auto, unfolding(crate::specs::Documents::refreshable))]
+#[tactic(auto, unfolding(crate::specs::Documents::refreshable, crate::specs::Documents::date_in))]
 fn refreshable(alloc: Global, members: &[Member]) -> Result<JsonCredentials, InvalidJsonCredentials>
     ensures { UnlessMemory result (refreshable_of members.now) }
 {
@@ -151,7 +144,7 @@ fn refreshable(alloc: Global, members: &[Member]) -> Result<JsonCredentials, Inv
     let secret = required(members, Field::SecretAccessKey, Field::SecretAccessKey)?;
     let token = required(members, Field::Token, Field::SessionToken)?;
     let end = required(members, Field::Expiration, Field::ExpiresAt)?;
-    let expiration = expiration(end)?;
+    let expiration = dated(parse_date(end.as_str()))?;
     Ok(with_keys(alloc, members, id, secret, token, expiration)?)
 }
 

@@ -1,22 +1,15 @@
 //! The last member of a name.
 ghost use Rattle.std.specs.Prelude.{◌≡◌, option_map};
-ghost use Rattle.std.specs.Str.{str_eq_ignore_ascii_case, encode_utf8_all};
 ghost use Rattle.cfg_json.specs.Lookups.{is_named, text_under, number_under, last_text as last_text_of, last_number as last_number_of};
 
 use crate::member::{Member, MemberValue};
 use cfg_types::Text;
 
-fn is_spelled(key: &str, name: &str) -> bool
-    ensures { result ≡ str_eq_ignore_ascii_case key.now name.now }
-{
-    key.eq_ignore_ascii_case(name)
-}
-
 fn has_name(member: &Member, name: &str, other: &str) -> bool
     ensures { result ≡ is_named name.now other.now member.now.key }
 {
     let key = member.key.as_str();
-    is_spelled(key, name) || is_spelled(key, other)
+    key.eq_ignore_ascii_case(name) || key.eq_ignore_ascii_case(other)
 }
 
 fn text_of<'a>(member: &'a Member, name: &str, other: &str) -> Option<&'a Text>

@@ -4,7 +4,7 @@ ghost use Rattle.std.specs.Prelude.{◌≡◌, IfOk, option_map, codes, []};
 ghost use Rattle.cfg_types.specs.Field.{field_name};
 ghost use Rattle.cfg_json.specs.Lookups.{last_number as last_number_of};
 ghost use Rattle.cfg_types.specs.Gives.{IsSaid};
-ghost use Rattle.cfg_json.specs.Documents.{UnlessMemory, AnswersDocument, ReadsWhole, ReadsVersion, field_text, dated as dated_at, offset_date_in, known_version, optional_end as end_of, process_of, IsProcessTable};
+ghost use Rattle.cfg_json.specs.Documents.{UnlessMemory, AnswersDocument, ReadsWhole, ReadsVersion, field_text, known_version, optional_end as end_of, process_of, IsProcessTable};
 
 use crate::credentials::{dated, document_members, find_text, optional, required};
 use crate::dates::reading::parse_offset_date;
@@ -52,19 +52,13 @@ fn check_version(version: Option<Option<i32>>) -> Result<(), InvalidJsonCredenti
 }
 
 #[tactic(auto, unfolding(crate::specs::Documents::offset_date_in))]
-fn expiration(text: &Text) -> Result<Instant, InvalidJsonCredentials>
-    ensures { IsSaid (λ m. m) (dated_at Field.Expiration (offset_date_in text.now)) result }
-{
-    dated(parse_offset_date(text.as_str()))
-}
-
 fn optional_end(members: &[Member]) -> Result<Option<Instant>, InvalidJsonCredentials>
     ensures { IsSaid (λ o. o) (end_of (field_text members.now Field.Expiration Field.Expiration)) result }
 {
     let Some(text) = find_text(members, Field::Expiration, Field::Expiration) else {
         return Ok(None);
     };
-    let moment = expiration(text)?;
+    let moment = dated(parse_offset_date(text.as_str()))?;
     Ok(Some(moment))
 }
 

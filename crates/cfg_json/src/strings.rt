@@ -79,13 +79,6 @@ pub fn characters_of(alloc: Global, text: &str) -> Result<Vec<char>, AllocError>
     text.chars().collect(alloc)
 }
 
-fn unescaped_text(alloc: Global, text: &[char]) -> Result<Text, JsonError>
-    ensures { Reads (λ t. t) result (content_of 0 text.now) }
-{
-    let unescaped = unescaped(alloc, text)?;
-    Ok(Text::from_string(unescaped))
-}
-
 fn content(alloc: Global, text: &str) -> Result<Text, JsonError>
     ensures { Reads (λ t. t) result (content_of 0 (characters text.now)) }
 {
@@ -93,7 +86,8 @@ fn content(alloc: Global, text: &str) -> Result<Text, JsonError>
         return Ok(Text::of(alloc, text)?);
     }
     let characters = characters_of(alloc, text)?;
-    unescaped_text(alloc, characters.as_slice())
+    let unescaped = unescaped(alloc, characters.as_slice())?;
+    Ok(Text::from_string(unescaped))
 }
 
 /// The bytes as a text, if they are UTF-8.

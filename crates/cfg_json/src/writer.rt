@@ -156,8 +156,20 @@ fn push_key(alloc: Global, out: &mut Written, key: &str) -> Result<(), OutOfMemo
     out.push(':')
 }
 
-/// Writes an object, member by member. Contracts see the text of the members so far. After it ran
-/// out of memory nothing is claimed of what it holds.
+#[tactic(auto, using(std::proofs::lemmas::Grind::common_steps), unfolding(crate::specs::Writing::braced))]
+fn push_braced(out: &mut Written, members: &str) -> Result<(), OutOfMemory>
+    ensures { OnOk result (out.new ≡ out.old ++ braced (characters members.now)) }
+{
+    out.push('{')?;
+    out.push_text(members)?;
+    out.push('}')
+}
+
+/// Writes an object, member by member, without spaces. Contracts see the text of the members so
+/// far.
+///
+/// A call that runs out of memory answers `OutOfMemory`. After that nothing is claimed of what the
+/// writer holds.
 #[derive(Drop)]
 pub struct ObjectWriter {
     alloc: Global,
@@ -183,18 +195,22 @@ impl ObjectWriter {
         }
     }
 
-    /// One more member, a text.
+    /// Writes one more member, a text. No key is looked for among those that are there.
+    #[tactic(auto, using(std::proofs::lemmas::Grind::common_steps), unfolding(crate::specs::Writing::with_member))]
     pub fn text(&mut self, key: &str, value: &str) -> Result<(), OutOfMemory>
         ensures { OnOk result (self.new ≡ with_member self.old (characters key.now) (quoted (characters value.now))) }
     {
-        write_text(self.alloc, &mut self.members, key, value)
+        push_key(self.alloc, &mut self.members, key)?;
+        push_quoted(self.alloc, &mut self.members, value)
     }
 
-    /// One more member, an object.
+    /// Writes one more member, an object.
+    #[tactic(auto, using(std::proofs::lemmas::Grind::common_steps), unfolding(crate::specs::Writing::with_member))]
     pub fn object(&mut self, key: &str, inner: ObjectWriter) -> Result<(), OutOfMemory>
         ensures { OnOk result (self.new ≡ with_member self.old (characters key.now) (braced inner)) }
     {
-        write_object(self.alloc, &mut self.members, key, inner.members.as_str())
+        push_key(self.alloc, &mut self.members, key)?;
+        push_braced(&mut self.members, inner.members.as_str())
     }
 
     /// The text of the object.
@@ -205,34 +221,4 @@ impl ObjectWriter {
         push_braced(&mut out, self.members.as_str())?;
         Ok(out.into_text())
     }
-}
-
-#[tactic(auto, using(std::proofs::lemmas::Grind::common_steps), unfolding(crate::specs::Writing::with_member))]
-fn write_text(alloc: Global, out: &mut Written, key: &str, value: &str) -> Result<(), OutOfMemory>
-    ensures { OnOk result (out.new ≡ with_member out.old (characters key.now) (quoted (characters value.now))) }
-{
-    push_key(alloc, out, key)?;
-    push_quoted(alloc, out, value)
-}
-
-#[tactic(auto, using(std::proofs::lemmas::Grind::common_steps), unfolding(crate::specs::Writing::braced))]
-fn push_braced(out: &mut Written, members: &str) -> Result<(), OutOfMemory>
-    ensures { OnOk result (out.new ≡ out.old ++ braced (characters members.now)) }
-{
-    out.push('{')?;
-    out.push_text(members)?;
-    out.push('}')
-}
-
-#[tactic(auto, using(std::proofs::lemmas::Grind::common_steps), unfolding(crate::specs::Writing::with_member))]
-fn write_object(
-    alloc: Global,
-    out: &mut Written,
-    key: &str,
-    members: &str,
-) -> Result<(), OutOfMemory>
-    ensures { OnOk result (out.new ≡ with_member out.old (characters key.now) (braced (characters members.now))) }
-{
-    push_key(alloc, out, key)?;
-    push_braced(out, members)
 }

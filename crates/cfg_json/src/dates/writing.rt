@@ -215,8 +215,13 @@ fn spell(alloc: Global, local: LocalTime, nanos: u32) -> Result<Text, OutOfMemor
     }
 }
 
-/// The text of a date in UTC that stands for the moment, with as few digits as its fraction needs.
-/// None exactly where the moment is before the year 1 or after the year 9999.
+/// The text of the date in UTC that stands for the moment, as `2009-02-13T23:31:30.5Z`, with as few
+/// digits of a second as it needs. None exactly where the moment is before the year 1 or after the
+/// year 9999.
+///
+/// # Errors
+///
+/// `OutOfMemory`: memory runs out.
 pub fn write_date(alloc: Global, moment: Instant) -> Result<Option<Text>, OutOfMemory>
     ensures value { IfOk result (λ o. IfSome o (λ t. IsWrittenDate t moment)) }
     ensures none { IfOk result (λ o. IfNone o (IsOutside moment.seconds)) }
