@@ -6,5 +6,5 @@ use Rattle.serde_json.specs.declared.value.Value.{Value}
 use Rattle.cfg_script.specs.Forms.{◌>>=◌, each}
 
 -- what was read before, and then what the items that are left are
-abbrev pub with_front : {A : Type 0} → List A → (Data → Option A) → List Value → Option (List A)
-with_front front form left = each form (items_view left) >>= λ rest. Some (front ++ rest)
+abbrev pub followed_by_each : {A : Type 0} → List A → (Data → Option A) → List Value → Option (List A)
+followed_by_each read form left = each form (items_view left) >>= λ rest. Some (read ++ rest)

@@ -13,7 +13,7 @@ abbrev pub every_name : (List ℕ → Bool) → Members → Bool
 every_name test no_members = true
 every_name test (member name d ms) = test name && every_name test ms
 
--- what is built of a script
+-- the names of a script that are built
 abbrev pub is_built_name : List ℕ → Bool
 is_built_name name =
     bytes_eq name (codes "variables")
@@ -23,7 +23,7 @@ is_built_name name =
     || (bytes_eq name (codes "clock")
     || bytes_eq name (codes "replies")))))
 
--- what belongs to a script and is not built
+-- the names that belong to a script and are not built
 abbrev pub is_unbuilt_name : List ℕ → Bool
 is_unbuilt_name name =
     bytes_eq name (codes "calls")
@@ -36,11 +36,11 @@ is_unbuilt_name name =
     || (bytes_eq name (codes "commands")
     || bytes_eq name (codes "lookups"))))))))
 
--- what is built of the replies
+-- the names of replies that are built
 abbrev pub is_built_reply_name : List ℕ → Bool
 is_built_reply_name name = bytes_eq name (codes "assume-role")
 
--- what belongs to the replies and is not built
+-- the names that belong to replies and are not built
 abbrev pub is_unbuilt_reply_name : List ℕ → Bool
 is_unbuilt_reply_name name =
     bytes_eq name (codes "http")
@@ -51,11 +51,11 @@ is_unbuilt_reply_name name =
     || (bytes_eq name (codes "create-token")
     || bytes_eq name (codes "sign-in"))))))
 
--- the members of a refusal
+-- the names of a refusal's members
 abbrev pub is_refusal_name : List ℕ → Bool
 is_refusal_name name = bytes_eq name (codes "refused") || bytes_eq name (codes "message")
 
--- the members of credentials
+-- the names of the members of credentials
 abbrev pub is_credentials_name : List ℕ → Bool
 is_credentials_name name =
     bytes_eq name (codes "id")

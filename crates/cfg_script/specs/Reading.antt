@@ -66,6 +66,6 @@ abbrev pub script_of_value : Option Members → Result Plain Refused
 script_of_value None = Err NoScript
 script_of_value (Some ms) = script_of_members ms
 
--- what the bytes say, or why they say nothing
+-- what the bytes say as a script, or why they say nothing
 unfoldable pub script_of : List ℕ → Result Plain Refused
 script_of bytes = script_of_value (json_value bytes >>= as_object)

@@ -54,7 +54,7 @@ refusal_of ms = do
   message ← required_text (get_member (codes "message") ms)
   Some (reply.Refused (record { kind = kind; message = message }))
 
--- {"refused": kind, "message": text}, and no other member
+-- a refusal: {"refused": kind, "message": text}, and no other member
 unfoldable pub refusal_from : Members → Option Reply
 refusal_from ms = if every_name is_refusal_name ms then refusal_of ms else None
 
@@ -89,7 +89,7 @@ credentials_of parts = do
     arn = arn;
   }))
 
--- {"id", "secret", "token": texts, "expires": moment, "arn": text, optional}, and no other member
+-- credentials: {"id", "secret", "token": texts, "expires": moment, "arn": text, optional}, and no other member
 unfoldable pub credentials_from : Members → Option Reply
 credentials_from ms = if every_name is_credentials_name ms then credentials_of (credential_parts_in ms) else None
 

@@ -30,11 +30,11 @@ pub data Refused : Type 0 where
   NoScript : Refused
   NotBuilt : Refused
 
--- a property that the program holds
+-- a property that the program holds, as bytes
 abbrev pub property_bytes : String Global × String Global → Property
 property_bytes p = (string_bytes p.0, string_bytes p.1)
 
--- a section that the program holds
+-- a section that the program holds, as bytes
 abbrev pub section_bytes : String Global × Vec (String Global × String Global) Global → Section
 section_bytes s = (string_bytes s.0, map property_bytes s.1.items)
 

@@ -17,7 +17,7 @@ env_text_from (string s) = Some (Text (characters s))
 env_text_from (array ds) = None
 env_text_from (object ms) = None
 
--- [name, text or null]
+-- a variable: [name, text], or [name, null]
 unfoldable pub variable_from : Data → Option (List ℕ × EnvText)
 variable_from d = do
   pair ← pair_from d
@@ -25,7 +25,7 @@ variable_from d = do
   text ← env_text_from pair.1
   Some (name, text)
 
--- [key, value]
+-- a property: [key, value]
 unfoldable pub property_from : Data → Option Property
 property_from d = do
   pair ← pair_from d
@@ -33,7 +33,7 @@ property_from d = do
   value ← as_str pair.1
   Some (key, value)
 
--- [name, list of properties]
+-- a section: [name, list of properties]
 unfoldable pub section_from : Data → Option Section
 section_from d = do
   pair ← pair_from d

@@ -1,4 +1,3 @@
-// Moments.
 ghost use Rattle.std.specs.Prelude.{◌≡◌};
 ghost use Rattle.serde_json.specs.View.{view};
 ghost use Rattle.cfg_script.specs.Moments.{pair_moment, moment_from, clock_from};

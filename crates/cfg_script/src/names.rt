@@ -1,4 +1,4 @@
-// The names of members: each list of names stands here once.
+//! The names of members: each list of names stands here once.
 ghost use Rattle.std.specs.Prelude.{◌≡◌, ℕ, List, Bool, string_bytes, codes, option_map};
 ghost use Rattle.std.specs.List.{list_all, list_any};
 ghost use Rattle.std.specs.BTreeMap.{keys};

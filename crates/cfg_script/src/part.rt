@@ -1,4 +1,4 @@
-// Lists of a script.
+//! Lists of a script, of which each item is read as one part.
 ghost use Rattle.std.specs.Prelude.{◌≡◌, Option, option_map, map};
 ghost use Rattle.serde_json.specs.Data.{Data};
 ghost use Rattle.serde_json.specs.View.{view, items_view};

@@ -1,4 +1,4 @@
-// From bytes to a script.
+//! From bytes to a script.
 ghost use Rattle.std.specs.Prelude.{◌≡◌, IfOk, Ok, Err};
 ghost use Rattle.serde_json.specs.View.{view, members_view};
 ghost use Rattle.cfg_script.specs.Gives.{GivesPart, GivesScript};
@@ -119,8 +119,8 @@ fn read(alloc: Global, bytes: &[u8]) -> Result<Script, ScriptError>
     }
 }
 
-/// What the bytes say as a script. Each error comes exactly where `script_of` says so, but for want
-/// of memory, which may come in place of any answer.
+/// What the bytes say as a script. `NoScript` and `NotBuilt` come exactly where `script_of` says so;
+/// out of memory may come in place of any answer.
 pub fn read_script(alloc: Global, bytes: &[u8]) -> Result<Script, ScriptError>
     ensures script { IfOk result (λ s. script_of bytes.now ≡ Ok (plain s)) }
     ensures fits { IfOk result (λ s. AllFit (lists_of (plain s))) }

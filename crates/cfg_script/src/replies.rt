@@ -1,4 +1,4 @@
-// Replies of the Security Token Service.
+//! Replies of the Security Token Service.
 ghost use Rattle.std.specs.Prelude.{◌≡◌, option_map, map};
 ghost use Rattle.serde_json.specs.View.{view, members_view};
 ghost use Rattle.cfg_script.specs.Gives.{GivesPart};

@@ -1,4 +1,4 @@
-// What a script says, and why bytes are no script.
+//! What a script says, and why bytes are no script.
 ghost use Rattle.std.specs.Prelude.{◌≡◌};
 ghost use Rattle.cfg_script.specs.declared.script.ScriptError.TheVariants as error;
 

@@ -1,4 +1,4 @@
-// JSON values, taken apart without a copy.
+//! JSON values, taken apart without a copy.
 ghost use Rattle.std.specs.Prelude.{◌≡◌, ℕ, List, false, option_map, bytes_eq, string_bytes};
 ghost use Rattle.serde_json.specs.Find.{as_array, as_object, as_str, get_member};
 ghost use Rattle.serde_json.specs.View.{view, items_view, members_view};

@@ -1,4 +1,4 @@
-// Variables and sections.
+//! Variables and sections.
 ghost use Rattle.std.specs.Prelude.{◌≡◌, option_map};
 ghost use Rattle.serde_json.specs.View.{view};
 ghost use Rattle.cfg_types.specs.TextMap.{named};
