@@ -4,7 +4,7 @@
 
 use cfg_program::run::run;
 use cfg_program::{Status, USAGE};
-use cfg_types::{EnvText, OutOfMemory, Seq, Text};
+use cfg_types::{EnvText, OutOfMemory, Text};
 use cfg_world::{DeviceLists, ReaderSource, ScriptDevices, World, WriterSink};
 use std::alloc::Global;
 use std::env;
@@ -71,7 +71,9 @@ const ASKED: [&str; 6] = [
 ];
 
 // The variables that are set, of those that providers ask for.
-fn variables_of(rt: &(impl std::rt::Env + AllocGlobal)) -> Result<Vec<(String, EnvText)>, OutOfMemory> {
+fn variables_of(
+    rt: &(impl std::rt::Env + AllocGlobal),
+) -> Result<Vec<(String, EnvText)>, OutOfMemory> {
     let mut vars = Vec::new(rt.alloc());
     for name in ASKED {
         let value = match env::var(rt, name) {
@@ -87,11 +89,5 @@ fn variables_of(rt: &(impl std::rt::Env + AllocGlobal)) -> Result<Vec<(String, E
 
 // Devices that no word asks.
 fn idle_devices(alloc: Global) -> ScriptDevices {
-    ScriptDevices::new(
-        alloc,
-        DeviceLists {
-            clock: Seq::of(Vec::new(alloc)),
-            assume_role: Seq::of(Vec::new(alloc)),
-        },
-    )
+    ScriptDevices::new(alloc, DeviceLists::empty(alloc))
 }

@@ -249,11 +249,7 @@ fn refused_words(alloc: Global) -> Result<String, OutOfMemory> {
         reason,
     ));
     let built = is_built(alloc, &config)?;
-    let lists = DeviceLists {
-        clock: Seq::of(Vec::new(alloc)),
-        assume_role: Seq::of(Vec::new(alloc)),
-    };
-    let mut world = World::new(alloc, ScriptDevices::new(alloc, lists));
+    let mut world = World::new(alloc, ScriptDevices::new(alloc, DeviceLists::empty(alloc)));
     let answer = call(alloc, config, None, &mut world)?;
     Ok(format!(in alloc; "{built} {answer}")?)
 }

@@ -4,7 +4,7 @@ ghost use Rattle.std.specs.Prelude.{◌<◌};
 
 use cfg_program::run::run;
 use cfg_program::{HELP, Status, VERSION};
-use cfg_types::{OutOfMemory, Seq};
+use cfg_types::OutOfMemory;
 use cfg_world::{
     DeviceLists, MemorySink, MemorySource, ReaderSource, ScriptDevices, Source, World,
 };
@@ -14,11 +14,7 @@ use std::test::Fail;
 use std::{io, str};
 
 fn world(alloc: Global) -> World<ScriptDevices> {
-    let lists = DeviceLists {
-        clock: Seq::of(Vec::new(alloc)),
-        assume_role: Seq::of(Vec::new(alloc)),
-    };
-    World::new(alloc, ScriptDevices::new(alloc, lists))
+    World::new(alloc, ScriptDevices::new(alloc, DeviceLists::empty(alloc)))
 }
 
 fn words_in(alloc: Global, given: &[&str]) -> Result<Vec<String>, AllocError> {

@@ -1,10 +1,12 @@
 // What no clause says: worked examples of the definitions, and that calls succeed. A reader or a
 // writer may fail where no clause knows it: such failures are tried here.
-use cfg_types::{CredentialsBuilder, Instant, OutOfMemory, Seq, Text, TryCopy};
+use cfg_types::{
+    AssumeRole, CallSettings, CredentialsBuilder, FailKind, Instant, OutOfMemory, Refusal,
+    RefusalKind, Reply, Request, Seq, StsReply, Text, Timeouts, TryCopy,
+};
 use cfg_world::{
-    Answer, AssumeRole, CallSettings, DeviceLists, FailKind, Question, ReaderSource, Refusal,
-    RefusalKind, Reply, Request, ScriptDevices, Sink, Source, StsReply, Timeouts, World,
-    WriterSink, read_clock, send,
+    Answer, DeviceLists, Question, ReaderSource, ScriptDevices, Sink, Source, World, WriterSink,
+    read_clock, send,
 };
 use std::alloc::{AllocError, Global};
 use std::io;
