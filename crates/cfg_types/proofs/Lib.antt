@@ -4,3 +4,4 @@ pub mod InstantOrder
 pub mod Trimming
 pub mod StyledWrites
 pub mod LastNames
+pub mod MapCopies

@@ -19,7 +19,7 @@ use Rattle.cfg_types.specs.Entries.{each_set}
 same_tie : (xs ys : List ℕ) → bytes_eq xs ys ≡ eq_by_cmp (slice_cmp nat_cmp) ys xs
 same_tie xs ys = sym (is_eq-slice_cmp xs ys) ∙ (eq_by_cmp_equiv nat_list_cmp_total).symm xs ys
 
-find-named : {V : Type 0} (es : List (String Global × V)) (q : List ℕ) → find (slice_cmp nat_cmp) q (map named es) ≡ lookup (λ k. bytes_eq q (string_bytes k)) es
+pub find-named : {V : Type 0} (es : List (String Global × V)) (q : List ℕ) → find (slice_cmp nat_cmp) q (map named es) ≡ lookup (λ k. bytes_eq q (string_bytes k)) es
 find-named [] q = refl
 find-named (e ∷ es) q =
     ap (λ b. cond b (Some e.1) (find (slice_cmp nat_cmp) q (map named es))) (is_eq-slice_cmp q (string_bytes e.0))

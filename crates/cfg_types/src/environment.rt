@@ -6,6 +6,7 @@ ghost use Rattle.cfg_types.specs.TextMap.{named};
 ghost use Rattle.cfg_types.specs.Entries.{each_set};
 ghost use Rattle.cfg_types.specs.Environment.{variable};
 
+use crate::copies::TryCopy;
 use crate::memory::OutOfMemory;
 use crate::text::Text;
 use crate::text_map::TextMap;
@@ -17,6 +18,18 @@ use std::marker::Model;
 pub enum EnvText {
     Text(Text),
     NotUnicode,
+}
+
+impl TryCopy for EnvText {
+    fn copy(&self, alloc: Global) -> Result<EnvText, OutOfMemory> {
+        match self {
+            EnvText::NotUnicode => Ok(EnvText::NotUnicode),
+            EnvText::Text(text) => {
+                let text = text.copy(alloc)?;
+                Ok(EnvText::Text(text))
+            }
+        }
+    }
 }
 
 /// Why a variable cannot be read.
@@ -68,5 +81,12 @@ impl Env {
             Some(EnvText::NotUnicode) => Err(VarError::NotUnicode),
             Some(EnvText::Text(text)) => Ok(text.as_str()),
         }
+    }
+}
+
+impl TryCopy for Env {
+    fn copy(&self, alloc: Global) -> Result<Env, OutOfMemory> {
+        let variables = self.variables.copy(alloc)?;
+        Ok(Env { variables })
     }
 }

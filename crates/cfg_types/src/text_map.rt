@@ -3,6 +3,7 @@ ghost use Rattle.std.specs.Prelude.{◌≡◌, ◌↔◌, IsTrue, IfOk, OnOk, On
 ghost use Rattle.std.specs.Option.{option_copied};
 ghost use Rattle.std.specs.FinMap.{get, insert, empty, len};
 
+use crate::copies::TryCopy;
 use crate::memory::OutOfMemory;
 use std::alloc::Global;
 use std::collections::HashMap;
@@ -65,5 +66,15 @@ impl<V: Drop> TextMap<V> {
         ensures { IsTrue result ↔ (len self.now ≡ 0) }
     {
         self.entries.is_empty()
+    }
+}
+
+impl<V: TryCopy> TryCopy for TextMap<V> {
+    fn copy(&self, alloc: Global) -> Result<TextMap<V>, OutOfMemory> {
+        let mut copied = TextMap::with_capacity(alloc, self.entries.len())?;
+        for (name, value) in self.entries.iter() {
+            copied.set(name.clone()?, value.copy(alloc)?)?;
+        }
+        Ok(copied)
     }
 }
