@@ -17,4 +17,5 @@ line_ends seen p b line status.SourceFault i a w = absurd w
 line_ends seen p b line status.SinkFault i a w = (w.0, record { p = p; input = i; is_credentials = b; line = line; answers = a; written = w.1 })
 line_ends seen p b line status.OutOfMemory i a w = inr (record { p = p; input = i; is_credentials = b; line = line; answers = a; written = w })
 line_ends seen p b line status.TooLong i a w = absurd w
+line_ends seen p b line status.HistoryDiffers i a w = absurd w
 line_ends seen p b line status.NotBuilt i a w = absurd w

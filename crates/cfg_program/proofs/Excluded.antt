@@ -1,169 +1,178 @@
--- One run meets the cause of one status alone.
-use Rattle.std.proofs.Common.{◌≡◌, ℕ, List, [], ◌∷◌, length, true, false, Option, Some, None, Result, Ok, Err, ◌⊎◌, inl, inr, ◌∙◌, sym, ap, subst, refl, cond, arith}
-use Rattle.std.specs.Prelude.{◌<◌, IsSome, IsTrue, is_ok, nat_lt}
+-- What one input comes to: one status and one line, or a fault, or memory runs out.
+use Rattle.std.proofs.Common.{◌≡◌, ℕ, List, [], ◌∷◌, length, Bool, true, false, Option, Some, None, Result, Ok, Err, ◌⊎◌, inl, inr, ◌∙◌, sym, ap, subst, refl, cond, arith}
+use Rattle.std.specs.Prelude.{◌<◌, IsSome, IfSome, IsTrue, nat_lt}
 use Rattle.std.specs.Io.KnownBytes.{Appends}
-use Rattle.std.proofs.lemmas.List.{append_cancel_left}
 use Rattle.std.proofs.lemmas.Bool.{lt-ltb, le-ltb}
-use Rattle.cfg_types.specs.Keys.{Keys}
-use Rattle.cfg_types.specs.declared.errors.CredentialsError.{CredentialsError}
-use Rattle.cfg_world.specs.Fits.{Pair}
 use Rattle.cfg_script.specs.Script.{Plain, Refused, NoScript, NotBuilt}
 use Rattle.cfg_script.specs.Reading.{script_of}
+use Rattle.cfg_script.specs.Devices.{lists_of}
 use Rattle.cfg_program.specs.declared.status.Status.{Status}
 use Rattle.cfg_program.specs.declared.status.Status.TheVariants as status
 use Rattle.cfg_program.specs.declared.words.Word.{Word}
 use Rattle.cfg_program.specs.declared.words.Word.TheVariants.{Help, Version, Resolve}
+use Rattle.cfg_program.specs.declared.input.TheConstants.{LIMIT}
 use Rattle.cfg_program.specs.Texts.{help_text, version_text}
-use Rattle.cfg_program.specs.Lines.{shown}
-use Rattle.cfg_program.specs.Streams.{Told, limit}
+use Rattle.cfg_program.specs.Inputs.{IsTooLong}
+use Rattle.cfg_program.specs.Calls.{Answers, configuration_of}
 use Rattle.cfg_program.specs.Plans.{plan_is_built}
-use Rattle.cfg_program.specs.Run.{Seen, WasRead, IsScript, WritesLine, EndsResolving, EndsForWords, Tells, Ends}
-use Rattle.cfg_program.specs.Exclusion.{tells_of_input, AllTold, CallsFor}
+use Rattle.cfg_program.specs.Run.{Seen, WasRead, IsScript, WritesLine, WritesNothing, EndsResolving, EndsForWords, EndsTelling, EndsRun}
+use Rattle.cfg_program.specs.Exclusion.{depends_on_input, BytesAreKnown, AppendTheSame, CallsFor}
+use Rattle.cfg_program.proofs.Pieces.{none_grown}
+use Rattle.cfg_program.proofs.OneLine.{one_line}
 
--- the status that bytes call for, where credentials and an error count as one answer
-abbrev called_for_by : Result Plain Refused → Status
-called_for_by (Err NoScript) = status.NoScript
-called_for_by (Err NotBuilt) = status.NotBuilt
-called_for_by (Ok p) = cond (plan_is_built p) status.Done status.NotBuilt
+-- the refusal that bytes call for, if they call for one
+abbrev refused_by : Result Plain Refused → Option Status
+refused_by (Err NoScript) = Some status.NoScript
+refused_by (Err NotBuilt) = Some status.NotBuilt
+refused_by (Ok p) = cond (plan_is_built p) None (Some status.NotBuilt)
 
-abbrev called_for : List ℕ → Status
-called_for bytes = cond (nat_lt limit (length bytes)) status.TooLong (called_for_by (script_of bytes))
+abbrev refused_for : List ℕ → Option Status
+refused_for bytes = cond (nat_lt LIMIT (length bytes)) (Some status.TooLong) (refused_by (script_of bytes))
 
-abbrev one_answer : Status → Status
-one_answer status.Done = status.Done
-one_answer status.Refused = status.Done
-one_answer status.Words = status.Words
-one_answer status.NoScript = status.NoScript
-one_answer status.SourceFault = status.SourceFault
-one_answer status.SinkFault = status.SinkFault
-one_answer status.OutOfMemory = status.OutOfMemory
-one_answer status.TooLong = status.TooLong
-one_answer status.NotBuilt = status.NotBuilt
+-- the refusal that a status is, if it is one
+abbrev refusal : Status → Option Status
+refusal status.Done = None
+refusal status.Refused = None
+refusal s = Some s
 
-told_is : (left : Option (List ℕ)) (bytes : List ℕ) (P : List ℕ → Type 0) → left ≡ Some bytes → Told left P → P bytes
-told_is left bytes P e told = subst (λ o. Told o P) e told
+-- the status of a line
+abbrev status_of : Bool → Status
+status_of is_credentials = cond is_credentials status.Done status.Refused
 
--- bytes that were read to the end call for what their reading calls for
-read_calls_for : (seen : Seen) (all : List ℕ) → seen.left ≡ Some all → (bytes : List ℕ) → WasRead seen bytes → (r : Result Plain Refused) → script_of bytes ≡ r → called_for all ≡ called_for_by r
-read_calls_for seen all e bytes was r is =
-    ap called_for (told_is seen.left all (λ b. b ≡ bytes) e was.all)
-    ∙ ap (λ t. cond t status.TooLong (called_for_by (script_of bytes))) (le-ltb limit (length bytes) was.short)
-    ∙ ap called_for_by is
+known_is : (left : Option (List ℕ)) (bytes : List ℕ) (P : List ℕ → Type 0) → left ≡ Some bytes → IfSome left P → P bytes
+known_is left bytes P e known = subst (λ o. IfSome o P) e known
 
-script_calls_for : (seen : Seen) (all : List ℕ) → seen.left ≡ Some all → (p : Plain) → IsScript seen p → called_for all ≡ status.Done
-script_calls_for seen all e p is = read_calls_for seen all e is.bytes is.read (Ok p) is.script ∙ ap (λ b. cond b status.Done status.NotBuilt) is.built
+known_of : (o : Option (List ℕ)) → IsSome o → (bytes : List ℕ) × (o ≡ Some bytes)
+known_of None h = cc
+known_of (Some bytes) h = (bytes, refl)
 
-not_built_calls_for : (seen : Seen) (all : List ℕ) → seen.left ≡ Some all → (bytes : List ℕ) → WasRead seen bytes
-    → (script_of bytes ≡ Err NotBuilt) ⊎ ((p : Plain) × (script_of bytes ≡ Ok p) × (plan_is_built p ≡ false)) → called_for all ≡ status.NotBuilt
-not_built_calls_for seen all e bytes was (inl refused) = read_calls_for seen all e bytes was (Err NotBuilt) refused
-not_built_calls_for seen all e bytes was (inr script) =
-    read_calls_for seen all e bytes was (Ok script.0) script.1 ∙ ap (λ b. cond b status.Done status.NotBuilt) script.2
+-- bytes that were read to the end call for what their script calls for
+read_is_refused : (seen : Seen) (all : List ℕ) → seen.left ≡ Some all → (bytes : List ℕ) → WasRead seen bytes → (r : Result Plain Refused) → script_of bytes ≡ r → refused_for all ≡ refused_by r
+read_is_refused seen all e bytes was r is =
+    ap refused_for (known_is seen.left all (λ b. b ≡ bytes) e was.all)
+    ∙ ap (λ t. cond t (Some status.TooLong) (refused_by (script_of bytes))) (le-ltb LIMIT (length bytes) was.short)
+    ∙ ap refused_by is
 
--- a status that tells of the input is the one that the bytes call for
-is_called_for : (seen : Seen) (all : List ℕ) → seen.left ≡ Some all → (ended : Status) → IsTrue (tells_of_input ended) → EndsResolving seen ended → called_for all ≡ one_answer ended
-is_called_for seen all e status.Done t ends = script_calls_for seen all e ends.p ends.input
-is_called_for seen all e status.Refused t ends = script_calls_for seen all e ends.p ends.input
-is_called_for seen all e status.Words t ends = absurd ends
-is_called_for seen all e status.NoScript t ends = read_calls_for seen all e ends.0.0 ends.0.1 (Err NoScript) ends.0.2
-is_called_for seen all e status.SourceFault t ends = cc
-is_called_for seen all e status.SinkFault t ends = cc
-is_called_for seen all e status.OutOfMemory t ends = cc
-is_called_for seen all e status.TooLong t ends =
-    ap (λ b. cond b status.TooLong (called_for_by (script_of all))) (lt-ltb limit (length all) (told_is seen.left all (λ b. limit < length b) e ends.0))
-is_called_for seen all e status.NotBuilt t ends = not_built_calls_for seen all e ends.0.bytes ends.0.read ends.0.cause
+built_is : (b : Bool) → b ≡ true → cond b None (Some status.NotBuilt) ≡ None
+built_is b h = ap (λ x. cond x None (Some status.NotBuilt)) h
 
--- the line of credentials is no line of an error
-abbrev first : List ℕ → ℕ
-first [] = 0
-first (byte ∷ bytes) = byte
+not_built_is : (b : Bool) → b ≡ false → cond b None (Some status.NotBuilt) ≡ Some status.NotBuilt
+not_built_is b h = ap (λ x. cond x None (Some status.NotBuilt)) h
 
-letters : ◌≡◌ {A = ℕ} 99 101 → ⊥
-letters same = omega arith
+script_is_not_refused : (seen : Seen) (all : List ℕ) → seen.left ≡ Some all → (p : Plain) → IsScript seen p → refused_for all ≡ None
+script_is_not_refused seen all e p is = read_is_refused seen all e is.bytes is.read (Ok p) is.script ∙ built_is (plan_is_built p) is.built
 
-lines_differ : (one other : Result Keys CredentialsError) (journal later : List Pair) → true ≡ is_ok one → false ≡ is_ok other → shown one journal ≡ shown other later → ⊥
-unfolding shown
-lines_differ (Ok keys) (Err e) journal later t f same = letters (ap first same)
-lines_differ (Ok keys) (Ok other) journal later t f same = cc
-lines_differ (Err e) other journal later t f same = cc
+not_built_is_refused : (seen : Seen) (all : List ℕ) → seen.left ≡ Some all → (bytes : List ℕ) → WasRead seen bytes
+    → (script_of bytes ≡ Err NotBuilt) ⊎ ((p : Plain) × (script_of bytes ≡ Ok p) × (plan_is_built p ≡ false)) → refused_for all ≡ Some status.NotBuilt
+not_built_is_refused seen all e bytes was (inl refused) = read_is_refused seen all e bytes was (Err NotBuilt) refused
+not_built_is_refused seen all e bytes was (inr script) = read_is_refused seen all e bytes was (Ok script.0) script.1 ∙ not_built_is (plan_is_built script.0) script.2
 
-same_line : (before after : Option (List ℕ)) (bytes : List ℕ) → before ≡ Some bytes → (one other : List ℕ) → Appends before after one → Appends before after other → one ≡ other
-same_line before (Some after) bytes e one other a b =
-    append_cancel_left bytes one other (sym (subst (λ o. Appends o (Some after) one) e a) ∙ subst (λ o. Appends o (Some after) other) e b)
-same_line before None bytes e one other a b = absurd (subst (λ o. Appends o None one) e a)
+is_long : (left left_after : Option (List ℕ)) → IsTooLong left left_after → IfSome left (λ b. LIMIT < length b)
+is_long None after h = tt
+is_long (Some bytes) after h = h.0
 
-one_line : (seen : Seen) (bytes : List ℕ) → seen.written ≡ Some bytes → WritesLine seen true → WritesLine seen false → ⊥
-one_line seen bytes e ok err =
-    lines_differ ok.answers.out err.answers.out ok.answers.journal err.answers.journal ok.answers.credentials err.answers.credentials
-    (sym ok.answers.shows ∙ same_line seen.written seen.written_after bytes e ok.line err.line ok.written err.written ∙ err.answers.shows)
-
-as_it_is : (s : Status) → (s ≡ status.Refused) ⊎ (one_answer s ≡ s)
-as_it_is status.Done = inr refl
-as_it_is status.Refused = inl refl
-as_it_is status.Words = inr refl
-as_it_is status.NoScript = inr refl
-as_it_is status.SourceFault = inr refl
-as_it_is status.SinkFault = inr refl
-as_it_is status.OutOfMemory = inr refl
-as_it_is status.TooLong = inr refl
-as_it_is status.NotBuilt = inr refl
-
-told_apart : (one other : Status) → one_answer one ≡ one_answer other → (one ≡ status.Done → other ≡ status.Refused → ⊥) → (one ≡ status.Refused → other ≡ status.Done → ⊥)
-    → (one ≡ status.Refused) ⊎ (one_answer one ≡ one) → (other ≡ status.Refused) ⊎ (one_answer other ≡ other) → one ≡ other
-told_apart one other e f g (inl a) (inl b) = a ∙ sym b
-told_apart one other e f g (inl a) (inr b) = absurd (g a (sym b ∙ sym e ∙ ap one_answer a))
-told_apart one other e f g (inr a) (inl b) = absurd (f (sym a ∙ e ∙ ap one_answer b) b)
-told_apart one other e f g (inr a) (inr b) = sym a ∙ e ∙ b
-
-some_of : (o : Option (List ℕ)) → IsSome o → (bytes : List ℕ) × (o ≡ Some bytes)
-some_of None h = cc
-some_of (Some bytes) h = (bytes, refl)
-
-resolving : (seen : Seen) (one other : Status) → AllTold seen → IsTrue (tells_of_input one) → IsTrue (tells_of_input other) → EndsResolving seen one → EndsResolving seen other → one ≡ other
-resolving seen one other told t u a b =
-    let left = some_of seen.left told.left in
-    let written = some_of seen.written told.written in
-    told_apart one other (sym (is_called_for seen left.0 left.1 one t a) ∙ is_called_for seen left.0 left.1 other u b)
-    (λ h k. one_line seen written.0 written.1 (subst (λ s. EndsResolving seen s) h a) (subst (λ s. EndsResolving seen s) k b))
-    (λ h k. one_line seen written.0 written.1 (subst (λ s. EndsResolving seen s) k b) (subst (λ s. EndsResolving seen s) h a))
-    (as_it_is one) (as_it_is other)
+long_is_refused : (seen : Seen) (all : List ℕ) → seen.left ≡ Some all → IsTooLong seen.left seen.left_after → refused_for all ≡ Some status.TooLong
+long_is_refused seen all e long =
+    ap (λ b. cond b (Some status.TooLong) (refused_by (script_of all)))
+    (lt-ltb LIMIT (length all) (subst (λ o. IfSome o (λ b. LIMIT < length b)) e (is_long seen.left seen.left_after long)))
 
 -- a refusal that the input calls for
-refusal_is_called_for : (seen : Seen) (all : List ℕ) → seen.left ≡ Some all → (cause : Status) → CallsFor seen cause → called_for all ≡ cause
-refusal_is_called_for seen all e status.Done h = absurd h
-refusal_is_called_for seen all e status.Refused h = absurd h
-refusal_is_called_for seen all e status.Words h = absurd h
-refusal_is_called_for seen all e status.NoScript h = read_calls_for seen all e h.0 h.1 (Err NoScript) h.2
-refusal_is_called_for seen all e status.SourceFault h = absurd h
-refusal_is_called_for seen all e status.SinkFault h = absurd h
-refusal_is_called_for seen all e status.OutOfMemory h = absurd h
-refusal_is_called_for seen all e status.TooLong h =
-    ap (λ b. cond b status.TooLong (called_for_by (script_of all))) (lt-ltb limit (length all) (told_is seen.left all (λ b. limit < length b) e h))
-refusal_is_called_for seen all e status.NotBuilt h = not_built_calls_for seen all e h.bytes h.read h.cause
+called_is_refused : (seen : Seen) (all : List ℕ) → seen.left ≡ Some all → (cause : Status) → CallsFor seen cause → refused_for all ≡ Some cause
+called_is_refused seen all e status.Done h = absurd h
+called_is_refused seen all e status.Refused h = absurd h
+called_is_refused seen all e status.Words h = absurd h
+called_is_refused seen all e status.NoScript h = read_is_refused seen all e h.0 h.1 (Err NoScript) h.2
+called_is_refused seen all e status.SourceFault h = absurd h
+called_is_refused seen all e status.SinkFault h = absurd h
+called_is_refused seen all e status.OutOfMemory h = absurd h
+called_is_refused seen all e status.TooLong h = long_is_refused seen all e h
+called_is_refused seen all e status.HistoryDiffers h = absurd h
+called_is_refused seen all e status.NotBuilt h = not_built_is_refused seen all e h.bytes h.read h.cause
 
--- no refusal is credentials or an error
-no_answer : (seen : Seen) (cause : Status) → CallsFor seen cause → one_answer status.Refused ≡ cause → ⊥
-no_answer seen status.Done h e = h
-no_answer seen status.Refused h e = h
-no_answer seen status.Words h e = h
-no_answer seen status.NoScript h e = cc
-no_answer seen status.SourceFault h e = h
-no_answer seen status.SinkFault h e = h
-no_answer seen status.OutOfMemory h e = h
-no_answer seen status.TooLong h e = cc
-no_answer seen status.NotBuilt h e = cc
+-- how a run over a known input ends, whose status depends on it alone: with the line of its script,
+-- or with the refusal that it calls for
+record HasLine (seen : Seen) (all : List ℕ) (ended : Status) : Type 0 where
+  is_credentials : Bool
+  is : ended ≡ status_of is_credentials
+  line : WritesLine seen is_credentials
+  called : refused_for all ≡ None
 
-by_itself : (seen : Seen) (cause ended : Status) → CallsFor seen cause → one_answer ended ≡ cause → (ended ≡ status.Refused) ⊎ (one_answer ended ≡ ended) → ended ≡ cause
-by_itself seen cause ended h e (inl refused) = absurd (no_answer seen cause h (sym (ap one_answer refused) ∙ e))
-by_itself seen cause ended h e (inr same) = sym same ∙ e
+record HasRefusal (seen : Seen) (all : List ℕ) (ended : Status) : Type 0 where
+  is : refusal ended ≡ Some ended
+  called : refused_for all ≡ Some ended
+  nothing : WritesNothing seen
 
-pub comes_where_called_for : (seen : Seen) (cause ended : Status) → IsSome seen.left → CallsFor seen cause → IsTrue (tells_of_input ended) → EndsResolving seen ended → ended ≡ cause
-comes_where_called_for seen cause ended told h t ends =
-    let left = some_of seen.left told in
-    by_itself seen cause ended h (sym (is_called_for seen left.0 left.1 ended t ends) ∙ refusal_is_called_for seen left.0 left.1 cause h) (as_it_is ended)
+ends_as : (seen : Seen) (all : List ℕ) → seen.left ≡ Some all → (ended : Status) → IsTrue (depends_on_input ended) → EndsResolving seen ended → HasLine seen all ended ⊎ HasRefusal seen all ended
+ends_as seen all e status.Done t ends = inl (record { is_credentials = true; is = refl; line = ends; called = script_is_not_refused seen all e ends.p ends.input })
+ends_as seen all e status.Refused t ends = inl (record { is_credentials = false; is = refl; line = ends; called = script_is_not_refused seen all e ends.p ends.input })
+ends_as seen all e status.Words t ends = absurd ends
+ends_as seen all e status.NoScript t ends = inr (record { is = refl; called = called_is_refused seen all e status.NoScript ends.0; nothing = ends.1 })
+ends_as seen all e status.SourceFault t ends = cc
+ends_as seen all e status.SinkFault t ends = cc
+ends_as seen all e status.OutOfMemory t ends = cc
+ends_as seen all e status.TooLong t ends = inr (record { is = refl; called = called_is_refused seen all e status.TooLong ends.0; nothing = ends.1 })
+ends_as seen all e status.HistoryDiffers t ends = absurd ends
+ends_as seen all e status.NotBuilt t ends = inr (record { is = refl; called = called_is_refused seen all e status.NotBuilt ends.0; nothing = ends.1 })
 
--- a text that was told of ends as done
-text_is_done : (seen : Seen) (text : List ℕ) (s : Status) → IsTrue (tells_of_input s) → Tells seen text s → s ≡ status.Done
-text_is_done seen text status.Done t ends = refl
+-- sinks that hold what they held have nothing more
+nothing_more : (seen : Seen) → WritesNothing seen → Appends seen.written seen.written_after []
+nothing_more seen h = subst (λ o. Appends seen.written o []) (sym h) (none_grown seen.written)
+
+both_nothing : (one other : Seen) → WritesNothing one → WritesNothing other → AppendTheSame one other
+both_nothing one other h k = ([], nothing_more one h, nothing_more other k)
+
+-- one input is one script
+one_script : (p q : Plain) → ◌≡◌ {A = Result Plain Refused} (Ok p) (Ok q) → p ≡ q
+one_script p q h = cc
+
+same_script : (one other : Seen) (all : List ℕ) → one.left ≡ Some all → other.left ≡ Some all → (p q : Plain) → IsScript one p → IsScript other q → p ≡ q
+same_script one other all e f p q is also =
+    one_script p q
+    (sym is.script ∙ ap script_of (sym (known_is one.left all (λ b. b ≡ is.bytes) e is.read.all) ∙ known_is other.left all (λ b. b ≡ also.bytes) f also.read.all) ∙ also.script)
+
+same_lines : (one other : Seen) (all : List ℕ) → one.left ≡ Some all → other.left ≡ Some all → (a b : Bool) → WritesLine one a → WritesLine other b → (a ≡ b) × AppendTheSame one other
+same_lines one other all e f a b x y =
+    let script : y.p ≡ x.p = same_script other one all f e y.p x.p y.input x.input in
+    let same = one_line (configuration_of x.p) (lists_of x.p) a b x.line y.line x.answers (subst (λ p. Answers p b y.line) script y.answers) in
+    (same.0, (x.line, x.written, subst (λ l. Appends other.written other.written_after l) (sym same.1) y.written))
+
+none_is_some : {s : Status} → ◌≡◌ {A = Option Status} None (Some s) → ⊥
+none_is_some h = cc
+
+line_or_refusal : (all : List ℕ) (ended : Status) → refused_for all ≡ None → refused_for all ≡ Some ended → ⊥
+line_or_refusal all ended h k = none_is_some (sym h ∙ k)
+
+one_some : (s t : Status) → ◌≡◌ {A = Option Status} (Some s) (Some t) → s ≡ t
+one_some s t h = cc
+
+both_end : (one other : Seen) (all : List ℕ) → one.left ≡ Some all → other.left ≡ Some all → (s t : Status)
+    → HasLine one all s ⊎ HasRefusal one all s → HasLine other all t ⊎ HasRefusal other all t → (s ≡ t) × AppendTheSame one other
+both_end one other all e f s t (inl x) (inl y) =
+    let same = same_lines one other all e f x.is_credentials y.is_credentials x.line y.line in
+    (x.is ∙ ap status_of same.0 ∙ sym y.is, same.1)
+both_end one other all e f s t (inl x) (inr y) = absurd (line_or_refusal all t x.called y.called)
+both_end one other all e f s t (inr x) (inl y) = absurd (line_or_refusal all s y.called x.called)
+both_end one other all e f s t (inr x) (inr y) = (one_some s t (sym x.called ∙ y.called), both_nothing one other x.nothing y.nothing)
+
+alike_resolving : (one other : Seen) (s t : Status) → BytesAreKnown one → one.left ≡ other.left → IsTrue (depends_on_input s) → IsTrue (depends_on_input t)
+    → EndsResolving one s → EndsResolving other t → (s ≡ t) × AppendTheSame one other
+alike_resolving one other s t known same u v a b =
+    let all = known_of one.left known in
+    let also : other.left ≡ Some all.0 = sym same ∙ all.1 in
+    both_end one other all.0 all.1 also s t (ends_as one all.0 all.1 s u a) (ends_as other all.0 also t v b)
+
+is_called : (all : List ℕ) (cause ended : Status) (seen : Seen) → refused_for all ≡ Some cause → HasLine seen all ended ⊎ HasRefusal seen all ended → ended ≡ cause
+is_called all cause ended seen h (inl x) = absurd (line_or_refusal all cause x.called h)
+is_called all cause ended seen h (inr x) = one_some ended cause (sym x.called ∙ h)
+
+pub comes_where_called_for : (seen : Seen) (cause ended : Status) → BytesAreKnown seen → CallsFor seen cause → IsTrue (depends_on_input ended) → EndsResolving seen ended → ended ≡ cause
+comes_where_called_for seen cause ended known h t ends =
+    let all = known_of seen.left known in
+    is_called all.0 cause ended seen (called_is_refused seen all.0 all.1 cause h) (ends_as seen all.0 all.1 ended t ends)
+
+-- a text that was told ends as done
+text_is_done : (seen : Seen) (text : List ℕ) (s : Status) → IsTrue (depends_on_input s) → EndsTelling seen text s → (s ≡ status.Done) × Appends seen.written seen.written_after text
+text_is_done seen text status.Done t ends = (refl, ends)
 text_is_done seen text status.Refused t ends = absurd ends
 text_is_done seen text status.Words t ends = absurd ends
 text_is_done seen text status.NoScript t ends = absurd ends
@@ -171,21 +180,39 @@ text_is_done seen text status.SourceFault t ends = absurd ends
 text_is_done seen text status.SinkFault t ends = cc
 text_is_done seen text status.OutOfMemory t ends = cc
 text_is_done seen text status.TooLong t ends = absurd ends
+text_is_done seen text status.HistoryDiffers t ends = absurd ends
 text_is_done seen text status.NotBuilt t ends = absurd ends
 
-words_are_faulty : (seen : Seen) (s : Status) → EndsForWords seen s → s ≡ status.Words
+alike_telling : (one other : Seen) (text : List ℕ) (s t : Status) → IsTrue (depends_on_input s) → IsTrue (depends_on_input t) → EndsTelling one text s → EndsTelling other text t → (s ≡ t) × AppendTheSame one other
+alike_telling one other text s t u v a b =
+    let first = text_is_done one text s u a in
+    let second = text_is_done other text t v b in
+    (first.0 ∙ sym second.0, (text, first.1, second.1))
+
+words_are_faulty : (seen : Seen) (s : Status) → EndsForWords seen s → (s ≡ status.Words) × WritesNothing seen
 words_are_faulty seen status.Done ends = absurd ends
 words_are_faulty seen status.Refused ends = absurd ends
-words_are_faulty seen status.Words ends = refl
+words_are_faulty seen status.Words ends = (refl, ends)
 words_are_faulty seen status.NoScript ends = absurd ends
 words_are_faulty seen status.SourceFault ends = absurd ends
 words_are_faulty seen status.SinkFault ends = absurd ends
 words_are_faulty seen status.OutOfMemory ends = absurd ends
 words_are_faulty seen status.TooLong ends = absurd ends
+words_are_faulty seen status.HistoryDiffers ends = absurd ends
 words_are_faulty seen status.NotBuilt ends = absurd ends
 
-pub exclude_one_another : (seen : Seen) (word : Option Word) (one other : Status) → AllTold seen → IsTrue (tells_of_input one) → IsTrue (tells_of_input other) → Ends seen word one → Ends seen word other → one ≡ other
-exclude_one_another seen None one other told t u a b = words_are_faulty seen one a ∙ sym (words_are_faulty seen other b)
-exclude_one_another seen (Some Help) one other told t u a b = text_is_done seen help_text one t a ∙ sym (text_is_done seen help_text other u b)
-exclude_one_another seen (Some Version) one other told t u a b = text_is_done seen version_text one t a ∙ sym (text_is_done seen version_text other u b)
-exclude_one_another seen (Some Resolve) one other told t u a b = resolving seen one other told t u a b
+alike_for_words : (one other : Seen) (s t : Status) → EndsForWords one s → EndsForWords other t → (s ≡ t) × AppendTheSame one other
+alike_for_words one other s t a b =
+    let first = words_are_faulty one s a in
+    let second = words_are_faulty other t b in
+    (first.0 ∙ sym second.0, both_nothing one other first.1 second.1)
+
+pub alike : (one other : Seen) (word : Option Word) (s t : Status) → BytesAreKnown one → one.left ≡ other.left → IsTrue (depends_on_input s) → IsTrue (depends_on_input t)
+    → EndsRun one word s → EndsRun other word t → (s ≡ t) × AppendTheSame one other
+alike one other None s t known same u v a b = alike_for_words one other s t a b
+alike one other (Some Help) s t known same u v a b = alike_telling one other help_text s t u v a b
+alike one other (Some Version) s t known same u v a b = alike_telling one other version_text s t u v a b
+alike one other (Some Resolve) s t known same u v a b = alike_resolving one other s t known same u v a b
+
+pub exclude_one_another : (seen : Seen) (word : Option Word) (one other : Status) → BytesAreKnown seen → IsTrue (depends_on_input one) → IsTrue (depends_on_input other) → EndsRun seen word one → EndsRun seen word other → one ≡ other
+exclude_one_another seen word one other known t u a b = (alike seen seen word one other known refl t u a b).0

@@ -36,6 +36,7 @@ configured_by variables sections selected = record {
   sleep = true;
 }
 
+-- these variables, sections as the script says them, and selected name
 abbrev pub configured : List (List ℕ × EnvText) → List Section → Option (List ℕ) → Configuration
 configured variables profiles selected = configured_by variables (map section_parts profiles) selected
 

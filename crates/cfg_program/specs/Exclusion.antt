@@ -1,32 +1,31 @@
 -- Which statuses tell of the words and of the input, and what in the input causes a refusal.
-use Rattle.std.specs.Prelude.{◌≡◌, ℕ, ◌<◌, List, length, Bool, true, false, Err, IsSome}
+use Rattle.std.specs.Prelude.{◌≡◌, ℕ, List, Bool, true, false, Err, IsSome}
+use Rattle.std.specs.Io.KnownBytes.{Appends}
 use Rattle.cfg_script.specs.Script.{NoScript}
 use Rattle.cfg_script.specs.Reading.{script_of}
 use Rattle.cfg_program.specs.declared.status.Status.{Status}
 use Rattle.cfg_program.specs.declared.status.Status.TheVariants as status
-use Rattle.cfg_program.specs.Streams.{Told, limit}
+use Rattle.cfg_program.specs.Inputs.{IsTooLong}
 use Rattle.cfg_program.specs.Run.{Seen, WasRead, IsNotBuilt}
 
--- all but the statuses of a fault and of memory
-abbrev pub tells_of_input : Status → Bool
-tells_of_input status.Done = true
-tells_of_input status.Refused = true
-tells_of_input status.Words = true
-tells_of_input status.NoScript = true
-tells_of_input status.SourceFault = false
-tells_of_input status.SinkFault = false
-tells_of_input status.OutOfMemory = false
-tells_of_input status.TooLong = true
-tells_of_input status.NotBuilt = true
+-- whether a status depends on the words and the input alone: all but those of a fault and of memory
+abbrev pub depends_on_input : Status → Bool
+depends_on_input status.SourceFault = false
+depends_on_input status.SinkFault = false
+depends_on_input status.OutOfMemory = false
+depends_on_input _ = true
 
--- the source and the sink tell their bytes
-pub record AllTold (seen : Seen) : Type 0 where
-  pub left : IsSome seen.left
-  pub written : IsSome seen.written
+-- the bytes of the input are known
+abbrev pub BytesAreKnown : Seen → Type 0
+BytesAreKnown seen = IsSome seen.left
+
+-- both runs append the same bytes to what their sinks hold
+abbrev pub AppendTheSame : Seen → Seen → Type 0
+AppendTheSame one other = (bytes : List ℕ) × Appends one.written one.written_after bytes × Appends other.written other.written_after bytes
 
 -- the bytes of the input call for this refusal
 abbrev pub CallsFor : Seen → Status → Type 0
 CallsFor seen status.NoScript = (bytes : List ℕ) × WasRead seen bytes × (script_of bytes ≡ Err NoScript)
-CallsFor seen status.TooLong = Told seen.left (λ b. limit < length b)
+CallsFor seen status.TooLong = IsTooLong seen.left seen.left_after
 CallsFor seen status.NotBuilt = IsNotBuilt seen
 CallsFor seen _ = ⊥

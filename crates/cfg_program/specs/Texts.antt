@@ -1,8 +1,10 @@
 -- The texts that words ask for.
 use Rattle.std.specs.Prelude.{ℕ, List, codes}
 
+-- what `--version` tells
 abbrev pub version_text : List ℕ
-version_text = codes "resolve 0.1.0\n"
+version_text = codes "bujerova 0.1.0\n"
 
+-- what `--help` tells
 abbrev pub help_text : List ℕ
-help_text = codes "resolve: AWS credentials by a script, as the SDK's default chain finds them\n\nusage: resolve resolve < SCRIPT     one line for the call that the script describes\n       resolve --help | --version\n\nSCRIPT is one JSON object on standard input. docs/SCRIPT.md tells its members,\nand the statuses that the program ends with.\n"
+help_text = codes "bujerova: AWS credentials by a script, as the SDK's default chain finds them\n\nusage: bujerova resolve < SCRIPT     one line for the call that the script describes\n       bujerova --help | --version\n\nSCRIPT is one JSON object on standard input. docs/SCRIPT.md tells its members,\nand the statuses that the program ends with.\n"

@@ -4,19 +4,19 @@ use Rattle.std.specs.Io.KnownBytes.{Appends}
 use Rattle.cfg_world.specs.Faults.{Rose}
 use Rattle.cfg_program.specs.declared.status.Status.{Status}
 use Rattle.cfg_program.specs.declared.status.Status.TheVariants as status
-use Rattle.cfg_program.specs.Streams.{GrowsByFront}
+use Rattle.cfg_program.specs.Streams.{GrowsByPrefix}
 
--- a text: all of it, or a front of it where the sink failed or memory ran out
+-- a text: all of it, or a prefix of it where the sink failed or memory ran out
 abbrev pub TextWritten : Option (List ℕ) → Option (List ℕ) → ℕ → ℕ → List ℕ → Status → Type 0
 TextWritten before after faults faults_after text status.Done = Appends before after text
-TextWritten before after faults faults_after text status.SinkFault = Rose faults faults_after × GrowsByFront before after text
-TextWritten before after faults faults_after text status.OutOfMemory = GrowsByFront before after text
+TextWritten before after faults faults_after text status.SinkFault = Rose faults faults_after × GrowsByPrefix before after text
+TextWritten before after faults faults_after text status.OutOfMemory = GrowsByPrefix before after text
 TextWritten before after faults faults_after text _ = ⊥
 
 -- the line of a call, with the status of what the call answered
 abbrev pub LineWritten : Option (List ℕ) → Option (List ℕ) → ℕ → ℕ → Bool → List ℕ → Status → Type 0
 LineWritten before after faults faults_after is_credentials line status.Done = (is_credentials ≡ true) × Appends before after line
 LineWritten before after faults faults_after is_credentials line status.Refused = (is_credentials ≡ false) × Appends before after line
-LineWritten before after faults faults_after is_credentials line status.SinkFault = Rose faults faults_after × GrowsByFront before after line
-LineWritten before after faults faults_after is_credentials line status.OutOfMemory = GrowsByFront before after line
+LineWritten before after faults faults_after is_credentials line status.SinkFault = Rose faults faults_after × GrowsByPrefix before after line
+LineWritten before after faults faults_after is_credentials line status.OutOfMemory = GrowsByPrefix before after line
 LineWritten before after faults faults_after is_credentials line _ = ⊥

@@ -1,8 +1,6 @@
-// Bytes of a source, to its end.
-ghost use Rattle.std.specs.Prelude.{◌≡◌, ◌<◌, ◌≤◌, IfOk, IfErr, Err, length};
+ghost use Rattle.std.specs.Prelude.{◌≡◌, ◌≤◌, [], IfOk, IfSome, Err, length};
 ghost use Rattle.cfg_world.specs.Faults.{Rose};
-ghost use Rattle.cfg_program.specs.Streams.{Told, limit};
-ghost use Rattle.cfg_program.specs.Inputs.{unread_from};
+ghost use Rattle.cfg_program.specs.Inputs.{IsTooLong};
 
 use cfg_world::{Source, StreamFault};
 use std::alloc::{AllocError, Global};
@@ -14,44 +12,48 @@ const PIECE: usize = 16_384;
 
 /// Why the input was not read.
 #[derive(Clone, Copy, Debug, PartialEq, Eq)]
-pub enum Unread {
+pub enum InputError {
+    /// The source failed.
     Fault,
     OutOfMemory,
+    /// There are more bytes than the limit.
     TooLong,
 }
 
-impl From<StreamFault> for Unread {
+impl From<StreamFault> for InputError {
     ghost use Rattle.std.specs.Prelude.{◌≡◌};
-    ghost use Rattle.cfg_program.specs.Inputs.{unread_from};
+    ghost use Rattle.cfg_program.specs.Inputs.{error_from};
 
-    ghost from_gives = { λ e r. r ≡ unread_from e };
+    ghost from_gives = { λ e r. r ≡ error_from e };
 
-    fn from(fault: StreamFault) -> Unread {
+    fn from(fault: StreamFault) -> InputError {
         match fault {
-            StreamFault::Failed => Unread::Fault,
-            StreamFault::OutOfMemory => Unread::OutOfMemory,
+            StreamFault::Failed => InputError::Fault,
+            StreamFault::OutOfMemory => InputError::OutOfMemory,
         }
     }
 }
 
-impl From<AllocError> for Unread {
+impl From<AllocError> for InputError {
     ghost use Rattle.std.specs.Prelude.{◌≡◌};
-    ghost use Rattle.cfg_program.specs.declared.input.Unread.TheVariants.{OutOfMemory as memory};
+    ghost use Rattle.cfg_program.specs.declared.input.InputError.TheVariants.{OutOfMemory as memory};
 
     ghost from_gives = { λ _ r. r ≡ memory };
 
-    fn from(_: AllocError) -> Unread {
-        Unread::OutOfMemory
+    fn from(_: AllocError) -> InputError {
+        InputError::OutOfMemory
     }
 }
 
-/// All bytes of the source, read to its end. One byte more than the limit is read at most.
-pub fn read_all<S: Source>(alloc: Global, source: &mut S) -> Result<Vec<u8>, Unread>
-    ensures all { IfOk result (λ v. Told (S.left source.old) (λ b. b ≡ v.items)) }
-    ensures short { IfOk result (λ v. length v.items ≤ limit) }
-    ensures long { result ≡ Err Unread.TooLong → Told (S.left source.old) (λ b. limit < length b) }
+/// All bytes of the source, read to its end. Where there are more than the limit, one more than the
+/// limit is read, and the others are left.
+pub fn read_all<S: Source>(alloc: Global, source: &mut S) -> Result<Vec<u8>, InputError>
+    ensures all { IfOk result (λ v. IfSome (S.left source.old) (λ b. b ≡ v.items)) }
+    ensures none_left { IfOk result (λ v. IfSome (S.left source.new) (λ b. b ≡ [])) }
+    ensures short { IfOk result (λ v. length v.items ≤ LIMIT) }
+    ensures long { result ≡ Err InputError.TooLong → IsTooLong (S.left source.old) (S.left source.new) }
     ensures counted { S.faults source.old ≤ S.faults source.new }
-    ensures failed { result ≡ Err Unread.Fault → Rose (S.faults source.old) (S.faults source.new) }
+    ensures failed { result ≡ Err InputError.Fault → Rose (S.faults source.old) (S.faults source.new) }
 {
     let mut out = Vec::new(alloc);
     let mut buffer = [0u8; PIECE];
@@ -64,5 +66,5 @@ pub fn read_all<S: Source>(alloc: Global, source: &mut S) -> Result<Vec<u8>, Unr
         }
         out.extend_from_slice(&piece[..n])?;
     }
-    Err(Unread::TooLong)
+    Err(InputError::TooLong)
 }

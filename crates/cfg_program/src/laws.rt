@@ -1,20 +1,44 @@
 //! Laws of runs, each on a call that carries it.
-ghost use Rattle.std.specs.Prelude.{◌≡◌, Option, Some, IsSome, IsTrue};
+ghost use Rattle.std.specs.Prelude.{◌≡◌, ℕ, List, Bool, Option, Some, IsSome, IsTrue};
+ghost use Rattle.cfg_world.specs.declared.script.DeviceLists.{DeviceLists as Lists};
+ghost use Rattle.cfg_chain.specs.Configuration.{Configuration};
+ghost use Rattle.cfg_script.specs.Script.{Plain};
 ghost use Rattle.cfg_program.specs.declared.status.Status.{Status as Ended};
 ghost use Rattle.cfg_program.specs.declared.words.Word.{Word as Asked};
 ghost use Rattle.cfg_program.specs.declared.words.Word.TheVariants.{Resolve};
-ghost use Rattle.cfg_program.specs.Run.{Seen, Ends};
-ghost use Rattle.cfg_program.specs.Exclusion.{AllTold, CallsFor, tells_of_input};
+ghost use Rattle.cfg_program.specs.Calls.{AnswersOver, Answers};
+ghost use Rattle.cfg_program.specs.Run.{Seen, EndsRun};
+ghost use Rattle.cfg_program.specs.Exclusion.{BytesAreKnown, AppendTheSame, CallsFor, depends_on_input};
 
-/// Of the statuses that tell of the words and of the input, one run meets the case of one alone.
+/// A call over one configuration and one script of devices has one line, and one status.
+pub fn one_call_has_one_line()
+    ensures { (conf : Configuration) (lists : Lists) (is_credentials is_other : Bool) (line other : List ℕ) →
+        AnswersOver conf lists is_credentials line → AnswersOver conf lists is_other other → (is_credentials ≡ is_other) × (line ≡ other) }
+{}
+
+/// A script has one line, and one status.
+pub fn one_script_has_one_line()
+    ensures { (script : Plain) (is_credentials is_other : Bool) (line other : List ℕ) →
+        Answers script is_credentials line → Answers script is_other other → (is_credentials ≡ is_other) × (line ≡ other) }
+{}
+
+/// Of the statuses that depend on the words and the input alone, one run meets the case of one.
 pub fn statuses_exclude_one_another()
-    ensures { (seen : Seen) (word : Option Asked) (one other : Ended) → AllTold seen → IsTrue (tells_of_input one) → IsTrue (tells_of_input other)
-        → Ends seen word one → Ends seen word other → one ≡ other }
+    ensures { (seen : Seen) (word : Option Asked) (one other : Ended) → BytesAreKnown seen → IsTrue (depends_on_input one) → IsTrue (depends_on_input other)
+        → EndsRun seen word one → EndsRun seen word other → one ≡ other }
+{}
+
+/// Two runs over the same input, whatever their sinks held, end with the same status and write the
+/// same bytes, where the status of both depends on the words and the input alone.
+pub fn runs_over_one_input_are_alike()
+    ensures { (one other : Seen) (word : Option Asked) (ended ended_other : Ended) → BytesAreKnown one → one.left ≡ other.left
+        → IsTrue (depends_on_input ended) → IsTrue (depends_on_input ended_other)
+        → EndsRun one word ended → EndsRun other word ended_other → (ended ≡ ended_other) × AppendTheSame one other }
 {}
 
 /// Where the bytes of the input call for a refusal (no script, too long, not built), whatever was
-/// written, a run over them ends with it, or with a fault or want of memory.
+/// written, a run over them ends with it, or with a fault, or memory runs out.
 pub fn a_refusal_comes_where_the_input_calls_for_it()
-    ensures { (seen : Seen) (cause ended : Ended) → IsSome seen.left → CallsFor seen cause → IsTrue (tells_of_input ended)
-        → Ends seen (Some Resolve) ended → ended ≡ cause }
+    ensures { (seen : Seen) (cause ended : Ended) → BytesAreKnown seen → CallsFor seen cause → IsTrue (depends_on_input ended)
+        → EndsRun seen (Some Resolve) ended → ended ≡ cause }
 {}

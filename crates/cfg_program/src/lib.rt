@@ -12,5 +12,6 @@ mod status;
 mod words;
 
 pub use input::LIMIT;
+pub use lines::ESCAPED;
 pub use status::Status;
 pub use words::{HELP, USAGE, VERSION, Word};

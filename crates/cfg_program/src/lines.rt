@@ -1,13 +1,16 @@
-// The line of a call.
-ghost use Rattle.std.specs.Prelude.{◌≡◌, ◌<◌, ◌++◌, ◌∷◌, [], OnOk, IfOk};
+ghost use Rattle.std.specs.Prelude.{◌≡◌, ◌<◌, ◌++◌, OnOk, IfOk};
 ghost use Rattle.std.specs.List.{flat_map};
 ghost use Rattle.std.specs.Fmt.{signed_decimal};
-ghost use Rattle.cfg_program.specs.Lines.{hex_digit as hex_digit_of, escaped as escaped_byte, shown_text, three_digits as three_digits_of, nine_digits as nine_digits_of, shown_expiry, class as class_of, name_of_question, kind as kind_of, later_kind, kinds as kinds_of, shown_credentials, shown_outcome, shown};
+ghost use Rattle.cfg_program.specs.Lines.{shown_text, three_digits as three_digits_of, nine_digits as nine_digits_of, shown_expiry, name_of_question, kind as kind_of, later_kind, kinds as kinds_of, shown_credentials, shown_outcome, shown};
 
-use cfg_types::{Credentials, CredentialsError, Instant};
-use cfg_world::{Answer, Entry, Question, Request};
+use cfg_types::{Credentials, CredentialsError, Instant, Request};
+use cfg_world::{Answer, Entry, Question};
+use percent_encoding::{AsciiSet, CONTROLS, ascii_set, percent_encode};
 use std::alloc::{AllocError, Global};
 use std::string::ToString;
+
+/// The bytes of a text that a line escapes: these, and those from 128.
+pub const ESCAPED: AsciiSet = ascii_set!(CONTROLS.add(b' ').add(b'%'));
 
 /// The line of a call's outcome and of the questions that it asked: the kind of outcome, what it
 /// tells, and the kinds of the questions, each with `!` where it failed.
@@ -37,7 +40,7 @@ fn write_outcome(
         Ok(credentials) => write_credentials(line, credentials)?,
         Err(error) => {
             write_word(line, b"error ")?;
-            write_word(line, class(error))?;
+            write_word(line, error.class().name().as_bytes())?;
         }
     }
     Ok(())
@@ -53,19 +56,6 @@ fn write_credentials(line: &mut Vec<u8>, credentials: &Credentials) -> Result<()
     line.push(b' ')?;
     write_expiry(line, credentials.expiry())?;
     Ok(())
-}
-
-// The name of an error's variant.
-fn class(error: &CredentialsError) -> &'static [u8]
-    ensures { result.now ≡ class_of error.now }
-{
-    match error {
-        CredentialsError::CredentialsNotLoaded(_) => b"CredentialsNotLoaded",
-        CredentialsError::InvalidConfiguration(_) => b"InvalidConfiguration",
-        CredentialsError::ProviderError(_) => b"ProviderError",
-        CredentialsError::Unhandled(_) => b"Unhandled",
-        CredentialsError::OutOfMemory => b"OutOfMemory",
-    }
 }
 
 fn write_kinds(line: &mut Vec<u8>, journal: &[Entry]) -> Result<(), AllocError>
@@ -116,35 +106,13 @@ fn write_word(line: &mut Vec<u8>, word: &[u8]) -> Result<(), AllocError>
     line.extend_from_slice(word)
 }
 
-// `=` and the bytes of the text, those outside 33 to 126 and `%` as `%` and two digits.
+// `=` and the bytes of the text, those that are escaped as `%` and two digits.
 fn write_text(line: &mut Vec<u8>, text: &str) -> Result<(), AllocError>
     ensures { OnOk result (line.new.items ≡ line.old.items ++ shown_text text.now) }
 {
     line.push(b'=')?;
-    for byte in text.as_bytes() {
-        write_escaped(line, *byte)?;
-    }
-    Ok(())
-}
-
-fn write_escaped(line: &mut Vec<u8>, byte: u8) -> Result<(), AllocError>
-    ensures { OnOk result (line.new.items ≡ line.old.items ++ escaped_byte byte) }
-{
-    if 33 <= byte && byte <= 126 && byte != b'%' {
-        line.push(byte)?;
-        return Ok(());
-    }
-    line.push(b'%')?;
-    line.push(hex_digit(byte / 16))?;
-    line.push(hex_digit(byte % 16))?;
-    Ok(())
-}
-
-fn hex_digit(digit: u8) -> u8
-    requires { digit < 16 }
-    ensures { result ≡ hex_digit_of digit }
-{
-    if digit < 10 { 48 + digit } else { 55 + digit }
+    let escaped = percent_encode(text.as_bytes(), ESCAPED).into_cow(*line.allocator())?;
+    write_word(line, escaped.as_bytes())
 }
 
 // Seconds, `.` and nine digits, or `none`.
@@ -183,8 +151,8 @@ fn write_three_digits(line: &mut Vec<u8>, number: u32) -> Result<(), AllocError>
     requires { number < 1000 }
     ensures { OnOk result (line.new.items ≡ line.old.items ++ three_digits_of number) }
 {
-    line.push(48 + (number / 100) as u8)?;
-    line.push(48 + (number / 10 % 10) as u8)?;
-    line.push(48 + (number % 10) as u8)?;
+    line.push(b'0' + (number / 100) as u8)?;
+    line.push(b'0' + (number / 10 % 10) as u8)?;
+    line.push(b'0' + (number % 10) as u8)?;
     Ok(())
 }

@@ -1,15 +1,14 @@
-// Bytes to a sink, in as many pieces as it takes.
 ghost use Rattle.std.specs.Prelude.{◌≡◌, ◌≤◌, OnOk, OnErr, Err};
 ghost use Rattle.std.specs.Io.KnownBytes.{Appends};
 ghost use Rattle.cfg_world.specs.Faults.{Rose};
-ghost use Rattle.cfg_program.specs.Streams.{GrowsByFront};
+ghost use Rattle.cfg_program.specs.Streams.{GrowsByPrefix};
 
 use cfg_world::{Sink, StreamFault};
 
-/// Writes all the bytes. After an error a front of them was written.
+/// Writes all the bytes. After an error a prefix of them was written.
 pub fn write_all<K: Sink>(sink: &mut K, bytes: &[u8]) -> Result<(), StreamFault>
     ensures done { OnOk result (Appends (K.written sink.old) (K.written sink.new) bytes.now) }
-    ensures part { OnErr result (GrowsByFront (K.written sink.old) (K.written sink.new) bytes.now) }
+    ensures part { OnErr result (GrowsByPrefix (K.written sink.old) (K.written sink.new) bytes.now) }
     ensures counted { K.faults sink.old ≤ K.faults sink.new }
     ensures failed { result ≡ Err StreamFault.Failed → Rose (K.faults sink.old) (K.faults sink.new) }
 {

@@ -1,4 +1,3 @@
-// From a script to the line of its call.
 ghost use Rattle.std.specs.Prelude.{◌≡◌, ◌&&◌, not, true, false, IfOk, Err, map, option_map, string_bytes};
 ghost use Rattle.std.specs.List.{list_any};
 ghost use Rattle.cfg_types.specs.Text.{characters};
@@ -179,7 +178,7 @@ fn call(
 {
     let mut kept = chain.new_kept()?;
     let outcome = chain.provide_credentials(&mut kept, world);
-    if is_want_of_memory(&outcome) {
+    if is_out_of_memory(&outcome) {
         return Err(OutOfMemory);
     }
     let line = line_of(alloc, &outcome, world.journal())?;
@@ -187,7 +186,7 @@ fn call(
     Ok(Answered { is_ok, line })
 }
 
-fn is_want_of_memory(outcome: &Result<Credentials, CredentialsError>) -> bool
+fn is_out_of_memory(outcome: &Result<Credentials, CredentialsError>) -> bool
     ensures { result ≡ is_memory outcome.now }
 {
     match outcome {

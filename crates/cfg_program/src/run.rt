@@ -1,11 +1,10 @@
-// The top call.
 ghost use Rattle.std.specs.Prelude.{◌≡◌, ◌≢◌, Some, None, map, string_bytes};
 ghost use Rattle.cfg_script.specs.Reading.{script_of};
 ghost use Rattle.cfg_program.specs.Words.{word_named};
 ghost use Rattle.cfg_program.specs.Written.{TextWritten, LineWritten};
-ghost use Rattle.cfg_program.specs.Run.{Ends, EndsResolving};
+ghost use Rattle.cfg_program.specs.Run.{EndsRun, EndsResolving};
 
-use crate::input::{Unread, read_all};
+use crate::input::{InputError, read_all};
 use crate::output::write_all;
 use crate::resolve::{Answered, Unresolved, resolve};
 use crate::status::Status;
@@ -18,8 +17,7 @@ use std::alloc::Global;
 /// Does what the words ask for: tells a text, or reads a script from the source and writes the line
 /// of its call to the sink. The words are tested first: without `resolve` the source stays as it
 /// was, and for faulty words the sink too. Nothing is written before the script was read to its end.
-/// The environment and the world that are handed in are for words that are not
-/// built yet: no word asks them anything.
+/// `_env` and `world` are for words that are not built yet: nothing is asked of them.
 pub fn run<S: Source, K: Sink, D: Devices>(
     alloc: Global,
     words: &[String],
@@ -28,8 +26,9 @@ pub fn run<S: Source, K: Sink, D: Devices>(
     _env: Vec<(String, EnvText)>,
     world: &mut World<D>,
 ) -> Status
-    ensures ends { Ends (record {
+    ensures ends { EndsRun (record {
       left = S.left source.old;
+      left_after = S.left source.new;
       written = K.written sink.old;
       written_after = K.written sink.new;
       source_faults = S.faults source.old;
@@ -64,6 +63,7 @@ fn tell<K: Sink>(sink: &mut K, text: &str) -> Status
 fn resolve_script<S: Source, K: Sink>(alloc: Global, source: &mut S, sink: &mut K) -> Status
     ensures { EndsResolving (record {
       left = S.left source.old;
+      left_after = S.left source.new;
       written = K.written sink.old;
       written_after = K.written sink.new;
       source_faults = S.faults source.old;
@@ -74,9 +74,9 @@ fn resolve_script<S: Source, K: Sink>(alloc: Global, source: &mut S, sink: &mut 
 {
     let bytes = match read_all(alloc, source) {
         Ok(bytes) => bytes,
-        Err(Unread::Fault) => return Status::SourceFault,
-        Err(Unread::OutOfMemory) => return Status::OutOfMemory,
-        Err(Unread::TooLong) => return Status::TooLong,
+        Err(InputError::Fault) => return Status::SourceFault,
+        Err(InputError::OutOfMemory) => return Status::OutOfMemory,
+        Err(InputError::TooLong) => return Status::TooLong,
     };
     let script = match read_script(alloc, bytes.as_slice()) {
         Ok(script) => script,

@@ -1,15 +1,14 @@
-// How the program ends.
 ghost use Rattle.std.specs.Prelude.{◌≡◌};
 ghost use Rattle.cfg_program.specs.Statuses.{number_of};
 
-/// How a run of the program ended, with the status that the process ends with.
+/// How a run of the program ended.
 #[derive(Clone, Copy, Debug, PartialEq, Eq)]
 pub enum Status {
     /// The last call gave credentials, or a text was told.
     Done,
     /// The last call answered an error.
     Refused,
-    /// The words are none that are known.
+    /// Unknown command.
     Words,
     /// The input is no script.
     NoScript,
@@ -17,15 +16,18 @@ pub enum Status {
     SourceFault,
     /// The lines could not be written.
     SinkFault,
+    /// Memory ran out.
     OutOfMemory,
     /// The input is longer than a script may be.
     TooLong,
+    /// The questions differ from a given history. Nothing has a history yet, so no run ends so.
+    HistoryDiffers,
     /// The script names what is not built yet.
     NotBuilt,
 }
 
 impl Status {
-    /// The number of the status. 8 is left for a word that is not built yet.
+    /// The number of the status, that the process ends with.
     pub fn number(self) -> u8
         ensures { result ≡ number_of self }
     {
@@ -38,6 +40,7 @@ impl Status {
             Status::SinkFault => 5,
             Status::OutOfMemory => 6,
             Status::TooLong => 7,
+            Status::HistoryDiffers => 8,
             Status::NotBuilt => 9,
         }
     }

@@ -1,4 +1,3 @@
-// What the program can be asked to do.
 ghost use Rattle.std.specs.Prelude.{◌≡◌, map, string_bytes, ◌∷◌, []};
 ghost use Rattle.cfg_program.specs.Words.{word_named};
 
@@ -10,21 +9,24 @@ pub enum Word {
     Resolve,
 }
 
-pub const VERSION: &str = "resolve 0.1.0\n";
+/// What `--version` tells.
+pub const VERSION: &str = "bujerova 0.1.0\n";
 
+/// What `--help` tells.
 pub const HELP: &str = "\
-resolve: AWS credentials by a script, as the SDK's default chain finds them
+bujerova: AWS credentials by a script, as the SDK's default chain finds them
 
-usage: resolve resolve < SCRIPT     one line for the call that the script describes
-       resolve --help | --version
+usage: bujerova resolve < SCRIPT     one line for the call that the script describes
+       bujerova --help | --version
 
 SCRIPT is one JSON object on standard input. docs/SCRIPT.md tells its members,
 and the statuses that the program ends with.
 ";
 
+/// What is told of faulty words, on standard error.
 pub const USAGE: &str = "\
-usage: resolve resolve < SCRIPT
-       resolve --help | --version";
+usage: bujerova resolve < SCRIPT
+       bujerova --help | --version";
 
 /// What the words ask for, if it is one thing that is known.
 pub fn word_of(words: &[String]) -> Option<Word>

@@ -10,7 +10,7 @@ returns g c =
     line_ends _ (plain c.in-Ok-read_script.script) c.in-Ok-resolve.answered.is_ok c.in-Ok-resolve.answered.line.items c.write_line.result
     (record {
       bytes = c.in-Ok.bytes.items;
-      read = record { all = c.in-Ok.ensures.all; short = c.in-Ok.ensures.short };
+      read = record { all = c.in-Ok.ensures.all; none_left = c.in-Ok.ensures.none_left; short = c.in-Ok.ensures.short };
       script = ap script_of (sym c.as_slice.ensures.value) ∙ c.in-Ok-read_script.ensures.script;
       built = c.in-Ok-resolve.ensures.built;
     })
