@@ -14,5 +14,5 @@ use Rattle.cfg_program.specs.Calls.{AnswersOver}
 pub one_line : (conf : Configuration) (lists : DeviceLists) (a b : Bool) (line other : List ℕ) → AnswersOver conf lists a line → AnswersOver conf lists b other → (a ≡ b) × (line ≡ other)
 one_line conf lists a b line other x y =
     let same = one_script_one_journal (chain conf default_members []) lists start x.journal y.journal x.out y.out x.agrees y.agrees
-        (parts_chain conf default_members [] x.journal x.out x.resolves.1) (parts_chain conf default_members [] y.journal y.out y.resolves.1) in
+    (parts_chain conf default_members [] x.journal x.out x.resolves.1) (parts_chain conf default_members [] y.journal y.out y.resolves.1) in
     (x.credentials ∙ ap is_ok same.1 ∙ sym y.credentials, x.shows ∙ ap (λ o. shown o x.journal) same.1 ∙ ap (λ j. shown y.out j) same.0 ∙ sym y.shows)
