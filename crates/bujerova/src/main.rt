@@ -38,7 +38,7 @@ fn main(rt: HostRuntime) -> ExitCode {
     ExitCode::from(status.number())
 }
 
-// The words after the program's name. Words that are no texts are faulty ones.
+// The words after the program's name. Words that are no texts are no known command.
 fn words_of(rt: &(impl std::rt::Env + AllocGlobal)) -> Result<Vec<String>, Status> {
     let given = match env::args(rt) {
         Ok(given) => given,

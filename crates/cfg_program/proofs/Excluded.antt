@@ -189,22 +189,22 @@ alike_telling one other text s t u v a b =
     let second = text_is_done other text t v b in
     (first.0 ∙ sym second.0, (text, first.1, second.1))
 
-words_are_faulty : (seen : Seen) (s : Status) → EndsForWords seen s → (s ≡ status.Words) × WritesNothing seen
-words_are_faulty seen status.Done ends = absurd ends
-words_are_faulty seen status.Refused ends = absurd ends
-words_are_faulty seen status.Words ends = (refl, ends)
-words_are_faulty seen status.NoScript ends = absurd ends
-words_are_faulty seen status.SourceFault ends = absurd ends
-words_are_faulty seen status.SinkFault ends = absurd ends
-words_are_faulty seen status.OutOfMemory ends = absurd ends
-words_are_faulty seen status.TooLong ends = absurd ends
-words_are_faulty seen status.HistoryDiffers ends = absurd ends
-words_are_faulty seen status.NotBuilt ends = absurd ends
+command_is_unknown : (seen : Seen) (s : Status) → EndsForWords seen s → (s ≡ status.Words) × WritesNothing seen
+command_is_unknown seen status.Done ends = absurd ends
+command_is_unknown seen status.Refused ends = absurd ends
+command_is_unknown seen status.Words ends = (refl, ends)
+command_is_unknown seen status.NoScript ends = absurd ends
+command_is_unknown seen status.SourceFault ends = absurd ends
+command_is_unknown seen status.SinkFault ends = absurd ends
+command_is_unknown seen status.OutOfMemory ends = absurd ends
+command_is_unknown seen status.TooLong ends = absurd ends
+command_is_unknown seen status.HistoryDiffers ends = absurd ends
+command_is_unknown seen status.NotBuilt ends = absurd ends
 
 alike_for_words : (one other : Seen) (s t : Status) → EndsForWords one s → EndsForWords other t → (s ≡ t) × AppendTheSame one other
 alike_for_words one other s t a b =
-    let first = words_are_faulty one s a in
-    let second = words_are_faulty other t b in
+    let first = command_is_unknown one s a in
+    let second = command_is_unknown other t b in
     (first.0 ∙ sym second.0, both_nothing one other first.1 second.1)
 
 pub alike : (one other : Seen) (word : Option Word) (s t : Status) → BytesAreKnown one → one.left ≡ other.left → IsTrue (depends_on_input s) → IsTrue (depends_on_input t)

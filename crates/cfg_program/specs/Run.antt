@@ -84,7 +84,7 @@ EndsResolving seen status.TooLong = IsTooLong seen.left seen.left_after × Write
 EndsResolving seen status.HistoryDiffers = ⊥
 EndsResolving seen status.NotBuilt = IsNotBuilt seen × WritesNothing seen
 
--- faulty words
+-- an unknown command
 abbrev pub EndsForWords : Seen → Status → Type 0
 EndsForWords seen status.Words = WritesNothing seen
 EndsForWords seen _ = ⊥

@@ -16,8 +16,8 @@ use std::alloc::Global;
 
 /// Does what the words ask for: tells a text, or reads a script from the source and writes the line
 /// of its call to the sink. The words are tested first: without `resolve` the source stays as it
-/// was, and for faulty words the sink too. Nothing is written before the script was read to its end.
-/// `_env` and `world` are for words that are not built yet: nothing is asked of them.
+/// was, and for an unknown command the sink too. Nothing is written before the script was read to
+/// its end. `_env` and `world` are for words that are not built yet: nothing is asked of them.
 pub fn run<S: Source, K: Sink, D: Devices>(
     alloc: Global,
     words: &[String],

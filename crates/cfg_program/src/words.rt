@@ -23,7 +23,7 @@ SCRIPT is one JSON object on standard input. docs/SCRIPT.md tells its members,
 and the statuses that the program ends with.
 ";
 
-/// What is told of faulty words, on standard error.
+/// What is told of an unknown command, on standard error.
 pub const USAGE: &str = "\
 usage: bujerova resolve < SCRIPT
        bujerova --help | --version";
