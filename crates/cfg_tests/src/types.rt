@@ -61,17 +61,24 @@ const WHITE: &str =
 
 #[test]
 fn white_space_is_that_of_unicode(rt: HostRuntime) -> Result<(), Fail> {
-    assert!(rt; is_blank("") && is_blank(WHITE));
-    let within = format!(in rt.alloc(); "x{WHITE}y")?;
+    for text in ["", WHITE] {
+        assert!(rt; is_blank(text), "{text:?}");
+    }
     let around = format!(in rt.alloc(); "{WHITE}x{WHITE}y{WHITE}")?;
+    let within = format!(in rt.alloc(); "x{WHITE}y")?;
     assert_eq!(rt; trimmed(around.as_str()), within.as_str());
-    for other in [
+    Ok(())
+}
+
+#[test]
+fn other_characters_are_no_white_space(rt: HostRuntime) {
+    let others: &[&str] = &[
         "\0", "\u{1c}", "\u{1d}", "\u{1e}", "\u{1f}", "\u{180e}", "\u{200b}", "\u{2060}",
         "\u{feff}",
-    ] {
+    ];
+    for other in others {
         assert!(rt; !is_blank(other), "{other:?}");
     }
-    Ok(())
 }
 
 fn env(alloc: Global, rows: &[(&str, Option<&str>)]) -> Result<Env, OutOfMemory> {
@@ -134,33 +141,35 @@ fn text_words(alloc: Global, text: &str) -> Result<String, OutOfMemory> {
 
 #[test]
 fn texts_are_copied_whole(rt: HostRuntime) -> Result<(), Fail> {
-    for (text, want) in [
-        ("", "\"\" Region { name: \"\" } AccountId { id: \"\" }"),
-        (
-            "a\0é𝄞\"",
-            "\"a\\0é𝄞\\\"\" Region { name: \"a\\0é𝄞\\\"\" } AccountId { id: \"a\\0é𝄞\\\"\" }",
-        ),
-    ] {
-        let words = text_words(rt.alloc(), text)?;
-        assert_eq!(rt; words.as_str(), want);
-    }
+    let words = text_words(rt.alloc(), "a\0é𝄞\"")?;
+    assert_eq!(rt;
+        words.as_str(),
+        r#""a\0é𝄞\"" Region { name: "a\0é𝄞\"" } AccountId { id: "a\0é𝄞\"" }"#
+    );
     Ok(())
 }
 
-// Copies of bytes, of numbers, of a number that may be there, and one number in a box, in words.
+// Copies of bytes and of numbers, of these one more, in words.
 fn sequence_words(alloc: Global) -> Result<String, OutOfMemory> {
     let bytes = Bytes::of(alloc, b"\x00\xff=")?.copy(alloc)?;
     let mut numbers = Seq::of_slice(alloc, &[3, 1])?.copy(alloc)?;
     numbers.push(4)?;
+    Ok(format!(in alloc; "{bytes:?} {numbers:?}")?)
+}
+
+// A number that may be there, and one in a box, in words.
+fn number_words(alloc: Global) -> Result<String, OutOfMemory> {
     let number = copy_option(alloc, &Some(7u64))?;
     let boxed = Boxed::new(alloc, 8u64)?;
-    Ok(format!(in alloc; "{bytes:?} {numbers:?} {number:?} {boxed:?}")?)
+    Ok(format!(in alloc; "{number:?} {boxed:?}")?)
 }
 
 #[test]
 fn sequences_are_copied_whole(rt: HostRuntime) -> Result<(), Fail> {
     let words = sequence_words(rt.alloc())?;
-    assert_eq!(rt; words.as_str(), "[0, 255, 61] [3, 1, 4] Some(7) 8");
+    assert_eq!(rt; words.as_str(), "[0, 255, 61] [3, 1, 4]");
+    let words = number_words(rt.alloc())?;
+    assert_eq!(rt; words.as_str(), "Some(7) 8");
     Ok(())
 }
 
@@ -201,7 +210,7 @@ fn settings(alloc: Global) -> Result<CallSettings, OutOfMemory> {
             connect_ms: Some(3100),
             read_ms: None,
             operation_ms: None,
-            attempt_ms: Some(1000),
+            attempt_ms: None,
         },
     })
 }
@@ -214,19 +223,23 @@ fn tags(alloc: Global) -> Result<Seq<Tag>, OutOfMemory> {
     Ok(tags)
 }
 
-fn request(alloc: Global) -> Result<Request, OutOfMemory> {
-    let mut policies = Seq::of(Vec::new(alloc));
-    policies.push(Text::of(alloc, "p")?)?;
+// A call for a role, with one tag.
+pub(crate) fn request(alloc: Global) -> Result<Request, OutOfMemory> {
+    let signer = keys(alloc)?;
+    let role_arn = Text::of(alloc, "r")?;
+    let session_name = Text::of(alloc, "s")?;
+    let tags = tags(alloc)?;
+    let settings = settings(alloc)?;
     Ok(Request::AssumeRole(AssumeRole {
-        signer: keys(alloc)?,
-        role_arn: Text::of(alloc, "r")?,
-        session_name: Text::of(alloc, "s")?,
-        external_id: Some(Text::of(alloc, "x")?),
+        signer,
+        role_arn,
+        session_name,
+        external_id: None,
         policy: None,
-        policy_arns: Some(policies),
+        policy_arns: None,
         duration_seconds: Some(900),
-        tags: Some(tags(alloc)?),
-        settings: settings(alloc)?,
+        tags: Some(tags),
+        settings,
     }))
 }
 
@@ -241,7 +254,7 @@ fn requests_are_copied_whole(rt: HostRuntime) -> Result<(), Fail> {
     let words = request_words(rt.alloc())?;
     assert_eq!(rt;
         words.as_str(),
-        "AssumeRole(AssumeRole { signer: Credentials { provider_name: \"Environment\", access_key_id: \"AKID\", secret_access_key: \"** redacted **\", expires_after: 0 s 0 ns, account_id: \"123456789012\" }, role_arn: \"r\", session_name: \"s\", external_id: Some(\"x\"), policy: None, policy_arns: Some([\"p\"]), duration_seconds: Some(900), tags: Some([Tag { key: \"team\", value: \"blue\" }]), settings: CallSettings { region: Some(Region { name: \"eu-west-1\" }), use_fips: Some(true), use_dual_stack: None, max_attempts: 3, timeouts: Timeouts { connect_ms: Some(3100), read_ms: None, operation_ms: None, attempt_ms: Some(1000) } } })"
+        "AssumeRole(AssumeRole { signer: Credentials { provider_name: \"Environment\", access_key_id: \"AKID\", secret_access_key: \"** redacted **\", expires_after: 0 s 0 ns, account_id: \"123456789012\" }, role_arn: \"r\", session_name: \"s\", external_id: None, policy: None, policy_arns: None, duration_seconds: Some(900), tags: Some([Tag { key: \"team\", value: \"blue\" }]), settings: CallSettings { region: Some(Region { name: \"eu-west-1\" }), use_fips: Some(true), use_dual_stack: None, max_attempts: 3, timeouts: Timeouts { connect_ms: Some(3100), read_ms: None, operation_ms: None, attempt_ms: None } } })"
     );
     Ok(())
 }

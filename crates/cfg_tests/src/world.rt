@@ -1,8 +1,8 @@
 // What no clause says: worked examples of the definitions, and that calls succeed. A reader or a
 // writer may fail where no clause knows it: such failures are tried here.
+use crate::types::request;
 use cfg_types::{
-    AssumeRole, CallSettings, CredentialsBuilder, FailKind, Instant, OutOfMemory, Refusal,
-    RefusalKind, Reply, Request, Seq, StsReply, Text, Timeouts, TryCopy,
+    FailKind, Instant, OutOfMemory, Refusal, RefusalKind, Reply, Seq, StsReply, Text, TryCopy,
 };
 use cfg_world::{
     Answer, DeviceLists, Question, ReaderSource, ScriptDevices, Sink, Source, World, WriterSink,
@@ -12,31 +12,6 @@ use std::alloc::{AllocError, Global};
 use std::io;
 use std::io::{Read, Write};
 use std::test::Fail;
-
-fn request(alloc: Global) -> Result<Request, OutOfMemory> {
-    Ok(Request::AssumeRole(AssumeRole {
-        signer: CredentialsBuilder::new(alloc, "AKID", "wJalr", "Environment")?.build()?,
-        role_arn: Text::of(alloc, "r")?,
-        session_name: Text::of(alloc, "s")?,
-        external_id: None,
-        policy: None,
-        policy_arns: None,
-        duration_seconds: None,
-        tags: None,
-        settings: CallSettings {
-            region: None,
-            use_fips: None,
-            use_dual_stack: None,
-            max_attempts: 3,
-            timeouts: Timeouts {
-                connect_ms: None,
-                read_ms: None,
-                operation_ms: None,
-                attempt_ms: None,
-            },
-        },
-    }))
-}
 
 // Three replies: no credentials, a send that fails, and a refusal.
 fn replies(alloc: Global) -> Result<Vec<Result<Reply, FailKind>>, OutOfMemory> {
@@ -93,33 +68,38 @@ fn asked(
     Ok(answer_words(alloc, receipt.entry().answer())?)
 }
 
-// The answers of so many readings of the clock, and of so many sends.
-fn answers(
-    alloc: Global,
-    devices: ScriptDevices,
-    readings: u8,
-    sends: u8,
-) -> Result<String, OutOfMemory> {
+fn question(alloc: Global, is_send: bool) -> Result<Question, OutOfMemory> {
+    if is_send {
+        Question::Send(request(alloc)?).copy(alloc)
+    } else {
+        Ok(Question::Now)
+    }
+}
+
+// The answers of readings of the clock and of sends, in this order.
+fn answers(alloc: Global, devices: ScriptDevices, sends: &[bool]) -> Result<String, OutOfMemory> {
     let mut world = World::new(alloc, devices);
     let mut words = String::new(alloc);
-    for _ in 0..readings {
-        words.push_str(asked(alloc, Question::Now, &mut world)?.as_str())?;
-    }
-    for _ in 0..sends {
-        let question = Question::Send(request(alloc)?).copy(alloc)?;
-        words.push_str(asked(alloc, question, &mut world)?.as_str())?;
+    for is_send in sends {
+        let question = question(alloc, *is_send)?;
+        let word = asked(alloc, question, &mut world)?;
+        words.push_str(word.as_str())?;
     }
     Ok(words)
 }
 
 #[test]
 fn answers_come_in_order(rt: HostRuntime) -> Result<(), Fail> {
-    let words = answers(rt.alloc(), scripted(rt.alloc())?, 3, 5)?;
+    let words = answers(
+        rt.alloc(),
+        scripted(rt.alloc())?,
+        &[false, true, false, true, true, false, true, true],
+    )?;
     assert_eq!(rt;
         words.as_str(),
-        "5 7 7 granted Timeout RegionDisabled Dispatch Dispatch "
+        "5 granted 7 Timeout RegionDisabled 7 Dispatch Dispatch "
     );
-    let words = answers(rt.alloc(), unscripted(rt.alloc()), 2, 1)?;
+    let words = answers(rt.alloc(), unscripted(rt.alloc()), &[false, false, true])?;
     assert_eq!(rt; words.as_str(), "0 0 Dispatch ");
     Ok(())
 }
@@ -153,20 +133,22 @@ fn leaves_read_their_answers(rt: HostRuntime) -> Result<(), Fail> {
     Ok(())
 }
 
+// What a source answers to three reads into two bytes, and the bytes.
+fn source_words<R: Read + Drop>(alloc: Global, reader: R) -> Result<String, AllocError> {
+    let mut source = ReaderSource::new(reader);
+    let mut bytes = [b'-'; 2];
+    let first = source.read(&mut bytes);
+    let second = source.read(&mut bytes);
+    let third = source.read(&mut bytes);
+    format!(in alloc; "{first:?} {second:?} {third:?} {bytes:?}")
+}
+
 #[test]
 fn a_reader_is_a_source(rt: HostRuntime) -> Result<(), Fail> {
-    let mut source = ReaderSource::new(b"abc".as_slice());
-    let mut buffer = [b'-'; 2];
-    for want in ["Ok(2) [97, 98]", "Ok(1) [99, 98]", "Ok(0) [99, 98]"] {
-        let read = source.read(&mut buffer);
-        let words = format!(in rt.alloc(); "{read:?} {buffer:?}")?;
-        assert_eq!(rt; words.as_str(), want);
-    }
-    let mut source = ReaderSource::new(FailsOnce { failed: false });
-    for want in ["Err(Failed)", "Ok(0)"] {
-        let read = format!(in rt.alloc(); "{:?}", source.read(&mut buffer))?;
-        assert_eq!(rt; read.as_str(), want);
-    }
+    let words = source_words(rt.alloc(), b"abc".as_slice())?;
+    assert_eq!(rt; words.as_str(), "Ok(2) Ok(1) Ok(0) [99, 98]");
+    let words = source_words(rt.alloc(), FailsOnce { failed: false })?;
+    assert_eq!(rt; words.as_str(), "Err(Failed) Ok(0) Ok(0) [45, 45]");
     Ok(())
 }
 
