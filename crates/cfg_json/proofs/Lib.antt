@@ -15,7 +15,6 @@ pub mod ObjectsAgain
 pub mod ObjectsTake
 pub mod InnerObjects
 pub mod AnswerLaws
-pub mod AnswerSteps
 pub mod DateSteps
 pub mod DatesAgain
 pub mod DatesTake

@@ -10,6 +10,7 @@ use crate::white_space::skip_white_space;
 use cfg_types::{JsonError, Seq};
 use std::alloc::Global;
 
+#[tactic(auto, using(crate::proofs::AnswerLaws::answers_from_reads), unfolding(crate::specs::ReadingObjects::object_answer))]
 fn read_front(alloc: Global, bytes: &[u8]) -> Result<(Vec<Member>, &[u8]), JsonError>
     ensures { Answers (λ p. (p.0.items, p.1.now)) result (object_answer bytes.now) }
 {
@@ -22,17 +23,18 @@ fn read_front(alloc: Global, bytes: &[u8]) -> Result<(Vec<Member>, &[u8]), JsonE
     read_object(alloc, inside, bytes.len())
 }
 
+#[tactic(auto, unfolding(crate::specs::Answers::only_answer))]
 fn read_only(alloc: Global, bytes: &[u8]) -> Result<(Vec<Member>, &[u8]), JsonError>
     ensures { Answers (λ p. (p.0.items, p.1.now)) result (only_answer bytes.now) }
 {
     let (list, rest) = read_front(alloc, bytes)?;
-    if skip_white_space(rest).is_empty() {
-        Ok((list, rest))
-    } else {
-        Err(JsonError::More)
+    match skip_white_space(rest).split_first() {
+        None => Ok((list, rest)),
+        Some(_) => Err(JsonError::More),
     }
 }
 
+#[tactic(auto, unfolding(crate::specs::Answers::list_answer))]
 fn front_list(alloc: Global, bytes: &[u8]) -> Result<Members, JsonError>
     ensures { Answers member_list result (list_answer bytes.now) }
 {
@@ -43,6 +45,7 @@ fn front_list(alloc: Global, bytes: &[u8]) -> Result<Members, JsonError>
     })
 }
 
+#[tactic(auto, unfolding(crate::specs::Answers::only_list_answer))]
 fn only_list(alloc: Global, bytes: &[u8]) -> Result<Members, JsonError>
     ensures { Answers member_list result (only_list_answer bytes.now) }
 {
