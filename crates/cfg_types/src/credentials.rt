@@ -69,12 +69,6 @@ pub enum AwsCredentialFeature {
     CredentialsStsAssumeRole,
 }
 
-impl TryCopy for AwsCredentialFeature {
-    fn copy(&self, _: Global) -> Result<AwsCredentialFeature, OutOfMemory> {
-        Ok(*self)
-    }
-}
-
 /// Keys that sign requests, with what is known of them.
 #[derive(PartialEq, Eq)]
 pub struct Credentials {

@@ -3,9 +3,6 @@ ghost use Rattle.std.specs.Prelude.{◌≡◌, ◌<◌, ◌≤◌, ◌/◌, ◌�
 ghost use Rattle.std.specs.Int.{int_min, int_max};
 ghost use Rattle.cfg_types.specs.Instant.{number, first_number, last_number, nanos_in};
 
-use crate::copies::TryCopy;
-use crate::memory::OutOfMemory;
-use std::alloc::Global;
 use std::marker::Model;
 
 /// A moment: whole seconds since the epoch, of any sign, and nanoseconds below 1,000,000,000
@@ -119,11 +116,5 @@ impl Instant {
         ensures { result ≡ self.seconds *ℤ pos 1000 +ℤ pos (self.nanos / 1000000) }
     {
         i128::from(self.seconds) * 1000 + i128::from(self.nanos / 1_000_000)
-    }
-}
-
-impl TryCopy for Instant {
-    fn copy(&self, _: Global) -> Result<Instant, OutOfMemory> {
-        Ok(*self)
     }
 }
