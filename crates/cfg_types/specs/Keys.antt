@@ -3,6 +3,7 @@ use Rattle.std.specs.Prelude.{ℕ, List, [], Option, None}
 use Rattle.cfg_types.specs.Moment.{Moment}
 use Rattle.cfg_types.specs.declared.credentials.AwsCredentialFeature.{AwsCredentialFeature}
 
+-- id, secret, session token, expiry, account, provider and features
 pub record Keys : Type 0 where
   pub access_key_id : List ℕ
   pub secret_access_key : List ℕ

@@ -4,7 +4,7 @@ use Rattle.std.specs.Str.{encode_utf8_all}
 use Rattle.std.specs.Fmt.{decimal, signed_decimal}
 use Rattle.cfg_types.specs.Moment.{Moment}
 
--- when they expire
+-- how the Debug text tells when credentials expire
 abbrev pub shown_expiry : Option Moment → List ℕ
 shown_expiry None = codes "expires_after: never"
 shown_expiry (Some end) = codes "expires_after: " ++ (signed_decimal end.seconds ++ (codes " s " ++ (decimal end.nanos ++ codes " ns")))
@@ -19,5 +19,6 @@ abbrev pub shown_key : List ℕ → List ℕ → List ℕ
 shown_key provider id =
     codes "provider_name: \"" ++ (encode_utf8_all provider ++ (codes "\", access_key_id: \"" ++ (encode_utf8_all id ++ codes "\", secret_access_key: \"** redacted **\", ")))
 
+-- the Debug text: provider, id, expiry and account
 abbrev pub shown_credentials : List ℕ → List ℕ → Option Moment → Option (List ℕ) → List ℕ
 shown_credentials provider id expiry account = codes "Credentials { " ++ (shown_key provider id ++ (shown_expiry expiry ++ (shown_account account ++ codes " }")))

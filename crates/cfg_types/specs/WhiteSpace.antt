@@ -2,10 +2,11 @@
 use Rattle.std.specs.Prelude.{ℕ, List, [], ◌∷◌, Bool, true, false}
 use Rattle.std.specs.Str.{skip_leading_whitespace, drop_trailing_whitespace}
 
--- the characters without white space at either end
+-- a text's characters without the white space at either end
 abbrev pub trimmed : List ℕ → List ℕ
 trimmed text = drop_trailing_whitespace (skip_leading_whitespace text)
 
+-- no character at all
 abbrev pub is_empty : List ℕ → Bool
 is_empty [] = true
 is_empty (c ∷ text) = false

@@ -1,4 +1,3 @@
-// A box, seen as its value.
 ghost use Rattle.std.specs.Prelude.{◌≡◌, IfOk};
 
 use crate::memory::OutOfMemory;

@@ -1,4 +1,4 @@
-// What can be wrong with a document of credentials.
+//! The fields of a document of credentials, and what can be wrong with one.
 ghost use Rattle.std.specs.Prelude.{◌≡◌};
 ghost use Rattle.cfg_types.specs.Field.{field_name};
 
@@ -13,7 +13,7 @@ use std::fmt;
 pub enum JsonError {
     /// The first byte that is no white space does not open an object, or there is none.
     NotObject,
-    /// An object is opened, and no front of the bytes is one.
+    /// An object is opened, and no prefix of the bytes is one.
     Syntax,
     /// More than white space follows the object.
     More,

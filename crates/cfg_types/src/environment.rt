@@ -1,4 +1,4 @@
-// Environment variables that are handed in.
+//! Environment variables that are handed in, and how they are read.
 ghost use Rattle.std.specs.Prelude.{◌≡◌, IfOk, MatchResult, Ok, Err, map};
 ghost use Rattle.std.specs.Str.{encode_utf8_all};
 ghost use Rattle.cfg_types.specs.Text.{characters};
@@ -17,6 +17,7 @@ use std::marker::Model;
 #[derive(Debug, PartialEq, Eq, Drop)]
 pub enum EnvText {
     Text(Text),
+    /// Bytes that are no text.
     NotUnicode,
 }
 
@@ -35,7 +36,9 @@ impl TryCopy for EnvText {
 /// Why a variable cannot be read.
 #[derive(Clone, Copy, Debug, PartialEq, Eq)]
 pub enum VarError {
+    /// It is not set.
     NotPresent,
+    /// Its value is no text.
     NotUnicode,
 }
 

@@ -1,4 +1,4 @@
-// Errors of the resolver, each with its cause.
+//! Every error of the resolver, each with its cause.
 ghost use Rattle.std.specs.Prelude.{◌≡◌, IfOk};
 ghost use Rattle.std.specs.Str.{encode_utf8_all};
 ghost use Rattle.cfg_types.specs.Text.{characters};

@@ -1,4 +1,3 @@
-// Moments in time.
 ghost use Rattle.std.specs.Prelude.{◌≡◌, ◌<◌, ◌≤◌, ◌/◌, ◌↔◌, pos, ◌≤ℤ◌, ◌<ℤ◌, ◌+ℤ◌, ◌-ℤ◌, ◌*ℤ◌, IsSome, IfSome};
 ghost use Rattle.std.specs.Int.{int_min, int_max};
 ghost use Rattle.cfg_types.specs.Instant.{number, first_number, last_number, nanos_in};

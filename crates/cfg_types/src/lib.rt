@@ -1,6 +1,7 @@
 //! Plain data of the credential resolver: texts, moments, the environment, credentials, requests,
-//! replies and every error. It stands on the standard library alone. The layers above may use every
-//! type here as a value: contracts see texts and sequences as lists, and a moment as a number.
+//! replies and every error. It stands on the standard library, and on `itoa`, which prints numbers.
+//! The layers above may use every type here as a value: contracts see texts and sequences as lists,
+//! and a moment as a number.
 #![tactic(auto)]
 
 pub mod boxed;

@@ -1,4 +1,3 @@
-// Names of regions.
 ghost use Rattle.std.specs.Prelude.{◌≡◌, IfOk};
 ghost use Rattle.std.specs.Str.{encode_utf8_all};
 ghost use Rattle.cfg_types.specs.Text.{characters};

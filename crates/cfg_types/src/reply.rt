@@ -1,4 +1,4 @@
-// Replies of a transport.
+//! What a transport gives back for a request, and why it may fail.
 ghost use Rattle.std.specs.Prelude.{◌≡◌, IfOk};
 
 use crate::copies::{TryCopy, copy_option};
@@ -7,13 +7,16 @@ use crate::memory::OutOfMemory;
 use crate::text::Text;
 use std::alloc::Global;
 
-/// Why a device failed: a request could not be sent, had no reply in time, had a broken one; or
-/// anything else (files, commands and look-ups fail with `Io` alone).
+/// Why a device failed. Files, commands and look-ups fail with `Io` alone.
 #[derive(Clone, Copy, Debug, PartialEq, Eq)]
 pub enum FailKind {
+    /// The request could not be sent.
     Dispatch,
+    /// No reply came in time.
     Timeout,
+    /// The reply was broken.
     Broken,
+    /// Anything else.
     Io,
 }
 
@@ -88,7 +91,6 @@ pub enum Reply {
     Refused(Refusal),
 }
 
-// A call, and not the cases, where a caller lets a reply go.
 impl Drop for Reply {
     fn drop(self) {
         match self {

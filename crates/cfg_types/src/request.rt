@@ -1,4 +1,4 @@
-// Requests that a transport is asked to send.
+//! What a transport can be asked to send.
 ghost use Rattle.std.specs.Prelude.{◌≡◌, IfOk};
 
 use crate::copies::{TryCopy, copy_option};
@@ -39,7 +39,6 @@ pub struct AssumeRole {
     pub settings: CallSettings,
 }
 
-// A call, and not the cases of its fields, where a caller lets a request go.
 impl Drop for AssumeRole {
     fn drop(self) {
         let AssumeRole {

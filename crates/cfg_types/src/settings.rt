@@ -1,4 +1,4 @@
-// Settings of the calls that are sent.
+//! How a service is called: its region, its endpoints, its attempts and its limits of time.
 ghost use Rattle.std.specs.Prelude.{◌≡◌, IfOk};
 
 use crate::copies::{TryCopy, copy_option};

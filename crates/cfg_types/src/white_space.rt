@@ -1,4 +1,4 @@
-// White space of Unicode at the ends of a text.
+//! White space of Unicode at the ends of a text.
 ghost use Rattle.std.specs.Prelude.{◌≡◌};
 ghost use Rattle.cfg_types.specs.Text.{characters};
 ghost use Rattle.cfg_types.specs.WhiteSpace.{trimmed as trimmed_text, is_blank as is_blank_text};
