@@ -259,18 +259,20 @@ fn requests_are_copied_whole(rt: HostRuntime) -> Result<(), Fail> {
     Ok(())
 }
 
-// A request and keys in a box, in lines.
+// A request, keys in a box and a reply, in lines.
 fn lines_with_keys(alloc: Global) -> Result<String, OutOfMemory> {
     let request = request(alloc)?;
     let keys = Boxed::new(alloc, keys(alloc)?)?;
-    Ok(format!(in alloc; "{request:#?}{keys:#?}")?)
+    let reply = granted(alloc)?;
+    Ok(format!(in alloc; "{request:#?}{keys:#?}{reply:#?}")?)
 }
 
 #[test]
 fn lines_show_no_secret(rt: HostRuntime) -> Result<(), Fail> {
     let lines = lines_with_keys(rt.alloc())?;
     let lines = lines.as_str();
-    assert!(rt; lines.contains("AKID") && !lines.contains("wJalr") && !lines.contains("FwoG"));
+    assert!(rt; lines.contains("AKID") && lines.contains("ASIA"));
+    assert!(rt; !lines.contains("wJalr") && !lines.contains("FwoG"));
     Ok(())
 }
 
@@ -278,8 +280,8 @@ fn granted(alloc: Global) -> Result<Reply, OutOfMemory> {
     Ok(Reply::Sts(StsReply {
         credentials: Some(StsCredentials {
             access_key_id: Text::of(alloc, "ASIA")?,
-            secret_access_key: Text::of(alloc, "secret")?,
-            session_token: Text::of(alloc, "token")?,
+            secret_access_key: Text::of(alloc, "wJalr")?,
+            session_token: Text::of(alloc, "FwoG")?,
             expiration: Instant::epoch(),
         }),
         arn: Some(Text::of(alloc, "a:b:c:d:e")?),

@@ -22,3 +22,9 @@ shown_key provider id =
 -- the Debug text: provider, id, expiry and account
 abbrev pub shown_credentials : List ℕ → List ℕ → Option Moment → Option (List ℕ) → List ℕ
 shown_credentials provider id expiry account = codes "Credentials { " ++ (shown_key provider id ++ (shown_expiry expiry ++ (shown_account account ++ codes " }")))
+
+-- the Debug text of the credentials in a reply: the id of the key and when it expires
+abbrev pub shown_sts_credentials : List ℕ → Moment → List ℕ
+shown_sts_credentials id end =
+    codes "StsCredentials { access_key_id: \"" ++ (encode_utf8_all id ++ (codes "\", secret_access_key: \"** redacted **\", session_token: \"** redacted **\", expiration: "
+    ++ (signed_decimal end.seconds ++ (codes " s " ++ (decimal end.nanos ++ codes " ns }")))))

@@ -6,6 +6,7 @@ use crate::instant::Instant;
 use crate::memory::OutOfMemory;
 use crate::text::Text;
 use std::alloc::Global;
+use std::fmt;
 
 /// Why a device failed. Files, commands and look-ups fail with `Io` alone.
 #[derive(Clone, Copy, Debug, PartialEq, Eq)]
@@ -56,6 +57,24 @@ pub struct StsCredentials {
     pub expiration: Instant,
 }
 
+// The text depends on neither the secret nor the session token.
+impl fmt::Debug for StsCredentials {
+    ghost use Rattle.std.specs.Prelude.{Some};
+    ghost use Rattle.cfg_types.specs.Shown.{shown_sts_credentials};
+
+    ghost debug_output = { λ c. Some (shown_sts_credentials c.access_key_id c.expiration) };
+
+    fn fmt<W: fmt::Write>(&self, f: &mut fmt::Formatter<W>) -> fmt::Result {
+        let id = self.access_key_id.as_str();
+        let seconds = self.expiration.seconds();
+        let nanos = self.expiration.nanos();
+        write!(
+            f,
+            "StsCredentials {{ access_key_id: \"{id}\", secret_access_key: \"** redacted **\", session_token: \"** redacted **\", expiration: {seconds} s {nanos} ns }}"
+        )
+    }
+}
+
 impl TryCopy for StsCredentials {
     fn copy(&self, alloc: Global) -> Result<StsCredentials, OutOfMemory> {
         Ok(StsCredentials {
@@ -68,7 +87,7 @@ impl TryCopy for StsCredentials {
 }
 
 /// A reply of the Security Token Service.
-#[derive(PartialEq, Eq, Drop)]
+#[derive(Debug, PartialEq, Eq, Drop)]
 pub struct StsReply {
     pub credentials: Option<StsCredentials>,
     /// The ARN of the role's session.
@@ -85,7 +104,7 @@ impl TryCopy for StsReply {
 }
 
 /// What a transport gave back for a request.
-#[derive(PartialEq, Eq)]
+#[derive(Debug, PartialEq, Eq)]
 pub enum Reply {
     Sts(StsReply),
     Refused(Refusal),
