@@ -66,21 +66,36 @@ fn questions(alloc: Global, journal: &[Entry]) -> Result<String, AllocError> {
     Ok(words)
 }
 
-// What the chain with this configuration answers in this region, and what it asked.
-fn call(
+// The chain with this configuration, in this region.
+fn chain_of(
     alloc: Global,
     config: ProviderConfig,
     region: Option<Region>,
     world: &mut World<ScriptDevices>,
-) -> Result<String, OutOfMemory> {
+) -> Result<DefaultCredentialsChain, OutOfMemory> {
     let mut builder = DefaultCredentialsChain::builder(alloc)?.configure(config);
     builder.set_region(Some(RegionSource::Fixed(region)));
-    let chain = builder.build(world)?;
+    builder.build(world)
+}
+
+fn provided(
+    chain: &DefaultCredentialsChain,
+    world: &mut World<ScriptDevices>,
+) -> Result<Result<Credentials, CredentialsError>, OutOfMemory> {
     let mut kept = chain.new_kept()?;
-    let answer = chain.provide_credentials(&mut kept, world);
-    let mut words = answer_words(alloc, &answer)?;
-    words.push_str(questions(alloc, world.journal())?.as_str())?;
-    Ok(words)
+    Ok(chain.provide_credentials(&mut kept, world))
+}
+
+// What a call of the chain answers, and what it asked.
+fn call(
+    alloc: Global,
+    chain: &DefaultCredentialsChain,
+    world: &mut World<ScriptDevices>,
+) -> Result<String, OutOfMemory> {
+    let answer = provided(chain, world)?;
+    let answer = answer_words(alloc, &answer)?;
+    let questions = questions(alloc, world.journal())?;
+    Ok(format!(in alloc; "{answer}{questions}")?)
 }
 
 // What the chain answers that a script configures, over the devices that it scripts.
@@ -102,7 +117,8 @@ fn call_by(alloc: Global, script: Script) -> Result<String, OutOfMemory>
     let mut world = World::new(alloc, ScriptDevices::new(alloc, lists));
     let region = Region::new(alloc, "eu-west-1")?;
     let config = config(alloc, variables, profiles, selected)?;
-    call(alloc, config, Some(region), &mut world)
+    let chain = chain_of(alloc, config, Some(region), &mut world)?;
+    call(alloc, &chain, &mut world)
 }
 
 fn words_of(alloc: Global, script: &str) -> Result<String, OutOfMemory> {
@@ -250,7 +266,8 @@ fn refused_words(alloc: Global) -> Result<String, OutOfMemory> {
     ));
     let built = is_built(alloc, &config)?;
     let mut world = World::new(alloc, ScriptDevices::new(alloc, DeviceLists::empty(alloc)));
-    let answer = call(alloc, config, None, &mut world)?;
+    let chain = chain_of(alloc, config, None, &mut world)?;
+    let answer = call(alloc, &chain, &mut world)?;
     Ok(format!(in alloc; "{built} {answer}")?)
 }
 

@@ -95,30 +95,30 @@ fn env(alloc: Global, rows: &[(&str, Option<&str>)]) -> Result<Env, OutOfMemory>
 
 #[test]
 fn the_later_of_two_variables_counts(rt: HostRuntime) -> Result<(), Fail> {
-    let env = env(
-        rt.alloc(),
-        &[
-            ("A", Some("1")),
-            ("B", Some("2")),
-            ("C", None),
-            ("A", Some("")),
-            ("B", None),
-            ("C", Some("3")),
-            ("a", Some("4")),
-            ("", Some("5")),
-        ],
-    )?;
-    for (name, want) in [
-        ("A", "Ok(\"\")"),
+    let rows: &[(&str, Option<&str>)] = &[
+        ("A", Some("1")),
+        ("B", Some("2")),
+        ("C", None),
+        ("A", Some("")),
+        ("B", None),
+        ("C", Some("3")),
+        ("a", Some("4")),
+        ("", Some("5")),
+    ];
+    let table: &[(&str, &str)] = &[
+        ("A", r#"Ok("")"#),
         ("B", "Err(NotUnicode)"),
-        ("C", "Ok(\"3\")"),
-        ("a", "Ok(\"4\")"),
-        ("", "Ok(\"5\")"),
+        ("C", r#"Ok("3")"#),
+        ("a", r#"Ok("4")"#),
+        ("", r#"Ok("5")"#),
         ("b", "Err(NotPresent)"),
         ("AA", "Err(NotPresent)"),
-    ] {
-        let words = format!(in rt.alloc(); "{:?}", env.get(name))?;
-        assert_eq!(rt; words.as_str(), want, "{name}");
+    ];
+    let env = env(rt.alloc(), rows)?;
+    for (name, want) in table {
+        let value = env.get(name);
+        let words = format!(in rt.alloc(); "{value:?}")?;
+        assert_eq!(rt; words.as_str(), *want, "{name}");
     }
     Ok(())
 }
@@ -270,9 +270,9 @@ fn lines_with_keys(alloc: Global) -> Result<String, OutOfMemory> {
 #[test]
 fn lines_show_no_secret(rt: HostRuntime) -> Result<(), Fail> {
     let lines = lines_with_keys(rt.alloc())?;
-    let lines = lines.as_str();
-    assert!(rt; lines.contains("AKID") && lines.contains("ASIA"));
-    assert!(rt; !lines.contains("wJalr") && !lines.contains("FwoG"));
+    for hidden in ["wJalr", "FwoG"] {
+        assert!(rt; !lines.as_str().contains(hidden), "{hidden}");
+    }
     Ok(())
 }
 
