@@ -22,7 +22,6 @@ pub struct Member {
     pub value: MemberValue,
 }
 
-// A call, and not the cases of its value, where a caller lets a member go.
 impl Drop for Member {
     fn drop(self) {
         let Member { key: _, value: _ } = self;
