@@ -1,4 +1,5 @@
 pub mod TextLemmas
+pub mod AddressLaws
 pub mod MapLookups
 pub mod InstantOrder
 pub mod Trimming

@@ -11,4 +11,5 @@ pub mod Field
 pub mod DocumentText
 pub mod Classes
 pub mod Gives
+pub mod Addresses
 pub mod formers

@@ -4,6 +4,7 @@
 //! and a moment as a number.
 #![tactic(auto)]
 
+pub mod address;
 pub mod boxed;
 pub mod bytes;
 pub mod copies;
@@ -23,6 +24,7 @@ pub mod text;
 pub mod text_map;
 pub mod white_space;
 
+pub use address::Address;
 pub use boxed::Boxed;
 pub use bytes::Bytes;
 pub use copies::{TryCopy, copy_option};
