@@ -1,5 +1,5 @@
 -- A text is an address exactly where std's grammar has it, it is ASCII, and it is one address at most.
-use Rattle.std.proofs.Common.{◌≡◌, ℕ, zero, suc, ◌+◌, ◌-◌, ◌*◌, ◌/◌, ◌%◌, ◌^◌, ◌<◌, ◌≤◌, Bool, true, false, List, [], ◌∷◌, ◌++◌, length, map, replicate, decimal, All, refl, sym, ap, ◌∙◌, subst, arith, inl, inr, append_assoc, append-nil, length-append, Some, lit<}
+use Rattle.std.proofs.Common.{◌≡◌, ℕ, ◌+◌, ◌-◌, ◌*◌, ◌/◌, ◌%◌, ◌<◌, ◌≤◌, Bool, true, false, List, [], ◌∷◌, ◌++◌, length, replicate, All, refl, sym, ap, ◌∙◌, subst, arith, inl, inr, append-nil, length-append, Some, lit<}
 use Rattle.std.specs.Prelude.{◌⊎◌, IsTrue}
 use Rattle.std.specs.Int.{w32, w128, from_be_bytes}
 use Rattle.std.specs.List.{join_with_byte}
@@ -22,7 +22,7 @@ use Rattle.cfg_types.specs.declared.address.Address.{Address}
 use Rattle.cfg_types.specs.declared.address.Address.TheVariants.{V4, V6}
 use Rattle.cfg_types.specs.Text.{characters}
 use Rattle.cfg_types.proofs.TextLemmas.{characters-chars, same_chars}
-use Rattle.cfg_types.specs.Addresses.{IsIpv4Text, IsIpv6Text, IsGroup, pieces, AreGroups, EndInIpv4, AreLastGroups, AreCompressed, number_of, IsAddress}
+use Rattle.cfg_types.specs.Addresses.{IsIpv4Text, IsGroup, pieces, AreGroups, EndInIpv4, AreLastGroups, AreCompressed, number_of, IsAddress}
 
 -- ---- numbers
 

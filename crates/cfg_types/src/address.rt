@@ -1,4 +1,3 @@
-// Internet addresses.
 ghost use Rattle.std.specs.Prelude.{◌≡◌, IfSome, IfNone, Some};
 ghost use Rattle.cfg_types.specs.declared.address.Address.{Address};
 ghost use Rattle.cfg_types.specs.Addresses.{IsAddress};

@@ -2,6 +2,8 @@
 ghost use Rattle.std.specs.Prelude.{◌≡◌, ◌↔◌, ◌<ℤ◌, IsTrue, List, ℕ, Some, None};
 ghost use Rattle.std.specs.FinMap.{get};
 ghost use Rattle.std.specs.Ordering.{int_cmp};
+ghost use Rattle.cfg_types.specs.Addresses.{IsAddress};
+ghost use Rattle.cfg_types.specs.declared.address.Address.{Address};
 ghost use Rattle.cfg_types.specs.Entries.{each_set, HasNoName, IsLastUnder};
 ghost use Rattle.cfg_types.specs.Instant.{number};
 ghost use Rattle.cfg_types.specs.declared.environment.EnvText.{EnvText as Setting};
@@ -38,4 +40,9 @@ pub fn instants_are_before_as_numbers(a: Instant, b: Instant) -> bool
 pub fn the_last_value_of_a_name_counts()
     ensures set { (entries : List (List ℕ × Setting)) (name : List ℕ) (value : Setting) → IsLastUnder name value entries → get (each_set entries) name ≡ Some value }
     ensures unset { (entries : List (List ℕ × Setting)) (name : List ℕ) → HasNoName name entries → get (each_set entries) name ≡ None }
+{}
+
+/// A text is one address at most.
+pub fn one_address()
+    ensures { (text : List ℕ) (a b : Address) → IsAddress text a → IsAddress text b → a ≡ b }
 {}
