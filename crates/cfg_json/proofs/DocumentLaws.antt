@@ -1,5 +1,5 @@
 -- A document is answered by its text, and then by its table.
-use Rattle.std.proofs.Common.{◌≡◌, ◌⊎◌, inl, inr, ℕ, List, Bool, true, false, cond, Option, Some, None, sym, subst, []}
+use Rattle.std.proofs.Common.{◌≡◌, inl, inr, ℕ, List, Bool, true, false, cond, Option, Some, None, sym, subst, []}
 use Rattle.std.specs.Option.{option_or}
 use Rattle.std.specs.Prelude.{Ok, Err, ℤ, pos, codes}
 use Rattle.std.specs.Ordering.{int_eq}
@@ -7,16 +7,14 @@ use Rattle.std.specs.Str.{bytes_eq}
 use Rattle.cfg_types.specs.Gives.{◌>>=◌}
 use Rattle.cfg_types.specs.Moment.{Moment}
 use Rattle.cfg_types.specs.Keys.{Keys}
-use Rattle.cfg_types.specs.declared.document.Field.{Field}
 use Rattle.cfg_types.specs.declared.document.Field.TheVariants as field
 use Rattle.cfg_types.specs.declared.document.FieldFault.TheVariants as fault
 use Rattle.cfg_types.specs.declared.document.JsonError.TheVariants as json
 use Rattle.cfg_types.specs.declared.document.InvalidJsonCredentials.{InvalidJsonCredentials}
 use Rattle.cfg_types.specs.declared.document.InvalidJsonCredentials.TheVariants as invalid
-use Rattle.cfg_json.specs.declared.credentials.JsonCredentials.{JsonCredentials}
 use Rattle.cfg_json.specs.declared.credentials.JsonCredentials.TheVariants as document
 use Rattle.cfg_json.specs.declared.member.Member.{Member}
-use Rattle.cfg_json.specs.Documents.{Read, UnlessMemory, AnswersDocument, ReadsDocument, IsDocument, field_text, required, dated, date_in, offset_date_in, refreshable, refused, by_code, document_of, known_version, optional_end, process_of}
+use Rattle.cfg_json.specs.Documents.{Read, UnlessMemory, AnswersDocument, ReadsDocument, IsDocument, field_text, required, dated, date_in, offset_date_in, refreshable, refused, by_code, document_of, optional_end, process_of}
 
 pub text_fails : {A : Type 0} (Table : List Member → Read A → Type 0) (bytes : List ℕ) (e : InvalidJsonCredentials) → ReadsDocument bytes (Err e) → AnswersDocument Table bytes (Err e)
 text_fails Table bytes (invalid.JsonError json.NotObject) h = h
