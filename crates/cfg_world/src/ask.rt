@@ -18,6 +18,7 @@ pub enum Question {
 pub enum Answer {
     /// A reading of the clock, from the epoch on.
     Moment(Instant),
+    /// The reply to a request.
     Replied(Reply),
     /// The device failed.
     Failed(FailKind),

@@ -15,6 +15,7 @@ use cfg_types::OutOfMemory;
 /// Why a question has no answer.
 #[derive(Clone, Copy, Debug, PartialEq, Eq)]
 pub enum Stop {
+    /// Memory ran out. The devices may have been asked.
     OutOfMemory,
     /// The answer is not known yet. The question is kept as the open one.
     Open,
@@ -33,7 +34,9 @@ impl From<OutOfMemory> for Stop {
 /// Why a body gave no value: it was stopped, or it refused by its rule.
 #[derive(Debug, Drop)]
 pub enum Halt<E> {
+    /// A question has no answer.
     Stopped(Stop),
+    /// The rule refuses, for this reason.
     Refused(E),
 }
 

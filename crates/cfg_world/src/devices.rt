@@ -12,6 +12,7 @@ use cfg_types::{FailKind, Instant, Reply, Request};
 pub enum Fault {
     /// The device failed, and the count of its kind rose.
     Failed(FailKind),
+    /// Memory ran out.
     OutOfMemory,
 }
 

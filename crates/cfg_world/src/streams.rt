@@ -14,6 +14,7 @@ pub use memory::{MemorySink, MemorySource};
 pub enum StreamFault {
     /// The stream failed, and its count of faults rose.
     Failed,
+    /// Memory ran out.
     OutOfMemory,
 }
 
