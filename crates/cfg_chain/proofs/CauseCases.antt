@@ -1,6 +1,6 @@
--- Which answer comes where, by the readings of the variables.
+-- Which answer comes where, by what the variables are set to.
 use Rattle.std.proofs.Common.{◌≡◌, ℕ, List, [], ◌∷◌, ◌++◌, append-nil, Bool, true, false, cond, Option, Some, None, Result, Ok, Err, inl, inr, refl, sym, ap, ◌∙◌, subst}
-use Rattle.std.specs.Prelude.{not, ◌&&◌, ◌||◌, IfSome, is_some, is_none, is_ok, codes, if◌then◌else◌}
+use Rattle.std.specs.Prelude.{not, ◌&&◌, ◌||◌, IfSome, is_some, is_none, is_ok, codes, option_map, if◌then◌else◌}
 use Rattle.cfg_types.specs.Keys.{Keys}
 use Rattle.cfg_types.specs.declared.errors.CredentialsError.{CredentialsError}
 use Rattle.cfg_types.specs.declared.errors.CredentialsError as errors
@@ -12,6 +12,8 @@ use Rattle.cfg_types.specs.declared.errors.NotLoadedCause.{NotLoadedCause}
 use Rattle.cfg_types.specs.declared.errors.ProviderCause.{ProviderCause}
 use Rattle.cfg_types.specs.declared.errors.ProfileFileError.{ProfileFileError}
 use Rattle.cfg_types.specs.declared.errors.ProfileFileError.TheVariants as plan_error
+use Rattle.cfg_types.specs.declared.errors.Class.TheVariants as class
+use Rattle.cfg_types.specs.Classes.{class_level, same_class, configuration_cause_level, provider_cause_level}
 use Rattle.cfg_world.specs.Inquiry.{Done, Reads, if_ok}
 use Rattle.cfg_world.proofs.Inquiries.{split_after}
 use Rattle.cfg_chain.specs.declared.profile.plan.ProfileChain.{ProfileChain}
@@ -19,16 +21,17 @@ use Rattle.cfg_chain.specs.Plans.{plan}
 use Rattle.cfg_chain.specs.AssumeRole.{in_role, assumes_roles}
 use Rattle.cfg_chain.specs.Profiles.{refusal, by_profile, follows_plan, profile}
 use Rattle.cfg_chain.specs.declared.kept.Found.{Found}
+use Rattle.cfg_chain.specs.declared.member.Member.{Member}
 use Rattle.cfg_chain.specs.declared.member.Member.TheVariants.{Environment, Profile}
 use Rattle.cfg_chain.specs.declared.member.Turn.TheVariants.{PassedOver, Answers}
 use Rattle.cfg_chain.specs.Configuration.{Configuration}
 use Rattle.cfg_chain.specs.Gives.{◌>>=◌}
 use Rattle.cfg_chain.specs.EnvironmentKeys.{required_by, secret_or, optional, usable, is_not_unicode, environment}
-use Rattle.cfg_chain.specs.Members.{member_inquiry, is_not_loaded, is_not_loaded_level, turn}
+use Rattle.cfg_chain.specs.Members.{member_inquiry, is_not_loaded, turn}
 use Rattle.cfg_chain.specs.Chains.{Attempts, none_loaded}
-use Rattle.cfg_chain.specs.Resolves.{Resolves}
-use Rattle.cfg_chain.specs.Valid.{IsValid}
-use Rattle.cfg_chain.specs.Causes.{HasCause, environment_is_passed_over, unreadable_variable, plan_is_passed_over, fault_of_plan, fault, first_failure, named_variable, is_not_loaded_answer, told_fault, fault_in_level, tells_role, is_role_level, is_memory, is_memory_level}
+use Rattle.cfg_chain.specs.Resolves.{Resolves, IsPassedOver}
+use Rattle.cfg_chain.specs.PassedOver.{is_passed_over, environment_is_passed_over, plan_is_passed_over}
+use Rattle.cfg_chain.specs.Causes.{HasCause, unreadable_variable, fault_of_plan, fault, first_failure, named_variable, is_not_loaded_answer, told_fault, fault_of_cause, tells_role, is_of_role, is_memory}
 use Rattle.cfg_chain.proofs.RoleCauses.{Derived, derived}
 
 abbrev id_name : List ℕ
@@ -37,7 +40,7 @@ id_name = codes "AWS_ACCESS_KEY_ID"
 abbrev older_name : List ℕ
 older_name = codes "SECRET_ACCESS_KEY"
 
--- the environment's answer by its readings: the access key, the secret, the older secret
+-- the environment's answer by what it finds: the access key, the secret, the older secret
 abbrev keys_by : Option (List ℕ) → Bool → Option (List ℕ) → Option (List ℕ) → Bool → Option (List ℕ) → Option (List ℕ) → Result Keys CredentialsError
 keys_by id id_unreadable secret older older_unreadable token account =
     required_by id_name id id_unreadable >>= λ i. secret_or secret (required_by older_name older older_unreadable) >>= λ s. Ok (record {
@@ -50,11 +53,11 @@ keys_by id id_unreadable secret older older_unreadable token account =
       features = CredentialsEnvVars ∷ [];
     })
 
-abbrev passed_by : Option (List ℕ) → Bool → Option (List ℕ) → Option (List ℕ) → Bool → Bool
+abbrev pub passed_by : Option (List ℕ) → Bool → Option (List ℕ) → Option (List ℕ) → Bool → Bool
 passed_by id id_unreadable secret older older_unreadable =
     (is_none id && not id_unreadable) || ((is_some id && is_none secret) && (is_none older && not older_unreadable))
 
-abbrev stopped_by : Option (List ℕ) → Bool → Option (List ℕ) → Option (List ℕ) → Bool → Option (List ℕ)
+abbrev pub stopped_by : Option (List ℕ) → Bool → Option (List ℕ) → Option (List ℕ) → Bool → Option (List ℕ)
 stopped_by id id_unreadable secret older older_unreadable =
     if is_none id && id_unreadable then Some id_name else (if (is_some id && is_none secret) && (is_none older && older_unreadable) then Some older_name else None)
 
@@ -153,13 +156,55 @@ profiled : (conf : Configuration) (journal : List Pair) (out : Result Keys Crede
 unfolding member_inquiry profile
 profiled conf journal out m h = by_plan conf (plan conf) journal out m h
 
+-- a member was passed over exactly where the table says so, and then it asked nothing
+record Line (part : List Pair) (out : Result Keys CredentialsError) (passed : Bool) : Type 0 where
+  not_loaded : is_not_loaded_answer out ≡ passed
+  empty : passed ≡ true → part ≡ []
+
+refusal_line : (e : ProfileFileError) → is_not_loaded_answer (Err (refusal e)) ≡ plan_is_passed_over (Err e)
+unfolding errors.out-CredentialsError carrier.out
+refusal_line (plan_error.InvalidProfile reason) = refl
+refusal_line plan_error.NoProfilesDefined = refl
+refusal_line (plan_error.ProfileDidNotContainCredentials name) = refl
+refusal_line (plan_error.InvalidCredentialSource name message) = refl
+refusal_line (plan_error.MissingProfile name message) = refl
+refusal_line (plan_error.FeatureNotEnabled feature message) = refl
+refusal_line plan_error.OutOfMemory = refl
+
+plan_line : (conf : Configuration) (p : Result ProfileChain ProfileFileError) (part : List Pair) (out : Result Keys CredentialsError) → Reads (follows_plan conf p) part out → Line part out (plan_is_passed_over p)
+plan_line conf (Err e) [] out h = record { not_loaded = subst (λ o. is_not_loaded_answer o ≡ plan_is_passed_over (Err e)) h (refusal_line e); empty = λ passed. refl }
+plan_line conf (Err e) (x ∷ part) out h = absurd h
+plan_line conf (Ok p) part out h =
+    let s = split_after (assumes_roles conf p.roles p.base) (if_ok (λ keys. Done (Ok (by_profile keys)))) part out h in
+    let t = marked part s.part s.rest s.middle out s.parts (derived conf p.roles p.base s.part s.middle s.first) s.then in
+    record { not_loaded = t.not_loaded; empty = λ passed. cc }
+
+line : (conf : Configuration) (member : Member) (part : List Pair) (out : Result Keys CredentialsError) → Reads (member_inquiry conf member) part out → Line part out (is_passed_over conf member)
+unfolding member_inquiry profile
+line conf Environment part out h =
+    let q = quiet conf part out h in
+    record { not_loaded = ap is_not_loaded_answer (sym q.is) ∙ (told_of conf.environment).tells.not_loaded; empty = λ passed. q.empty }
+line conf Profile part out h = plan_line conf (plan conf) part out h
+
+pub passed_by_table : (conf : Configuration) (member : Member) (part : List Pair) (e : CredentialsError) → IsPassedOver conf member part e → (is_passed_over conf member ≡ true) × (part ≡ [])
+passed_by_table conf member part e h =
+    let l = line conf member part (Err e) h.reads in
+    let passed = sym l.not_loaded ∙ h.not_loaded in
+    (passed, l.empty passed)
+
+pub table_passes : (conf : Configuration) (member : Member) (part : List Pair) (out : Result Keys CredentialsError) → is_passed_over conf member ≡ true → Reads (member_inquiry conf member) part out → (is_not_loaded_answer out ≡ true) × (part ≡ [])
+table_passes conf member part out passed h =
+    let l = line conf member part out h in
+    (l.not_loaded ∙ passed, l.empty passed)
+
 -- an error of a provider that was not loaded tells nothing else
 record Silent (e : CredentialsError) : Type 0 where
   memory : is_memory (Err e) ≡ false
   fault : told_fault (Err e) ≡ None
   role : tells_role (Err e) ≡ false
 
-silent_level : (l : errors.TheOpen.CredentialsError-F CredentialsError NotLoadedCause ProviderCause) → is_not_loaded_level l ≡ true → (is_memory_level l ≡ false) × (fault_in_level l ≡ None) × (is_role_level l ≡ false)
+silent_level : (l : errors.TheOpen.CredentialsError-F CredentialsError NotLoadedCause ProviderCause) → same_class class.CredentialsNotLoaded (class_level l) ≡ true →
+    (same_class class.OutOfMemory (class_level l) ≡ false) × (option_map fault_of_cause (configuration_cause_level l) ≡ None) × (is_of_role (provider_cause_level l) ≡ false)
 silent_level (errors.TheOpen.CredentialsError-F.CredentialsNotLoaded cause) h = (refl, refl, refl)
 silent_level (errors.TheOpen.CredentialsError-F.InvalidConfiguration cause) h = cc
 silent_level (errors.TheOpen.CredentialsError-F.ProviderError cause) h = cc
@@ -247,12 +292,3 @@ has_cause conf found journal out m (none, inl (part, rest, e, parts, passed, inl
 has_cause conf found journal out m (none, inl (part, rest, e, parts, passed, inr decided)) =
     after_environment conf part rest journal e out (quiet conf part (Err e) passed.reads) passed.not_loaded parts (profile_decides conf rest out m decided.reads)
 has_cause conf found journal out m (none, inr decided) = environment_decides conf journal out (quiet conf journal out decided.reads) decided.answers
-
--- where nothing stands in the way, there are credentials
-pub valid_loaded : (conf : Configuration) (part : List Pair) (out : Result Keys CredentialsError) → HasCause conf part out → IsValid conf part → is_ok out ≡ true
-valid_loaded conf part out c v =
-    c.loaded
-    ∙ ap (λ b. not b && (is_none (unreadable_variable conf.environment) && (is_none (fault conf) && is_none (first_failure part)))) v.loaded
-    ∙ ap (λ o. is_none o && (is_none (fault conf) && is_none (first_failure part))) v.readable
-    ∙ ap (λ o. is_none o && is_none (first_failure part)) v.right
-    ∙ ap is_none v.granted

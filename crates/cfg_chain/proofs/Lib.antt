@@ -7,3 +7,5 @@ pub mod Parts
 pub mod Providing
 pub mod RoleCauses
 pub mod CauseCases
+pub mod Validity
+pub mod Later

@@ -1,9 +1,9 @@
 -- A call that follows the default chain provides what the chain's parts read.
-use Rattle.std.proofs.Common.{List, [], ◌∷◌, Result, refl}
+use Rattle.std.proofs.Common.{List, [], Result, refl}
 use Rattle.cfg_types.specs.Keys.{Keys}
 use Rattle.cfg_types.specs.declared.errors.CredentialsError.{CredentialsError}
 use Rattle.cfg_world.specs.Fits.{Pair}
-use Rattle.cfg_world.specs.Inquiry.{Inquiry, Done, Ask, Reads, Begun}
+use Rattle.cfg_world.specs.Inquiry.{Reads}
 use Rattle.cfg_chain.specs.Configuration.{Configuration}
 use Rattle.cfg_chain.specs.Chains.{chain}
 use Rattle.cfg_chain.specs.Resolves.{Resolves, default_members}
@@ -11,10 +11,3 @@ use Rattle.cfg_chain.proofs.Parts.{chain_parts}
 
 pub resolved : (conf : Configuration) (journal : List Pair) (out : Result Keys CredentialsError) → Reads (chain conf default_members []) journal out → Resolves conf [] journal out
 resolved conf journal out h = (refl, chain_parts conf default_members [] journal out h)
-
--- a journal over which an inquiry came to an outcome has begun it
-pub read_is_begun : {R : Type 0} (inquiry : Inquiry R) (journal : List Pair) (out : R) → Reads inquiry journal out → Begun inquiry journal
-read_is_begun (Done r) [] out h = tt
-read_is_begun (Done r) (e ∷ journal) out h = absurd h
-read_is_begun (Ask asked next) [] out h = absurd h
-read_is_begun (Ask asked next) (e ∷ journal) out h = (h.0, read_is_begun (next e.1) journal out h.1)

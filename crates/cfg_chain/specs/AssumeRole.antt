@@ -20,7 +20,7 @@ use Rattle.cfg_chain.specs.declared.profile.plan.RoleArn.{RoleArn}
 use Rattle.cfg_chain.specs.Configuration.{Configuration}
 use Rattle.cfg_chain.specs.Sts.{into_credentials}
 
--- the milliseconds since the epoch
+-- a name for a session, with the milliseconds since the epoch
 abbrev pub default_session_name : Moment → List ℕ
 default_session_name now = characters (codes "assume-role-from-profile-" ++ signed_decimal (now.seconds *ℤ pos 1000 +ℤ pos (now.nanos / 1000000)))
 
@@ -29,7 +29,8 @@ unfoldable pub session_name : Option (List ℕ) → Inquiry (List ℕ)
 session_name (Some name) = Done name
 session_name None = after clock (λ now. Done (default_session_name now))
 
--- how the calls of a configuration are sent
+-- How the calls of a configuration are sent: in three attempts at most, as many as the standard retry
+-- mode of the AWS SDKs makes.
 abbrev pub settings_of : Configuration → CallSettings
 settings_of conf = record {
   region = conf.region;
@@ -53,6 +54,7 @@ request conf role signer name = AssumeRole (record {
   settings = settings_of conf;
 })
 
+-- what no rule allows for
 abbrev pub or_unhandled : Result Keys UnhandledCause → Result Keys CredentialsError
 or_unhandled (Ok keys) = Ok keys
 or_unhandled (Err cause) = Err (Unhandled cause)
@@ -63,11 +65,12 @@ granted (Err kind) = Err (ProviderError (cause.Sent kind))
 granted (Ok (Refused refusal)) = Err (ProviderError (cause.Refused refusal))
 granted (Ok (Sts reply)) = or_unhandled (into_credentials reply (codes "AssumeRoleProvider"))
 
--- an error of a role's exchange
+-- an error of a role's exchange is told as such
 abbrev pub in_role : Result Keys CredentialsError → Result Keys CredentialsError
 in_role (Ok keys) = Ok keys
 in_role (Err e) = Err (ProviderError (cause.Role e))
 
+-- one request for a role, and what its reply gives
 abbrev pub exchange : Configuration → RoleArn → Keys → List ℕ → Inquiry (Result Keys CredentialsError)
 exchange conf role signer name = after (sending (request conf role signer name)) (λ answer. Done (in_role (granted answer)))
 

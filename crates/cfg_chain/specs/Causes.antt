@@ -1,16 +1,17 @@
 -- Which answer of the default chain comes where.
 use Rattle.std.specs.Option.{option_or}
-use Rattle.std.specs.Prelude.{◌≡◌, ℕ, List, [], ◌∷◌, Bool, true, false, not, ◌&&◌, ◌||◌, Option, Some, None, IfSome, is_some, is_none, is_ok, Result, Ok, Err, codes, if◌then◌else◌}
+use Rattle.std.specs.Prelude.{◌≡◌, ℕ, List, [], ◌∷◌, Bool, true, false, not, ◌&&◌, Option, Some, None, IfSome, is_some, is_none, option_map, option_and_then, is_ok, Result, Ok, Err, codes, if◌then◌else◌}
 use Rattle.std.specs.List.{list_all}
 use Rattle.cfg_types.specs.Keys.{Keys}
-use Rattle.cfg_types.specs.declared.errors.CredentialsError.{CredentialsError, out-CredentialsError}
-use Rattle.cfg_types.specs.declared.errors.CredentialsError.TheOpen.{CredentialsError-F, ProviderCause-F}
+use Rattle.cfg_types.specs.Classes.{is_of_class, configuration_cause, provider_cause, unhandled_cause}
+use Rattle.cfg_types.specs.declared.errors.Class.TheVariants as class
+use Rattle.cfg_types.specs.declared.errors.CredentialsError.{CredentialsError}
+use Rattle.cfg_types.specs.declared.errors.CredentialsError.TheOpen.{ProviderCause-F}
 use Rattle.cfg_types.specs.declared.errors.NotLoadedCause.{NotLoadedCause}
 use Rattle.cfg_types.specs.declared.errors.ProviderCause.{ProviderCause, out-ProviderCause}
 use Rattle.cfg_types.specs.declared.errors.ConfigCause.{ConfigCause}
 use Rattle.cfg_types.specs.declared.errors.ConfigCause.TheVariants as config
 use Rattle.cfg_types.specs.declared.errors.ProfileFileError.{ProfileFileError}
-use Rattle.cfg_types.specs.declared.errors.ProfileFileError.TheVariants.{NoProfilesDefined, ProfileDidNotContainCredentials, MissingProfile}
 use Rattle.cfg_types.specs.declared.errors.UnhandledCause.{UnhandledCause}
 use Rattle.cfg_types.specs.declared.errors.UnhandledCause.TheVariants as unhandled
 use Rattle.cfg_types.specs.Environment.{Variables, variable}
@@ -19,50 +20,19 @@ use Rattle.cfg_world.specs.declared.ask.Question.TheVariants.{Now, Send}
 use Rattle.cfg_world.specs.declared.ask.Answer.{Answer}
 use Rattle.cfg_world.specs.Fits.{Pair}
 use Rattle.cfg_world.specs.Leaves.{reply_of}
-use Rattle.cfg_chain.specs.declared.member.Member.{Member}
 use Rattle.cfg_chain.specs.declared.profile.plan.ProfileChain.{ProfileChain}
-use Rattle.cfg_chain.specs.declared.member.Member.TheVariants.{Environment, Profile}
 use Rattle.cfg_chain.specs.Configuration.{Configuration}
 use Rattle.cfg_chain.specs.Members.{is_not_loaded}
 use Rattle.cfg_chain.specs.Resolves.{default_members}
 use Rattle.cfg_chain.specs.Plans.{plan}
+use Rattle.cfg_chain.specs.Profiles.{is_not_loaded_error}
+use Rattle.cfg_chain.specs.PassedOver.{is_passed_over, environment_is_passed_over, needs_older_secret}
 use Rattle.cfg_chain.specs.AssumeRole.{granted, in_role}
 use Rattle.cfg_chain.specs.EnvironmentKeys.{usable, is_not_unicode}
-
--- a variable that is absent or blank
-abbrev pub is_missing : Variables → List ℕ → Bool
-is_missing env name = is_none (usable (variable env name)) && not (is_not_unicode (variable env name))
 
 -- a variable whose value is no text
 abbrev pub is_unreadable : Variables → List ℕ → Bool
 is_unreadable env name = is_none (usable (variable env name)) && is_not_unicode (variable env name)
-
--- The older name of the secret is looked at where there is an access key, and the secret is absent,
--- blank or not Unicode.
-abbrev pub needs_older_secret : Variables → Bool
-needs_older_secret env = is_some (usable (variable env (codes "AWS_ACCESS_KEY_ID"))) && is_none (usable (variable env (codes "AWS_SECRET_ACCESS_KEY")))
-
--- The environment is passed over exactly where the access key is absent or blank, or where the older
--- secret is looked at and is absent or blank.
-abbrev pub environment_is_passed_over : Variables → Bool
-environment_is_passed_over env = is_missing env (codes "AWS_ACCESS_KEY_ID") || (needs_older_secret env && is_missing env (codes "SECRET_ACCESS_KEY"))
-
--- the errors of profiles that are not loaded
-abbrev pub is_not_loaded_error : ProfileFileError → Bool
-is_not_loaded_error NoProfilesDefined = true
-is_not_loaded_error (ProfileDidNotContainCredentials profile) = true
-is_not_loaded_error (MissingProfile profile message) = true
-is_not_loaded_error _ = false
-
--- The profile is passed over exactly where there is none, or where it has no credentials.
-abbrev pub plan_is_passed_over : Result ProfileChain ProfileFileError → Bool
-plan_is_passed_over (Ok p) = false
-plan_is_passed_over (Err e) = is_not_loaded_error e
-
--- which member is passed over, by the configuration
-abbrev pub is_passed_over : Configuration → Member → Bool
-is_passed_over conf Environment = environment_is_passed_over conf.environment
-is_passed_over conf Profile = plan_is_passed_over (plan conf)
 
 -- what is wrong with the selected profile
 abbrev pub fault_of_plan : Result ProfileChain ProfileFileError → Option ProfileFileError
@@ -73,6 +43,7 @@ fault_of_plan (Err e) = if is_not_loaded_error e then None else Some e
 abbrev pub fault : Configuration → Option ProfileFileError
 fault conf = if environment_is_passed_over conf.environment then fault_of_plan (plan conf) else None
 
+-- why an answer gives no credentials
 abbrev pub error_of : Result Keys CredentialsError → Option CredentialsError
 error_of (Ok keys) = None
 error_of (Err e) = Some e
@@ -98,66 +69,41 @@ variable_of_cause (unhandled.NotUnicode name) = Some name
 variable_of_cause unhandled.StsNoCredentials = None
 variable_of_cause (unhandled.StsArn arn) = None
 
-abbrev pub variable_of_level : CredentialsError-F CredentialsError NotLoadedCause ProviderCause → Option (List ℕ)
-variable_of_level (CredentialsError-F.CredentialsNotLoaded cause) = None
-variable_of_level (CredentialsError-F.InvalidConfiguration cause) = None
-variable_of_level (CredentialsError-F.ProviderError cause) = None
-variable_of_level (CredentialsError-F.Unhandled cause) = variable_of_cause cause
-variable_of_level CredentialsError-F.OutOfMemory = None
-
 -- the variable that an answer names as not Unicode
 abbrev pub named_variable : Result Keys CredentialsError → Option (List ℕ)
 named_variable (Ok keys) = None
-named_variable (Err e) = variable_of_level (out-CredentialsError e)
+named_variable (Err e) = option_and_then variable_of_cause (unhandled_cause e)
 
-abbrev pub fault_in_cause : ConfigCause → Option ProfileFileError
-fault_in_cause (config.Profile e) = Some e
-
-abbrev pub fault_in_level : CredentialsError-F CredentialsError NotLoadedCause ProviderCause → Option ProfileFileError
-fault_in_level (CredentialsError-F.CredentialsNotLoaded cause) = None
-fault_in_level (CredentialsError-F.InvalidConfiguration cause) = fault_in_cause cause
-fault_in_level (CredentialsError-F.ProviderError cause) = None
-fault_in_level (CredentialsError-F.Unhandled cause) = None
-fault_in_level CredentialsError-F.OutOfMemory = None
+abbrev pub fault_of_cause : ConfigCause → ProfileFileError
+fault_of_cause (config.Profile e) = e
 
 -- the fault of the configuration that an answer tells
 abbrev pub told_fault : Result Keys CredentialsError → Option ProfileFileError
 told_fault (Ok keys) = None
-told_fault (Err e) = fault_in_level (out-CredentialsError e)
+told_fault (Err e) = option_map fault_of_cause (configuration_cause e)
 
 abbrev pub is_role_cause : ProviderCause-F CredentialsError NotLoadedCause ProviderCause → Bool
-is_role_cause (ProviderCause-F.Base e) = false
 is_role_cause (ProviderCause-F.Role e) = true
-is_role_cause (ProviderCause-F.Sent kind) = false
-is_role_cause (ProviderCause-F.Refused refusal) = false
+is_role_cause _ = false
 
-abbrev pub is_role_level : CredentialsError-F CredentialsError NotLoadedCause ProviderCause → Bool
-is_role_level (CredentialsError-F.CredentialsNotLoaded cause) = false
-is_role_level (CredentialsError-F.InvalidConfiguration cause) = false
-is_role_level (CredentialsError-F.ProviderError cause) = is_role_cause (out-ProviderCause cause)
-is_role_level (CredentialsError-F.Unhandled cause) = false
-is_role_level CredentialsError-F.OutOfMemory = false
+abbrev pub is_of_role : Option ProviderCause → Bool
+is_of_role None = false
+is_of_role (Some cause) = is_role_cause (out-ProviderCause cause)
 
 -- whether an answer tells of a role that could not be assumed
 abbrev pub tells_role : Result Keys CredentialsError → Bool
 tells_role (Ok keys) = false
-tells_role (Err e) = is_role_level (out-CredentialsError e)
+tells_role (Err e) = is_of_role (provider_cause e)
 
+-- whether an answer says that nothing was loaded
 abbrev pub is_not_loaded_answer : Result Keys CredentialsError → Bool
 is_not_loaded_answer (Ok keys) = false
 is_not_loaded_answer (Err e) = is_not_loaded e
 
-abbrev pub is_memory_level : CredentialsError-F CredentialsError NotLoadedCause ProviderCause → Bool
-is_memory_level (CredentialsError-F.CredentialsNotLoaded cause) = false
-is_memory_level (CredentialsError-F.InvalidConfiguration cause) = false
-is_memory_level (CredentialsError-F.ProviderError cause) = false
-is_memory_level (CredentialsError-F.Unhandled cause) = false
-is_memory_level CredentialsError-F.OutOfMemory = true
-
--- want of memory
+-- whether memory ran out
 abbrev pub is_memory : Result Keys CredentialsError → Bool
 is_memory (Ok keys) = false
-is_memory (Err e) = is_memory_level (out-CredentialsError e)
+is_memory (Err e) = is_of_class class.OutOfMemory e
 
 -- Every answer has its cause in the configuration and in the journal's part. There is no other error
 -- than these four.

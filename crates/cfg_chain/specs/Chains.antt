@@ -12,6 +12,7 @@ use Rattle.cfg_chain.specs.declared.member.Turn.TheVariants.{PassedOver, Answers
 use Rattle.cfg_chain.specs.Configuration.{Configuration}
 use Rattle.cfg_chain.specs.Members.{member_inquiry, turn, attempt}
 
+-- members that were not loaded, each with its answer
 abbrev pub Attempts : Type 0
 Attempts = List (ProviderAttempt CredentialsError)
 

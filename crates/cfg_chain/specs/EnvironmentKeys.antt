@@ -12,6 +12,7 @@ use Rattle.cfg_types.specs.WhiteSpace.{trimmed, is_blank}
 use Rattle.cfg_types.specs.Environment.{Variables, variable}
 use Rattle.cfg_chain.specs.Gives.{◌>>=◌}
 
+-- the answer for a variable that is not set, or blank
 abbrev pub not_set : List ℕ → CredentialsError
 not_set name = CredentialsNotLoaded (NotSet name)
 
@@ -20,6 +21,7 @@ abbrev pub usable : Result (List ℕ) VarError → Option (List ℕ)
 usable (Ok text) = if is_blank text then None else Some text
 usable (Err e) = None
 
+-- a variable whose value is no text
 abbrev pub is_not_unicode : Result (List ℕ) VarError → Bool
 is_not_unicode (Ok text) = false
 is_not_unicode (Err variable_error.NotPresent) = false
@@ -34,9 +36,11 @@ required_by name None false = Err (not_set name)
 abbrev pub required : List ℕ → Result (List ℕ) VarError → Result (List ℕ) CredentialsError
 required name value = required_by name (usable value) (is_not_unicode value)
 
+-- the access key of the environment, or why there is none
 abbrev pub access_key_id : Variables → Result (List ℕ) CredentialsError
 access_key_id env = required (codes "AWS_ACCESS_KEY_ID") (variable env (codes "AWS_ACCESS_KEY_ID"))
 
+-- the secret under its older name, or why there is none
 abbrev pub older_secret : Variables → Result (List ℕ) CredentialsError
 older_secret env = required (codes "SECRET_ACCESS_KEY") (variable env (codes "SECRET_ACCESS_KEY"))
 

@@ -1,5 +1,6 @@
 pub mod SectionParts
 pub mod Sections
+pub mod LastUnder
 pub mod SectionSets
 pub mod Configuration
 pub mod Gives
@@ -13,6 +14,7 @@ pub mod Members
 pub mod Chains
 pub mod KeptStates
 pub mod Resolves
+pub mod PassedOver
 pub mod Causes
 pub mod Valid
 pub mod Provides

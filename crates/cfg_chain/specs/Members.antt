@@ -1,10 +1,9 @@
 -- What each member of the default chain asks and reads.
 use Rattle.std.specs.Prelude.{ℕ, List, Bool, true, false, Result, Ok, Err, codes, if◌then◌else◌}
 use Rattle.cfg_types.specs.Keys.{Keys}
-use Rattle.cfg_types.specs.declared.errors.CredentialsError.{CredentialsError, out-CredentialsError}
-use Rattle.cfg_types.specs.declared.errors.CredentialsError.TheOpen.{CredentialsError-F}
-use Rattle.cfg_types.specs.declared.errors.NotLoadedCause.{NotLoadedCause}
-use Rattle.cfg_types.specs.declared.errors.ProviderCause.{ProviderCause}
+use Rattle.cfg_types.specs.declared.errors.Class.TheVariants as class
+use Rattle.cfg_types.specs.declared.errors.CredentialsError.{CredentialsError}
+use Rattle.cfg_types.specs.Classes.{is_of_class}
 use Rattle.cfg_types.specs.declared.errors.ProviderAttempt.{ProviderAttempt}
 use Rattle.cfg_world.specs.Inquiry.{Inquiry, Done}
 use Rattle.cfg_chain.specs.declared.member.Member.{Member}
@@ -26,16 +25,9 @@ unfoldable pub member_inquiry : Configuration → Member → Inquiry (Result Key
 member_inquiry conf Environment = Done (environment conf.environment)
 member_inquiry conf Profile = profile conf
 
-abbrev pub is_not_loaded_level : CredentialsError-F CredentialsError NotLoadedCause ProviderCause → Bool
-is_not_loaded_level (CredentialsError-F.CredentialsNotLoaded cause) = true
-is_not_loaded_level (CredentialsError-F.InvalidConfiguration cause) = false
-is_not_loaded_level (CredentialsError-F.ProviderError cause) = false
-is_not_loaded_level (CredentialsError-F.Unhandled cause) = false
-is_not_loaded_level CredentialsError-F.OutOfMemory = false
-
 -- the answer of a provider that was not loaded
 abbrev pub is_not_loaded : CredentialsError → Bool
-is_not_loaded e = is_not_loaded_level (out-CredentialsError e)
+is_not_loaded e = is_of_class class.CredentialsNotLoaded e
 
 -- a member that was not loaded is passed over; any other answer is the chain's
 abbrev pub turn : Result Keys CredentialsError → Turn

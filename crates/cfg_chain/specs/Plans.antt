@@ -37,6 +37,7 @@ other_sources =
     codes "credential_source" ∷ codes "web_identity_token_file" ∷ codes "login_session" ∷ codes "credential_process"
     ∷ codes "sso_account_id" ∷ codes "sso_region" ∷ codes "sso_role_name" ∷ codes "sso_start_url" ∷ codes "sso_session" ∷ []
 
+-- whether a section has one of them
 abbrev pub has_other_source : SectionParts → Bool
 has_other_source section = list_any (λ key. is_some (property section key)) other_sources
 
@@ -61,7 +62,7 @@ role_of section arn = record {
   session_name = text_property section (codes "role_session_name");
 }
 
--- The answer of a plan that is not built yet. It is none of the rules of profiles.
+-- The answer of a plan that is not built yet: as of a feature that is not there.
 abbrev pub not_built : ProfileFileError
 not_built = FeatureNotEnabled (codes "profile-providers") None
 

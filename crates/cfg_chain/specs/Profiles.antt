@@ -1,5 +1,5 @@
--- Credentials by the selected plan_error.
-use Rattle.std.specs.Prelude.{[], ◌∷◌, ◌++◌, Result, Ok, Err}
+-- Credentials by the selected profile.
+use Rattle.std.specs.Prelude.{[], ◌∷◌, ◌++◌, Bool, true, false, Result, Ok, Err, if◌then◌else◌}
 use Rattle.cfg_types.specs.Keys.{Keys}
 use Rattle.cfg_types.specs.declared.credentials.AwsCredentialFeature.TheVariants.{CredentialsProfile}
 use Rattle.cfg_types.specs.declared.errors.ConfigCause.TheVariants as config
@@ -14,15 +14,18 @@ use Rattle.cfg_chain.specs.Configuration.{Configuration}
 use Rattle.cfg_chain.specs.Plans.{plan}
 use Rattle.cfg_chain.specs.AssumeRole.{assumes_roles}
 
--- what the provider of profiles answers where there is no plan: not loaded, or a fault of the configuration
+-- The errors of a profile that is not there, or that has no credentials.
+abbrev pub is_not_loaded_error : ProfileFileError → Bool
+is_not_loaded_error plan_error.NoProfilesDefined = true
+is_not_loaded_error (plan_error.ProfileDidNotContainCredentials name) = true
+is_not_loaded_error (plan_error.MissingProfile name message) = true
+is_not_loaded_error _ = false
+
+-- What the provider of profiles answers where there is no plan: not loaded, or a fault of the
+-- configuration.
 abbrev pub refusal : ProfileFileError → CredentialsError
-refusal (plan_error.InvalidProfile reason) = error.InvalidConfiguration (config.Profile (plan_error.InvalidProfile reason))
-refusal plan_error.NoProfilesDefined = error.CredentialsNotLoaded (not_loaded.Profile plan_error.NoProfilesDefined)
-refusal (plan_error.ProfileDidNotContainCredentials name) = error.CredentialsNotLoaded (not_loaded.Profile (plan_error.ProfileDidNotContainCredentials name))
-refusal (plan_error.InvalidCredentialSource name message) = error.InvalidConfiguration (config.Profile (plan_error.InvalidCredentialSource name message))
-refusal (plan_error.MissingProfile name message) = error.CredentialsNotLoaded (not_loaded.Profile (plan_error.MissingProfile name message))
-refusal (plan_error.FeatureNotEnabled feature message) = error.InvalidConfiguration (config.Profile (plan_error.FeatureNotEnabled feature message))
 refusal plan_error.OutOfMemory = error.OutOfMemory
+refusal e = if is_not_loaded_error e then error.CredentialsNotLoaded (not_loaded.Profile e) else error.InvalidConfiguration (config.Profile e)
 
 -- credentials of a profile, marked as such
 abbrev pub by_profile : Keys → Keys

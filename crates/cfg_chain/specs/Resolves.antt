@@ -3,7 +3,7 @@ use Rattle.std.specs.Prelude.{◌≡◌, List, [], ◌∷◌, ◌++◌, true, Re
 use Rattle.cfg_types.specs.Keys.{Keys}
 use Rattle.cfg_types.specs.declared.errors.CredentialsError.{CredentialsError}
 use Rattle.cfg_world.specs.Fits.{Pair}
-use Rattle.cfg_world.specs.Inquiry.{Reads}
+use Rattle.cfg_world.specs.Inquiry.{Reads, Begun}
 use Rattle.cfg_chain.specs.declared.kept.Found.{Found}
 use Rattle.cfg_chain.specs.KeptStates.{KeptStates}
 use Rattle.cfg_chain.specs.declared.member.Member.{Member}
@@ -34,6 +34,14 @@ AreParts conf [] attempts journal out = (journal ≡ []) × (out ≡ none_loaded
 AreParts conf (member ∷ members) attempts journal out =
     ((part : List Pair) × (rest : List Pair) × (e : CredentialsError) × (journal ≡ part ++ rest) × IsPassedOver conf member part e × AreParts conf members (attempts ++ attempt member e ∷ []) rest out)
     ⊎ Decides conf member journal out
+
+-- The journal is the parts of the members that were passed over, in order, and then a beginning of
+-- the next member's part.
+abbrev pub AreBegunParts : Configuration → List Member → List Pair → Type 0
+AreBegunParts conf [] journal = journal ≡ []
+AreBegunParts conf (member ∷ members) journal =
+    ((part : List Pair) × (rest : List Pair) × (e : CredentialsError) × (journal ≡ part ++ rest) × IsPassedOver conf member part e × AreBegunParts conf members rest)
+    ⊎ Begun (member_inquiry conf member) journal
 
 -- A call of the default chain found these values kept, has this journal, and came to this outcome.
 -- No member finds a kept value yet.

@@ -11,6 +11,7 @@ use Rattle.cfg_chain.specs.Sections.{property, text_property}
 abbrev pub has_both_keys : SectionParts → Bool
 has_both_keys section = is_some (property section (codes "aws_access_key_id")) && is_some (property section (codes "aws_secret_access_key"))
 
+-- a section whose keys are at fault, with the message that says how
 abbrev pub invalid : SectionParts → List ℕ → ProfileFileError
 invalid section message = InvalidCredentialSource (characters section.name) (characters message)
 

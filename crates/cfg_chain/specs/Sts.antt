@@ -19,7 +19,8 @@ abbrev pub before_colon : List ℕ → List ℕ
 before_colon [] = []
 before_colon (b ∷ bytes) = if b == 58 then [] else b ∷ before_colon bytes
 
--- the fifth part of an ARN, cut at each `:`
+-- The fifth part of an ARN, cut at each `:`. It is the account of
+-- arn:PARTITION:SERVICE:REGION:ACCOUNT:RESOURCE.
 abbrev pub fifth_part : List ℕ → Option (List ℕ)
 fifth_part arn = option_map before_colon (option_and_then behind_colon (option_and_then behind_colon (option_and_then behind_colon (behind_colon arn))))
 

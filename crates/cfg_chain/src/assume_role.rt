@@ -117,6 +117,7 @@ fn settings(alloc: Global, config: &ProviderConfig) -> Result<CallSettings, OutO
         region,
         use_fips: None,
         use_dual_stack: None,
+        // The standard retry mode of the AWS SDKs makes three attempts.
         max_attempts: 3,
         timeouts: Timeouts {
             connect_ms: None,

@@ -1,4 +1,3 @@
-// Credentials in environment variables.
 ghost use Rattle.std.specs.Prelude.{◌≡◌, IfOk, option_map};
 ghost use Rattle.cfg_types.specs.Text.{characters};
 ghost use Rattle.cfg_types.specs.Environment.{variable};

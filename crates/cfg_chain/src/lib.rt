@@ -14,6 +14,7 @@ pub mod profile;
 pub mod provider_config;
 mod sts;
 
+pub use cfg_types::{CredentialsError, OutOfMemory};
 pub use default_provider::credentials::{DefaultCredentialsChain, RegionSource};
 pub use kept::{Found, Kept};
 pub use profile::plan::{has_other_source, is_built};

@@ -4,7 +4,7 @@ ghost use Rattle.cfg_types.specs.Text.{characters};
 ghost use Rattle.cfg_chain.specs.Configuration.{nothing_configured};
 
 use crate::profile::sections::{ProfileSet, ProfileSource};
-use cfg_types::{Env, OutOfMemory, Region};
+use cfg_types::{Env, OutOfMemory, Region, TryCopy, copy_option};
 use std::alloc::Global;
 use std::marker::Model;
 
@@ -143,5 +143,24 @@ impl ProviderConfig {
         ensures { result ≡ self.now.sleep }
     {
         self.sleep
+    }
+}
+
+impl TryCopy for ProviderConfig {
+    fn copy(&self, alloc: Global) -> Result<ProviderConfig, OutOfMemory> {
+        let env = self.env.copy(alloc)?;
+        let profiles = self.profiles.copy(alloc)?;
+        let profile_name = match self.profile_name() {
+            None => None,
+            Some(name) => Some(String::from_str(alloc, name)?),
+        };
+        let region = copy_option(alloc, &self.region)?;
+        Ok(ProviderConfig {
+            env,
+            profiles,
+            profile_name,
+            region,
+            sleep: self.sleep,
+        })
     }
 }

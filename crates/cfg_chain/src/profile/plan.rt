@@ -209,6 +209,7 @@ fn no_section(alloc: Global, set: &ProfileSet, name: &str) -> Result<ProfileFile
     Ok(ProfileFileError::MissingProfile { profile, message })
 }
 
+// What is not built yet is told as a feature that is not there.
 fn not_built(alloc: Global) -> Result<ProfileFileError, OutOfMemory>
     ensures { IfOk result (λ e. e ≡ not_built_error) }
 {

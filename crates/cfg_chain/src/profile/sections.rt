@@ -5,7 +5,7 @@ ghost use Rattle.cfg_types.specs.Entries.{each_set};
 ghost use Rattle.std.specs.Str.{str_eq_ignore_ascii_case};
 ghost use Rattle.cfg_chain.specs.Sections.{bytes_of, property, text_property as text_property_of, named_section, last_match};
 
-use cfg_types::{AccountId, OutOfMemory, Text, TextMap};
+use cfg_types::{AccountId, OutOfMemory, Text, TextMap, TryCopy};
 use std::alloc::Global;
 use std::marker::Model;
 
@@ -85,6 +85,29 @@ impl Section {
             Some(value) => Ok(Some(AccountId::new(alloc, value)?)),
         }
     }
+}
+
+impl TryCopy for Section {
+    fn copy(&self, alloc: Global) -> Result<Section, OutOfMemory> {
+        let name = String::from_str(alloc, self.name())?;
+        let properties = copy_properties(alloc, self.properties.as_slice())?;
+        Ok(Section { name, properties })
+    }
+}
+
+fn copy_properties(
+    alloc: Global,
+    properties: &[(String, String)],
+) -> Result<Vec<(String, String)>, OutOfMemory>
+    ensures { IfOk result (λ copied. map bytes_of copied.items ≡ map bytes_of properties.now) }
+{
+    let mut copied = Vec::new(alloc);
+    for property in properties {
+        let key = String::from_str(alloc, property.0.as_str())?;
+        let value = String::from_str(alloc, property.1.as_str())?;
+        copied.push((key, value))?;
+    }
+    Ok(copied)
 }
 
 // The value of the last of these whose key is this one.
@@ -189,6 +212,19 @@ impl ProfileSet {
     }
 }
 
+impl TryCopy for ProfileSet {
+    fn copy(&self, alloc: Global) -> Result<ProfileSet, OutOfMemory> {
+        let profiles = self.profiles.copy(alloc)?;
+        let sessions = self.sessions.copy(alloc)?;
+        let selected = String::from_str(alloc, self.selected.as_str())?;
+        Ok(ProfileSet {
+            profiles,
+            sessions,
+            selected,
+        })
+    }
+}
+
 // The sections by their names.
 fn by_name(alloc: Global, sections: Vec<Section>) -> Result<TextMap<Section>, OutOfMemory>
     ensures { IfOk result (λ m. m ≡ each_set (map named_section sections.items)) }
@@ -206,4 +242,19 @@ fn by_name(alloc: Global, sections: Vec<Section>) -> Result<TextMap<Section>, Ou
 pub enum ProfileSource {
     Sections(ProfileSet),
     Refused(Text),
+}
+
+impl TryCopy for ProfileSource {
+    fn copy(&self, alloc: Global) -> Result<ProfileSource, OutOfMemory> {
+        match self {
+            ProfileSource::Sections(set) => {
+                let set = set.copy(alloc)?;
+                Ok(ProfileSource::Sections(set))
+            }
+            ProfileSource::Refused(reason) => {
+                let reason = reason.copy(alloc)?;
+                Ok(ProfileSource::Refused(reason))
+            }
+        }
+    }
 }

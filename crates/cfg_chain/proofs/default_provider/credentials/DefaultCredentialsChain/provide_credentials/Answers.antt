@@ -4,16 +4,18 @@ use Rattle.cfg_world.specs.Inquiry.{Begun}
 use Rattle.cfg_chain.specs.Chains.{chain}
 use Rattle.cfg_chain.specs.Resolves.{Resolves, default_members}
 use Rattle.cfg_chain.specs.Causes.{HasCause}
-use Rattle.cfg_chain.proofs.Providing.{resolved, read_is_begun}
-use Rattle.cfg_chain.proofs.CauseCases.{has_cause, valid_loaded}
+use Rattle.cfg_chain.proofs.Parts.{read_begun}
+use Rattle.cfg_chain.proofs.Providing.{resolved}
+use Rattle.cfg_chain.proofs.CauseCases.{has_cause}
+use Rattle.cfg_chain.proofs.Validity.{valid_loaded}
 use Rattle.cfg_chain.proofs.default_provider.credentials.DefaultCredentialsChain.provide_credentials.Goals as goal
 
 pub returns-in-Ok-clause-provides : goal.returns-in-Ok-clause-provides
-returns-in-Ok-clause-provides g c = λ no_want.
+returns-in-Ok-clause-provides g c = λ other.
     let e = c.in-Ok.ensures in
     let out = c.in-Ok.outcome in
     let parts = resolved c.self.inside.config e.part out e.reads in
-    let cause = subst (λ conf. HasCause conf e.part out) c.self.view_is (has_cause c.self.inside.config [] e.part out no_want parts) in
+    let cause = subst (λ conf. HasCause conf e.part out) c.self.view_is (has_cause c.self.inside.config [] e.part out other parts) in
     record {
       part = e.part;
       grows = record { journal = e.grows; fits = e.fits; same = e.same; counted = e.counted; stands = e.stands };
@@ -28,5 +30,5 @@ returns-in-Ok-clause-stays g c = λ no_memory.
     record {
       part = e.part;
       stays = record { journal = e.grows; fits = e.fits; same = e.same; counted = e.counted };
-      begun = subst (λ conf. Begun (chain conf default_members []) e.part) c.self.view_is (read_is_begun (chain c.self.inside.config default_members []) e.part c.in-Ok.outcome e.reads);
+      begun = subst (λ conf. Begun (chain conf default_members []) e.part) c.self.view_is (read_begun (chain c.self.inside.config default_members []) e.part c.in-Ok.outcome e.reads);
     }

@@ -1,0 +1,5 @@
+use Rattle.cfg_chain.proofs.Parts.{one_call}
+use Rattle.cfg_chain.proofs.laws.one_script_one_call.Goals as goal
+
+pub returns : goal.returns
+returns c = one_call
