@@ -1,5 +1,5 @@
 -- What one input comes to: one status and one line, or a fault, or memory runs out.
-use Rattle.std.proofs.Common.{◌≡◌, ℕ, List, [], ◌∷◌, length, Bool, true, false, Option, Some, None, Result, Ok, Err, ◌⊎◌, inl, inr, ◌∙◌, sym, ap, subst, refl, cond, arith}
+use Rattle.std.proofs.Common.{◌≡◌, ℕ, List, [], length, Bool, true, false, Option, Some, None, Result, Ok, Err, ◌⊎◌, inl, inr, ◌∙◌, sym, ap, subst, refl, cond}
 use Rattle.std.specs.Prelude.{◌<◌, IsSome, IfSome, IsTrue, nat_lt}
 use Rattle.std.specs.Io.KnownBytes.{Appends}
 use Rattle.std.proofs.lemmas.Bool.{lt-ltb, le-ltb}
@@ -15,7 +15,7 @@ use Rattle.cfg_program.specs.Texts.{help_text, version_text}
 use Rattle.cfg_program.specs.Inputs.{IsTooLong}
 use Rattle.cfg_program.specs.Calls.{Answers, configuration_of}
 use Rattle.cfg_program.specs.Plans.{plan_is_built}
-use Rattle.cfg_program.specs.Run.{Seen, WasRead, IsScript, WritesLine, WritesNothing, EndsResolving, EndsForWords, EndsTelling, EndsRun}
+use Rattle.cfg_program.specs.Run.{Seen, IsInput, NeedsMore, WasRead, IsScript, WritesLine, WritesNothing, EndsResolving, EndsForWords, EndsTelling, EndsRun}
 use Rattle.cfg_program.specs.Exclusion.{depends_on_input, BytesAreKnown, AppendTheSame, CallsFor}
 use Rattle.cfg_program.proofs.Pieces.{none_grown}
 use Rattle.cfg_program.proofs.OneLine.{one_line}
@@ -46,8 +46,12 @@ known_of : (o : Option (List ℕ)) → IsSome o → (bytes : List ℕ) × (o ≡
 known_of None h = cc
 known_of (Some bytes) h = (bytes, refl)
 
--- bytes that were read to the end call for what their script calls for
-read_is_refused : (seen : Seen) (all : List ℕ) → seen.left ≡ Some all → (bytes : List ℕ) → WasRead seen bytes → (r : Result Plain Refused) → script_of bytes ≡ r → refused_for all ≡ refused_by r
+-- what was read to the end is the input
+was_input : (seen : Seen) (bytes : List ℕ) → WasRead seen bytes → IsInput seen bytes
+was_input seen bytes was = record { all = was.all; short = was.short }
+
+-- the bytes of an input call for what their script calls for
+read_is_refused : (seen : Seen) (all : List ℕ) → seen.left ≡ Some all → (bytes : List ℕ) → IsInput seen bytes → (r : Result Plain Refused) → script_of bytes ≡ r → refused_for all ≡ refused_by r
 read_is_refused seen all e bytes was r is =
     ap refused_for (known_is seen.left all (λ b. b ≡ bytes) e was.all)
     ∙ ap (λ t. cond t (Some status.TooLong) (refused_by (script_of bytes))) (le-ltb LIMIT (length bytes) was.short)
@@ -60,10 +64,9 @@ not_built_is : (b : Bool) → b ≡ false → cond b None (Some status.NotBuilt)
 not_built_is b h = ap (λ x. cond x None (Some status.NotBuilt)) h
 
 script_is_not_refused : (seen : Seen) (all : List ℕ) → seen.left ≡ Some all → (p : Plain) → IsScript seen p → refused_for all ≡ None
-script_is_not_refused seen all e p is = read_is_refused seen all e is.bytes is.read (Ok p) is.script ∙ built_is (plan_is_built p) is.built
+script_is_not_refused seen all e p is = read_is_refused seen all e is.bytes (was_input seen is.bytes is.read) (Ok p) is.script ∙ built_is (plan_is_built p) is.built
 
-not_built_is_refused : (seen : Seen) (all : List ℕ) → seen.left ≡ Some all → (bytes : List ℕ) → WasRead seen bytes
-    → (script_of bytes ≡ Err NotBuilt) ⊎ ((p : Plain) × (script_of bytes ≡ Ok p) × (plan_is_built p ≡ false)) → refused_for all ≡ Some status.NotBuilt
+not_built_is_refused : (seen : Seen) (all : List ℕ) → seen.left ≡ Some all → (bytes : List ℕ) → IsInput seen bytes → NeedsMore bytes → refused_for all ≡ Some status.NotBuilt
 not_built_is_refused seen all e bytes was (inl refused) = read_is_refused seen all e bytes was (Err NotBuilt) refused
 not_built_is_refused seen all e bytes was (inr script) = read_is_refused seen all e bytes was (Ok script.0) script.1 ∙ not_built_is (plan_is_built script.0) script.2
 
@@ -71,10 +74,10 @@ is_long : (left left_after : Option (List ℕ)) → IsTooLong left left_after �
 is_long None after h = tt
 is_long (Some bytes) after h = h.0
 
-long_is_refused : (seen : Seen) (all : List ℕ) → seen.left ≡ Some all → IsTooLong seen.left seen.left_after → refused_for all ≡ Some status.TooLong
+long_is_refused : (seen : Seen) (all : List ℕ) → seen.left ≡ Some all → IfSome seen.left (λ b. LIMIT < length b) → refused_for all ≡ Some status.TooLong
 long_is_refused seen all e long =
     ap (λ b. cond b (Some status.TooLong) (refused_by (script_of all)))
-    (lt-ltb LIMIT (length all) (subst (λ o. IfSome o (λ b. LIMIT < length b)) e (is_long seen.left seen.left_after long)))
+    (lt-ltb LIMIT (length all) (known_is seen.left all (λ b. LIMIT < length b) e long))
 
 -- a refusal that the input calls for
 called_is_refused : (seen : Seen) (all : List ℕ) → seen.left ≡ Some all → (cause : Status) → CallsFor seen cause → refused_for all ≡ Some cause
@@ -87,7 +90,7 @@ called_is_refused seen all e status.SinkFault h = absurd h
 called_is_refused seen all e status.OutOfMemory h = absurd h
 called_is_refused seen all e status.TooLong h = long_is_refused seen all e h
 called_is_refused seen all e status.HistoryDiffers h = absurd h
-called_is_refused seen all e status.NotBuilt h = not_built_is_refused seen all e h.bytes h.read h.cause
+called_is_refused seen all e status.NotBuilt h = not_built_is_refused seen all e h.0 h.1 h.2
 
 -- how a run over a known input ends, whose status depends on it alone: with the line of its script,
 -- or with the refusal that it calls for
@@ -106,13 +109,13 @@ ends_as : (seen : Seen) (all : List ℕ) → seen.left ≡ Some all → (ended :
 ends_as seen all e status.Done t ends = inl (record { is_credentials = true; is = refl; line = ends; called = script_is_not_refused seen all e ends.p ends.input })
 ends_as seen all e status.Refused t ends = inl (record { is_credentials = false; is = refl; line = ends; called = script_is_not_refused seen all e ends.p ends.input })
 ends_as seen all e status.Words t ends = absurd ends
-ends_as seen all e status.NoScript t ends = inr (record { is = refl; called = called_is_refused seen all e status.NoScript ends.0; nothing = ends.1 })
+ends_as seen all e status.NoScript t ends = inr (record { is = refl; called = called_is_refused seen all e status.NoScript (ends.0.0, was_input seen ends.0.0 ends.0.1, ends.0.2); nothing = ends.1 })
 ends_as seen all e status.SourceFault t ends = cc
 ends_as seen all e status.SinkFault t ends = cc
 ends_as seen all e status.OutOfMemory t ends = cc
-ends_as seen all e status.TooLong t ends = inr (record { is = refl; called = called_is_refused seen all e status.TooLong ends.0; nothing = ends.1 })
+ends_as seen all e status.TooLong t ends = inr (record { is = refl; called = called_is_refused seen all e status.TooLong (is_long seen.left seen.left_after ends.0); nothing = ends.1 })
 ends_as seen all e status.HistoryDiffers t ends = absurd ends
-ends_as seen all e status.NotBuilt t ends = inr (record { is = refl; called = called_is_refused seen all e status.NotBuilt ends.0; nothing = ends.1 })
+ends_as seen all e status.NotBuilt t ends = inr (record { is = refl; called = called_is_refused seen all e status.NotBuilt (ends.0.bytes, was_input seen ends.0.bytes ends.0.read, ends.0.cause); nothing = ends.1 })
 
 -- sinks that hold what they held have nothing more
 nothing_more : (seen : Seen) → WritesNothing seen → Appends seen.written seen.written_after []

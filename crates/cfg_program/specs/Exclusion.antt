@@ -1,12 +1,12 @@
 -- Which statuses tell of the words and of the input, and what in the input causes a refusal.
-use Rattle.std.specs.Prelude.{◌≡◌, ℕ, List, Bool, true, false, Err, IsSome}
+use Rattle.std.specs.Prelude.{◌≡◌, ℕ, ◌<◌, List, length, Bool, true, false, Err, IsSome, IfSome}
 use Rattle.std.specs.Io.KnownBytes.{Appends}
 use Rattle.cfg_script.specs.Script.{NoScript}
 use Rattle.cfg_script.specs.Reading.{script_of}
 use Rattle.cfg_program.specs.declared.status.Status.{Status}
 use Rattle.cfg_program.specs.declared.status.Status.TheVariants as status
-use Rattle.cfg_program.specs.Inputs.{IsTooLong}
-use Rattle.cfg_program.specs.Run.{Seen, WasRead, IsNotBuilt}
+use Rattle.cfg_program.specs.declared.input.TheConstants.{LIMIT}
+use Rattle.cfg_program.specs.Run.{Seen, IsInput, NeedsMore}
 
 -- whether a status depends on the words and the input alone: all but those of a fault and of memory
 abbrev pub depends_on_input : Status → Bool
@@ -25,7 +25,7 @@ AppendTheSame one other = (bytes : List ℕ) × Appends one.written one.written_
 
 -- the bytes of the input call for this refusal
 abbrev pub CallsFor : Seen → Status → Type 0
-CallsFor seen status.NoScript = (bytes : List ℕ) × WasRead seen bytes × (script_of bytes ≡ Err NoScript)
-CallsFor seen status.TooLong = IsTooLong seen.left seen.left_after
-CallsFor seen status.NotBuilt = IsNotBuilt seen
+CallsFor seen status.NoScript = (bytes : List ℕ) × IsInput seen bytes × (script_of bytes ≡ Err NoScript)
+CallsFor seen status.TooLong = IfSome seen.left (λ b. LIMIT < length b)
+CallsFor seen status.NotBuilt = (bytes : List ℕ) × IsInput seen bytes × NeedsMore bytes
 CallsFor seen _ = ⊥

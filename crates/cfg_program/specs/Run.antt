@@ -31,6 +31,11 @@ pub record Seen : Type 0 where
 abbrev pub WritesNothing : Seen → Type 0
 WritesNothing seen = seen.written_after ≡ seen.written
 
+-- the input has these bytes, and they are not too many
+pub record IsInput (seen : Seen) (bytes : List ℕ) : Type 0 where
+  pub all : IfSome seen.left (λ b. b ≡ bytes)
+  pub short : length bytes ≤ LIMIT
+
 -- The input has these bytes, and they are not too many. All of them were read: none is left.
 pub record WasRead (seen : Seen) (bytes : List ℕ) : Type 0 where
   pub all : IfSome seen.left (λ b. b ≡ bytes)
@@ -44,11 +49,15 @@ pub record IsScript (seen : Seen) (p : Plain) : Type 0 where
   pub script : script_of bytes ≡ Ok p
   pub built : plan_is_built p ≡ true
 
--- the input has a name that is not built, or it is a script whose plan is not built
+-- the bytes have a name that is not built, or they are a script whose plan is not built
+abbrev pub NeedsMore : List ℕ → Type 0
+NeedsMore bytes = (script_of bytes ≡ Err NotBuilt) ⊎ ((p : Plain) × (script_of bytes ≡ Ok p) × (plan_is_built p ≡ false))
+
+-- the input was read, and needs what is not built
 pub record IsNotBuilt (seen : Seen) : Type 0 where
   pub bytes : List ℕ
   pub read : WasRead seen bytes
-  pub cause : (script_of bytes ≡ Err NotBuilt) ⊎ ((p : Plain) × (script_of bytes ≡ Ok p) × (plan_is_built p ≡ false))
+  pub cause : NeedsMore bytes
 
 -- the line of the script's own call was written
 pub record WritesLine (seen : Seen) (is_credentials : Bool) : Type 0 where
