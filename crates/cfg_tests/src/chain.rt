@@ -86,14 +86,22 @@ fn provided(
     Ok(chain.provide_credentials(&mut kept, world))
 }
 
+fn answered(
+    alloc: Global,
+    chain: &DefaultCredentialsChain,
+    world: &mut World<ScriptDevices>,
+) -> Result<String, OutOfMemory> {
+    let answer = provided(chain, world)?;
+    Ok(answer_words(alloc, &answer)?)
+}
+
 // What a call of the chain answers, and what it asked.
 fn call(
     alloc: Global,
     chain: &DefaultCredentialsChain,
     world: &mut World<ScriptDevices>,
 ) -> Result<String, OutOfMemory> {
-    let answer = provided(chain, world)?;
-    let answer = answer_words(alloc, &answer)?;
+    let answer = answered(alloc, chain, world)?;
     let questions = questions(alloc, world.journal())?;
     Ok(format!(in alloc; "{answer}{questions}")?)
 }
