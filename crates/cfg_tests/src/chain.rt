@@ -9,7 +9,9 @@ use cfg_chain::{
     is_built,
 };
 use cfg_script::{Script, read_script};
-use cfg_types::{Credentials, CredentialsError, Env, EnvText, OutOfMemory, Region, Seq, Text};
+use cfg_types::{
+    Credentials, CredentialsError, Env, EnvText, OutOfMemory, Region, Seq, Text, TryCopy,
+};
 use cfg_world::{DeviceLists, Entry, ScriptDevices, World};
 use std::alloc::{AllocError, Global};
 use std::test::Fail;
@@ -26,6 +28,7 @@ fn sections(
     Ok(ProfileSource::Sections(set))
 }
 
+// A configuration; where no name is selected, its copy.
 fn config(
     alloc: Global,
     variables: Vec<(String, EnvText)>,
@@ -35,7 +38,7 @@ fn config(
     let config = ProviderConfig::empty(alloc)?.with_env(Env::new(alloc, variables)?);
     let config = config.with_profiles(sections(alloc, profiles)?);
     match selected {
-        None => Ok(config),
+        None => config.copy(alloc),
         Some(name) => config.with_profile_name(alloc, name.as_str()),
     }
 }

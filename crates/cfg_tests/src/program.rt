@@ -389,6 +389,14 @@ fn bytes_come_in_pieces(rt: HostRuntime) -> Result<(), Fail> {
     Ok(())
 }
 
+// A sink that takes the whole line is called once: its second call would fail.
+#[test]
+fn a_line_is_one_write(rt: HostRuntime) -> Result<(), Fail> {
+    let told = run_in_pieces(rt.alloc(), &["resolve"], KEYS.as_bytes(), 100_000, 0, 2)?;
+    assert!(rt; told.as_str().starts_with("Done "));
+    Ok(())
+}
+
 // The reads of each byte in turn, and of the end.
 #[test]
 fn a_source_that_fails_at_any_read(rt: HostRuntime) -> Result<(), Fail> {
