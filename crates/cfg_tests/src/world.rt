@@ -13,31 +13,32 @@ use std::io;
 use std::io::{Read, Write};
 use std::test::Fail;
 
-// Three replies: no credentials, a send that fails, and a refusal.
-fn replies(alloc: Global) -> Result<Vec<Result<Reply, FailKind>>, OutOfMemory> {
-    let mut replies = Vec::new(alloc);
-    let nothing = StsReply {
+fn nothing_granted() -> Reply {
+    Reply::Sts(StsReply {
         credentials: None,
         arn: None,
-    };
-    replies.push(Ok(Reply::Sts(nothing)))?;
-    replies.push(Err(FailKind::Timeout))?;
-    let refusal = Refusal {
+    })
+}
+
+fn refused(alloc: Global) -> Result<Reply, OutOfMemory> {
+    Ok(Reply::Refused(Refusal {
         kind: RefusalKind::RegionDisabled,
         message: Text::of(alloc, "no")?,
-    };
-    replies.push(Ok(Reply::Refused(refusal)))?;
-    Ok(replies)
+    }))
 }
 
 // Two readings, and three replies.
 fn scripted(alloc: Global) -> Result<ScriptDevices, OutOfMemory> {
-    let mut clock = Vec::new(alloc);
-    clock.push(Instant::epoch().plus(5))?;
-    clock.push(Instant::epoch().plus(7))?;
+    let early = Instant::epoch().plus(5);
+    let late = Instant::epoch().plus(7);
+    let replies = vec![in alloc;
+        Ok(nothing_granted()),
+        Err(FailKind::Timeout),
+        Ok(refused(alloc)?),
+    ]?;
     let lists = DeviceLists {
-        clock: Seq::of(clock),
-        assume_role: Seq::of(replies(alloc)?),
+        clock: Seq::of(vec![in alloc; early, late]?),
+        assume_role: Seq::of(replies),
     };
     Ok(ScriptDevices::new(alloc, lists))
 }
