@@ -31,7 +31,7 @@ use Rattle.cfg_chain.specs.Members.{member_inquiry, is_not_loaded, turn}
 use Rattle.cfg_chain.specs.Chains.{Attempts, none_loaded}
 use Rattle.cfg_chain.specs.Resolves.{Resolves, IsPassedOver}
 use Rattle.cfg_chain.specs.PassedOver.{is_passed_over, environment_is_passed_over, plan_is_passed_over}
-use Rattle.cfg_chain.specs.Causes.{HasCause, unreadable_variable, fault_of_plan, fault, first_failure, named_variable, is_not_loaded_answer, told_fault, fault_of_cause, tells_role, is_of_role, is_memory}
+use Rattle.cfg_chain.specs.Causes.{HasCause, unreadable_variable, fault_of_plan, first_failure, named_variable, is_not_loaded_answer, told_fault, fault_of_cause, tells_role, is_of_role, is_memory}
 use Rattle.cfg_chain.proofs.RoleCauses.{Derived, derived}
 
 abbrev id_name : List ℕ

@@ -3,7 +3,7 @@ use Rattle.std.proofs.Common.{◌≡◌, Bool, true, false, cond, List, [], ◌�
 use Rattle.cfg_types.specs.Keys.{Keys}
 use Rattle.cfg_types.specs.declared.errors.CredentialsError.{CredentialsError}
 use Rattle.cfg_world.specs.Fits.{Pair}
-use Rattle.cfg_world.specs.Inquiry.{Inquiry, Done, Ask, Reads, Begun}
+use Rattle.cfg_world.specs.Inquiry.{Inquiry, Done, Reads, Begun}
 use Rattle.cfg_world.proofs.Inquiries.{split_after, reads_after, begun_first, begun_after}
 use Rattle.cfg_world.proofs.Agreeing.{one_script_one_journal}
 use Rattle.cfg_world.proofs.Beginnings.{begun_splits, read_begins}
@@ -15,7 +15,7 @@ use Rattle.cfg_chain.specs.declared.member.Turn.TheVariants.{PassedOver, Answers
 use Rattle.cfg_chain.specs.Configuration.{Configuration}
 use Rattle.cfg_chain.specs.Members.{member_inquiry, is_not_loaded, turn, attempt}
 use Rattle.cfg_chain.specs.Chains.{Attempts, chain, go_on, none_loaded}
-use Rattle.cfg_chain.specs.Resolves.{AreParts, AreBegunParts, IsPassedOver, Resolves, default_members}
+use Rattle.cfg_chain.specs.Resolves.{AreParts, AreBegunParts, Resolves, default_members}
 
 chosen_passes : (b : Bool) (e x : CredentialsError) → cond b (PassedOver e) (Answers (Err e)) ≡ PassedOver x → (b ≡ true) × (e ≡ x)
 chosen_passes true e x h = (refl, cc)

@@ -1,9 +1,9 @@
 -- Where nothing stands in the way, there are credentials.
-use Rattle.std.proofs.Common.{◌≡◌, ◌≢◌, ◌≤◌, ◌⊎◌, ℕ, suc, List, [], ◌∷◌, Bool, true, false, cond, Option, Some, None, Result, Ok, Err, inl, inr, refl, sym, ap, ◌∙◌, subst, arith}
+use Rattle.std.proofs.Common.{◌≡◌, ◌≢◌, ◌≤◌, ◌⊎◌, ℕ, suc, List, [], ◌∷◌, Bool, true, false, cond, Option, Some, None, Result, Ok, Err, inl, inr, refl, ap, ◌∙◌, arith}
 use Rattle.std.specs.Option.{option_or}
 use Rattle.std.specs.List.{All, list_all}
 use Rattle.std.specs.Str.{encode_utf8_all}
-use Rattle.std.specs.Prelude.{not, ◌&&◌, ◌||◌, ◌==◌, IsSome, IsNone, IfSome, IsOk, is_some, is_none, is_ok, codes, option_map, option_and_then, if◌then◌else◌}
+use Rattle.std.specs.Prelude.{not, ◌&&◌, ◌==◌, IsSome, IsNone, IfSome, IsOk, is_none, is_ok, codes, option_map, option_and_then, if◌then◌else◌}
 use Rattle.std.proofs.lemmas.List.Elements.{All-head, All-tail}
 use Rattle.cfg_types.specs.Keys.{Keys}
 use Rattle.cfg_types.specs.declared.errors.CredentialsError.{CredentialsError}
@@ -21,10 +21,9 @@ use Rattle.cfg_world.specs.declared.ask.Question.TheVariants as question
 use Rattle.cfg_world.specs.declared.ask.Answer.{Answer}
 use Rattle.cfg_world.specs.declared.ask.Answer.TheVariants as answer
 use Rattle.cfg_world.specs.Fits.{Pair}
-use Rattle.cfg_world.specs.Leaves.{reply_of}
 use Rattle.cfg_chain.specs.declared.profile.plan.ProfileChain.{ProfileChain}
 use Rattle.cfg_chain.specs.Sts.{behind_colon, before_colon, fifth_part, account_of, account_or, keys_in, into_credentials}
-use Rattle.cfg_chain.specs.AssumeRole.{granted, or_unhandled}
+use Rattle.cfg_chain.specs.AssumeRole.{or_unhandled}
 use Rattle.cfg_chain.specs.EnvironmentKeys.{usable, is_not_unicode}
 use Rattle.cfg_chain.specs.Configuration.{Configuration}
 use Rattle.cfg_chain.specs.Plans.{plan}

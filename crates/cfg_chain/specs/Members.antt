@@ -1,5 +1,5 @@
 -- What each member of the default chain asks and reads.
-use Rattle.std.specs.Prelude.{ℕ, List, Bool, true, false, Result, Ok, Err, codes, if◌then◌else◌}
+use Rattle.std.specs.Prelude.{ℕ, List, Bool, Result, Ok, Err, codes, if◌then◌else◌}
 use Rattle.cfg_types.specs.Keys.{Keys}
 use Rattle.cfg_types.specs.declared.errors.Class.TheVariants as class
 use Rattle.cfg_types.specs.declared.errors.CredentialsError.{CredentialsError}

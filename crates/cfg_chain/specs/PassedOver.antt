@@ -1,5 +1,5 @@
 -- Which members of the default chain are passed over, by the configuration alone.
-use Rattle.std.specs.Prelude.{ℕ, List, Bool, true, false, not, ◌&&◌, ◌||◌, is_some, is_none, Result, Ok, Err, codes}
+use Rattle.std.specs.Prelude.{ℕ, List, Bool, false, not, ◌&&◌, ◌||◌, is_some, is_none, Result, Ok, Err, codes}
 use Rattle.cfg_types.specs.declared.errors.ProfileFileError.{ProfileFileError}
 use Rattle.cfg_types.specs.Environment.{Variables, variable}
 use Rattle.cfg_chain.specs.declared.member.Member.{Member}

@@ -1,6 +1,6 @@
 -- Which calls of the default chain give credentials, said of the variables, of the selected profile
 -- and of the journal's entries.
-use Rattle.std.specs.Prelude.{◌≡◌, ◌≢◌, ◌⊎◌, ◌≤◌, ℕ, suc, List, [], ◌∷◌, ◌==◌, IsSome, IsNone, IfSome, IsOk, Err, codes, if◌then◌else◌}
+use Rattle.std.specs.Prelude.{◌≢◌, ◌⊎◌, ◌≤◌, ℕ, suc, List, [], ◌∷◌, ◌==◌, IsSome, IsNone, IfSome, IsOk, Err, codes, if◌then◌else◌}
 use Rattle.std.specs.List.{All}
 use Rattle.std.specs.Str.{encode_utf8_all}
 use Rattle.cfg_types.specs.Environment.{Variables, variable}
