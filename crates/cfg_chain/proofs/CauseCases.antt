@@ -25,7 +25,7 @@ use Rattle.cfg_chain.specs.declared.member.Member.{Member}
 use Rattle.cfg_chain.specs.declared.member.Member.TheVariants.{Environment, Profile}
 use Rattle.cfg_chain.specs.declared.member.Turn.TheVariants.{PassedOver, Answers}
 use Rattle.cfg_chain.specs.Configuration.{Configuration}
-use Rattle.cfg_chain.specs.Gives.{◌>>=◌}
+use Rattle.cfg_types.specs.Gives.{◌>>=◌}
 use Rattle.cfg_chain.specs.EnvironmentKeys.{required_by, secret_or, optional, usable, is_not_unicode, environment}
 use Rattle.cfg_chain.specs.Members.{member_inquiry, is_not_loaded, turn}
 use Rattle.cfg_chain.specs.Chains.{Attempts, none_loaded}

@@ -10,7 +10,7 @@ use Rattle.cfg_types.specs.declared.credentials.AwsCredentialFeature.TheVariants
 use Rattle.cfg_types.specs.Keys.{Keys}
 use Rattle.cfg_types.specs.WhiteSpace.{trimmed, is_blank}
 use Rattle.cfg_types.specs.Environment.{Variables, variable}
-use Rattle.cfg_chain.specs.Gives.{◌>>=◌}
+use Rattle.cfg_types.specs.Gives.{◌>>=◌}
 
 -- the answer for a variable that is not set, or blank
 abbrev pub not_set : List ℕ → CredentialsError

@@ -1,16 +1,16 @@
--- What a call answers by a definition.
+-- What a call of the chain answers that may run out of memory.
 use Rattle.std.specs.Prelude.{◌≡◌, Result, Ok, Err}
+use Rattle.cfg_types.specs.Gives.{Gives}
 use Rattle.cfg_world.specs.declared.asking.Halt.{Halt}
 use Rattle.cfg_world.specs.declared.asking.Halt.TheVariants.{Stopped, Refused}
 use Rattle.cfg_world.specs.declared.asking.Stop.TheVariants.{OutOfMemory}
 
-infixl 10 ◌>>=◌
-abbrev pub ◌>>=◌ : {A B E : Type 0} → Result A E → (A → Result B E) → Result B E
-(Ok x) >>= f = f x
-(Err e) >>= f = Err e
+-- the answer, its value seen by view, is this one; a halt that is no refusal answers nothing
+abbrev pub IsAnswered : {X Y E : Type 0} → (X → Y) → Result Y E → Result X (Halt E) → Type 0
+IsAnswered view said (Ok x) = said ≡ Ok (view x)
+IsAnswered view said (Err (Refused e)) = said ≡ Err e
+IsAnswered view said (Err (Stopped stop)) = ⊥
 
 -- The call answered, seen by view, what the definition says, unless memory ran out.
-abbrev pub Gives : {X Y E : Type 0} → (X → Y) → Result X (Halt E) → Result Y E → Type 0
-Gives view (Ok x) said = said ≡ Ok (view x)
-Gives view (Err (Refused e)) said = said ≡ Err e
-Gives view (Err (Stopped stop)) said = stop ≡ OutOfMemory
+abbrev pub GivesAnswer : {X Y E : Type 0} → (X → Y) → Result X (Halt E) → Result Y E → Type 0
+GivesAnswer view result said = Gives (Stopped OutOfMemory) result (IsAnswered view said)

@@ -16,7 +16,7 @@ use Rattle.cfg_chain.specs.SectionParts.{SectionParts}
 use Rattle.cfg_chain.specs.SectionSets.{SectionSets}
 use Rattle.cfg_chain.specs.Sections.{property, text_property}
 use Rattle.cfg_chain.specs.Configuration.{Configuration}
-use Rattle.cfg_chain.specs.Gives.{◌>>=◌}
+use Rattle.cfg_types.specs.Gives.{◌>>=◌}
 use Rattle.cfg_chain.specs.StaticKeys.{has_both_keys, static_keys}
 
 abbrev pub named_by_environment : Result (List ℕ) VarError → List ℕ

@@ -7,7 +7,7 @@ use Rattle.cfg_types.specs.declared.errors.UnhandledCause.{UnhandledCause}
 use Rattle.cfg_types.specs.declared.errors.UnhandledCause.TheVariants.{StsNoCredentials, StsArn}
 use Rattle.cfg_types.specs.declared.reply.StsReply.{StsReply}
 use Rattle.cfg_types.specs.declared.reply.StsCredentials.{StsCredentials}
-use Rattle.cfg_chain.specs.Gives.{◌>>=◌}
+use Rattle.cfg_types.specs.Gives.{◌>>=◌}
 
 -- the bytes behind the first `:`, where there is one
 abbrev pub behind_colon : List ℕ → Option (List ℕ)

@@ -1,7 +1,7 @@
 ghost use Rattle.std.specs.Prelude.{◌≡◌, IfOk, option_map};
 ghost use Rattle.cfg_types.specs.Text.{characters};
 ghost use Rattle.cfg_types.specs.Environment.{variable};
-ghost use Rattle.cfg_chain.specs.Gives.{Gives};
+ghost use Rattle.cfg_chain.specs.Gives.{GivesAnswer};
 ghost use Rattle.cfg_chain.specs.EnvironmentKeys.{required, usable, secret as secret_of, optional as optional_of, environment};
 
 use cfg_types::{
@@ -19,7 +19,7 @@ pub fn environment_credentials(
     alloc: Global,
     env: &Env,
 ) -> Result<Credentials, Halt<CredentialsError>>
-    ensures { Gives (λ c. c) result (environment env.now) }
+    ensures { GivesAnswer (λ c. c) result (environment env.now) }
 {
     let id = required_variable(alloc, env, "AWS_ACCESS_KEY_ID")?;
     let secret = secret_key(alloc, env)?;
@@ -47,7 +47,7 @@ fn required_variable<'a>(
     env: &'a Env,
     name: &str,
 ) -> Result<&'a str, Halt<CredentialsError>>
-    ensures { Gives (λ t. characters t.now) result (required (characters name.now) (variable env.now name.now)) }
+    ensures { GivesAnswer (λ t. characters t.now) result (required (characters name.now) (variable env.now name.now)) }
 {
     match env.get(name) {
         Ok(text) if !is_blank(text) => Ok(text),
@@ -66,7 +66,7 @@ fn required_variable<'a>(
 
 // The secret. An older name stands in where the first one cannot be used.
 fn secret_key<'a>(alloc: Global, env: &'a Env) -> Result<&'a str, Halt<CredentialsError>>
-    ensures { Gives (λ t. characters t.now) result (secret_of env.now) }
+    ensures { GivesAnswer (λ t. characters t.now) result (secret_of env.now) }
 {
     match usable_variable(env, "AWS_SECRET_ACCESS_KEY") {
         Some(text) => Ok(text),

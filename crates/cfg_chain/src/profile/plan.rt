@@ -1,7 +1,7 @@
 ghost use Rattle.std.specs.Prelude.{◌≡◌, [], ◌∷◌, IfOk};
 ghost use Rattle.std.specs.Option.{option_copied};
 ghost use Rattle.std.specs.FinMap.{get as entry_of};
-ghost use Rattle.cfg_chain.specs.Gives.{Gives};
+ghost use Rattle.cfg_chain.specs.Gives.{GivesAnswer};
 ghost use Rattle.cfg_chain.specs.Plans.{selected_name as selected_name_of, has_other_source as other_source_of, another as another_of, source_section as source_section_of, role_of, not_built as not_built_error, no_section as no_section_of, role_over, plan_of_selected as selected_plan, plan_of_section as section_plan, plan, is_built as is_built_of};
 
 use crate::profile::sections::{ProfileSet, ProfileSource, Section};
@@ -46,7 +46,7 @@ pub fn plan_of(
     alloc: Global,
     config: &ProviderConfig,
 ) -> Result<ProfileChain, Halt<ProfileFileError>>
-    ensures { Gives (λ p. p) result (plan config.now) }
+    ensures { GivesAnswer (λ p. p) result (plan config.now) }
 {
     let name = selected_name(config);
     match config.profiles() {
@@ -76,7 +76,7 @@ fn plan_of_selected(
     set: &ProfileSet,
     name: &str,
 ) -> Result<ProfileChain, Halt<ProfileFileError>>
-    ensures { Gives (λ p. p) result (selected_plan set.now name.now (entry_of set.now.profiles name.now)) }
+    ensures { GivesAnswer (λ p. p) result (selected_plan set.now name.now (entry_of set.now.profiles name.now)) }
 {
     match set.get_profile(name) {
         Some(section) => plan_of_section(alloc, set, section),
@@ -93,7 +93,7 @@ fn plan_of_section(
     set: &ProfileSet,
     section: &Section,
 ) -> Result<ProfileChain, Halt<ProfileFileError>>
-    ensures { Gives (λ p. p) result (section_plan set.now section.now) }
+    ensures { GivesAnswer (λ p. p) result (section_plan set.now section.now) }
 {
     if has_other_source(section) {
         let error = not_built(alloc)?;
@@ -116,7 +116,7 @@ fn plan_of_role(
     section: &Section,
     arn: Text,
 ) -> Result<ProfileChain, Halt<ProfileFileError>>
-    ensures { Gives (λ p. p) result (role_over section.now arn (source_section_of set.now section.now)) }
+    ensures { GivesAnswer (λ p. p) result (role_over section.now arn (source_section_of set.now section.now)) }
 {
     let Some(source) = source_section(set, section) else {
         let error = not_built(alloc)?;

@@ -1,5 +1,5 @@
 ghost use Rattle.std.specs.Prelude.{◌≡◌, IfOk};
-ghost use Rattle.cfg_chain.specs.Gives.{Gives};
+ghost use Rattle.cfg_chain.specs.Gives.{GivesAnswer};
 ghost use Rattle.cfg_chain.specs.StaticKeys.{has_both_keys as has_both, invalid as invalid_of, without_access_key as lacks_access_key, static_keys as keys_of};
 
 use crate::profile::sections::Section;
@@ -11,7 +11,7 @@ use std::alloc::Global;
 /// `aws_account_id`, as they stand there.
 #[tactic(auto, unfolding(crate::specs::StaticKeys::static_keys))]
 pub fn static_keys(alloc: Global, section: &Section) -> Result<Credentials, Halt<ProfileFileError>>
-    ensures { Gives (λ c. c) result (keys_of section.now) }
+    ensures { GivesAnswer (λ c. c) result (keys_of section.now) }
 {
     let Some(id) = section.get("aws_access_key_id") else {
         let error = without_access_key(alloc, section)?;
