@@ -126,7 +126,7 @@ keys_kept env h =
     (is_not_unicode (variable env (codes "AWS_ACCESS_KEY_ID"))) (is_not_unicode (variable env (codes "SECRET_ACCESS_KEY"))) h.access_key h.secret
 
 -- some member is not passed over, and the profile has no fault where the chain comes to it
-record Gives (conf : Configuration) : Type 0 where
+record HasSource (conf : Configuration) : Type 0 where
   loaded : list_all (is_passed_over conf) default_members ≡ false
   right : fault conf ≡ None
 
@@ -135,18 +135,18 @@ passed_plan true (Ok p) h = (refl, refl)
 passed_plan false (Ok p) h = (refl, refl)
 passed_plan environment (Err e) h = cc
 
-gives : (conf : Configuration) → HoldsKeys conf.environment ⊎ IsOk (plan conf) → Gives conf
-gives conf (inl h) =
+has_source : (conf : Configuration) → HoldsKeys conf.environment ⊎ IsOk (plan conf) → HasSource conf
+has_source conf (inl h) =
     let kept = keys_kept conf.environment h in
     record {
       loaded = ap (λ b. b && (plan_is_passed_over (plan conf) && true)) kept;
       right = ap (λ b. if b then fault_of_plan (plan conf) else None) kept;
     }
-gives conf (inr h) = let p = passed_plan (environment_is_passed_over conf.environment) (plan conf) h in record { loaded = p.0; right = p.1 }
+has_source conf (inr h) = let p = passed_plan (environment_is_passed_over conf.environment) (plan conf) h in record { loaded = p.0; right = p.1 }
 
 pub valid_loaded : (conf : Configuration) (part : List Pair) (out : Result Keys CredentialsError) → HasCause conf part out → IsValid conf part → is_ok out ≡ true
 valid_loaded conf part out c v =
-    let g = gives conf v.given in
+    let g = has_source conf v.given in
     c.loaded
     ∙ ap (λ b. not b && (is_none (unreadable_variable conf.environment) && (is_none (fault conf) && is_none (first_failure part)))) g.loaded
     ∙ ap (λ o. is_none o && (is_none (fault conf) && is_none (first_failure part))) (texts_readable conf.environment v.texts)
