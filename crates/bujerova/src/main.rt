@@ -1,11 +1,16 @@
 //! The program `bujerova`: it hands `cfg_program::run` the words after its name, standard input and
-//! output, and the variables that are set, and ends with the number of the status.
+//! output, and the variables that are set, and ends with the number of the status. Where the status
+//! says that the input was refused, standard error has a line that says why.
 #![tactic(auto)]
 
+mod keeping;
+
 use cfg_program::run::run;
-use cfg_program::{Status, USAGE};
+use cfg_program::{LIMIT, Status, USAGE};
+use cfg_script::{find_fault, find_unbuilt};
 use cfg_types::{EnvText, OutOfMemory, Text};
 use cfg_world::{DeviceLists, ReaderSource, ScriptDevices, World, WriterSink};
+use keeping::KeepingSource;
 use std::alloc::Global;
 use std::env;
 use std::env::VarError;
@@ -13,9 +18,9 @@ use std::io::ErrorKind;
 use std::process::ExitCode;
 
 fn main(rt: HostRuntime) -> ExitCode {
+    let mut source = KeepingSource::new(rt.alloc(), ReaderSource::new(rt.stdin()));
     let status = match words_of(&rt) {
         Ok(words) => {
-            let mut source = ReaderSource::new(rt.stdin());
             let mut sink = WriterSink::new(rt.stdout());
             let mut world = World::new(rt.alloc(), idle_devices(rt.alloc()));
             match variables_of(&rt) {
@@ -35,7 +40,34 @@ fn main(rt: HostRuntime) -> ExitCode {
     if status == Status::Words {
         let _ = rt.eprintln(USAGE);
     }
+    if let Ok(Some(reason)) = reason_of(rt.alloc(), status, source.kept()) {
+        let _ = eprintln!(rt; "bujerova: {reason}");
+    }
     ExitCode::from(status.number())
+}
+
+// Why the input was refused, where the status says that it was, and what was read of it is known.
+fn reason_of(
+    alloc: Global,
+    status: Status,
+    kept: Option<&[u8]>,
+) -> Result<Option<String>, OutOfMemory> {
+    let Some(bytes) = kept else {
+        return Ok(None);
+    };
+    let reason = match status {
+        Status::NoScript => match find_fault(alloc, bytes)? {
+            Some(fault) => format!(in alloc; "{fault}")?,
+            None => return Ok(None),
+        },
+        Status::NotBuilt => match find_unbuilt(alloc, bytes)? {
+            Some(fault) => format!(in alloc; "{fault}")?,
+            None => String::from_str(alloc, "the plan of the profiles is not built yet")?,
+        },
+        Status::TooLong => format!(in alloc; "more than {LIMIT} bytes")?,
+        _ => return Ok(None),
+    };
+    Ok(Some(reason))
 }
 
 // The words after the program's name. Words that are no texts are no known command.

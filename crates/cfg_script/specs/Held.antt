@@ -1,6 +1,9 @@
 -- What the program holds of an object, as the values that the script has there.
-use Rattle.std.specs.Prelude.{option_map}
+use Rattle.std.specs.Prelude.{Option, Some, None, option_map, Result, Ok, Err}
+use Rattle.serde_json.specs.Data.{Data}
 use Rattle.serde_json.specs.View.{view}
+use Rattle.serde_json.specs.declared.value.Value.{Value}
+use Rattle.cfg_script.specs.declared.fault.Position.{Position}
 use Rattle.cfg_script.specs.declared.reading.ScriptMembers.{ScriptMembers}
 use Rattle.cfg_script.specs.declared.replies.CredentialMembers.{CredentialMembers}
 use Rattle.cfg_script.specs.Reading.{ScriptParts}
@@ -26,3 +29,8 @@ credential_parts members = record {
   expires = option_map view members.expires;
   arn = option_map view members.arn;
 }
+
+-- the value that was read, if one was
+abbrev pub parsed_value : Result Value Position → Option Data
+parsed_value (Ok v) = Some (view v)
+parsed_value (Err position) = None

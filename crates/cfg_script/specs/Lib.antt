@@ -1,10 +1,12 @@
 pub mod Script
 pub mod Forms
+pub mod Faults
 pub mod Names
 pub mod Moments
 pub mod Variables
 pub mod Replies
 pub mod Reading
+pub mod Telling
 pub mod Gives
 pub mod Held
 pub mod Devices

@@ -4,6 +4,8 @@ use Rattle.serde_json.specs.Data.{Data}
 use Rattle.serde_json.specs.Find.{as_number, as_i64, as_u64}
 use Rattle.cfg_types.specs.Moment.{Moment}
 use Rattle.cfg_script.specs.Forms.{◌>>=◌, pair_from}
+use Rattle.cfg_script.specs.Faults.{Found, unless_read}
+use Rattle.cfg_script.specs.declared.fault.Wanted.TheVariants as wanted
 
 -- a whole number of 64 bits with sign
 abbrev pub whole : Data → Option ℤ
@@ -29,6 +31,14 @@ moment_by None pair = pair >>= pair_moment
 unfoldable pub moment_from : Data → Option Moment
 moment_from d = moment_by (whole d) (pair_from d)
 
+-- its fault
+abbrev pub moment_fault : Data → Found
+moment_fault d = unless_read wanted.Moment (moment_from d)
+
 -- a moment from 0 on
 unfoldable pub clock_from : Data → Option Moment
 clock_from d = moment_from d >>= λ m. if int_lt m.seconds (pos 0) then None else Some m
+
+-- its fault
+abbrev pub clock_fault : Data → Found
+clock_fault d = unless_read wanted.ClockMoment (clock_from d)

@@ -12,7 +12,9 @@ use Rattle.cfg_types.specs.declared.reply.RefusalKind.{RefusalKind}
 use Rattle.cfg_types.specs.declared.reply.RefusalKind.TheVariants as kind
 use Rattle.cfg_script.specs.Forms.{◌>>=◌, list_from}
 use Rattle.cfg_script.specs.Names.{every_name, is_built_reply_name, is_refusal_name, is_credentials_name}
-use Rattle.cfg_script.specs.Moments.{moment_from}
+use Rattle.cfg_script.specs.Moments.{moment_from, moment_fault}
+use Rattle.cfg_script.specs.Faults.{Found, here, ◌<|>◌, unless_read, when_read, under_name, optional, required, text_fault, list_fault, other_name}
+use Rattle.cfg_script.specs.declared.fault.Wanted.TheVariants as wanted
 
 -- why a send failed
 abbrev pub fail_kind : List ℕ → Option FailKind
@@ -58,6 +60,17 @@ refusal_of ms = do
 unfoldable pub refusal_from : Members → Option Reply
 refusal_from ms = if every_name is_refusal_name ms then refusal_of ms else None
 
+-- the fault of a refusal's kind
+abbrev pub kind_fault : Data → Found
+kind_fault d = unless_read wanted.RefusalKind (as_str d >>= refusal_kind)
+
+-- the fault of a refusal: of a name, of the kind, of the message
+unfoldable pub refusal_fault : Members → Found
+refusal_fault ms =
+    other_name is_refusal_name ms
+    <|> (under_name (codes "refused") (required kind_fault (get_member (codes "refused") ms))
+    <|> under_name (codes "message") (required text_fault (get_member (codes "message") ms)))
+
 -- what stands under the names of credentials
 pub record CredentialParts : Type 0 where
   pub id : Option Data
@@ -93,6 +106,19 @@ credentials_of parts = do
 unfoldable pub credentials_from : Members → Option Reply
 credentials_from ms = if every_name is_credentials_name ms then credentials_of (credential_parts_in ms) else None
 
+-- the first part of credentials of another form
+unfoldable pub credential_parts_fault : CredentialParts → Found
+credential_parts_fault parts =
+    under_name (codes "id") (required text_fault parts.id)
+    <|> (under_name (codes "secret") (required text_fault parts.secret)
+    <|> (under_name (codes "token") (required text_fault parts.token)
+    <|> (under_name (codes "expires") (required moment_fault parts.expires)
+    <|> under_name (codes "arn") (optional text_fault parts.arn))))
+
+-- the fault of credentials: of a name, or of a part
+unfoldable pub credentials_fault : Members → Found
+credentials_fault ms = other_name is_credentials_name ms <|> credential_parts_fault (credential_parts_in ms)
+
 -- a member "refused" makes it a refusal
 abbrev pub object_reply : Members → Option Reply
 object_reply ms = if is_some (get_member (codes "refused") ms) then refusal_from ms else credentials_from ms
@@ -106,6 +132,19 @@ reply_from (string s) = option_map Err (fail_kind s)
 reply_from (array ds) = None
 reply_from (object ms) = option_map Ok (object_reply ms)
 
+-- the fault of an object, by whether it is a refusal
+abbrev pub object_fault : Members → Found
+object_fault ms = if is_some (get_member (codes "refused") ms) then refusal_fault ms else credentials_fault ms
+
+-- the fault of a reply
+abbrev pub reply_fault : Data → Found
+reply_fault null = None
+reply_fault (boolean b) = Some (here wanted.Reply)
+reply_fault (number n) = Some (here wanted.Reply)
+reply_fault (string s) = unless_read wanted.Reply (fail_kind s)
+reply_fault (array ds) = Some (here wanted.Reply)
+reply_fault (object ms) = object_fault ms
+
 -- the list of an object that has no other names
 abbrev pub replies_in : Members → Option (List (Result Reply FailKind))
 replies_in ms = if every_name is_built_reply_name ms then list_from reply_from (get_member (codes "assume-role") ms) else None
@@ -114,3 +153,13 @@ replies_in ms = if every_name is_built_reply_name ms then list_from reply_from (
 abbrev pub replies_from : Option Data → Option (List (Result Reply FailKind))
 replies_from None = list_from reply_from None
 replies_from (Some d) = as_object d >>= replies_in
+
+-- the fault of the object of replies: of a name, or of its list
+abbrev pub replies_in_fault : Members → Found
+replies_in_fault ms =
+    other_name is_built_reply_name ms
+    <|> under_name (codes "assume-role") (optional (list_fault reply_fault) (get_member (codes "assume-role") ms))
+
+-- the fault of the replies
+abbrev pub replies_fault : Data → Found
+replies_fault d = when_read wanted.Replies (as_object d) replies_in_fault

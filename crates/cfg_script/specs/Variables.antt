@@ -7,6 +7,8 @@ use Rattle.cfg_types.specs.declared.environment.EnvText.{EnvText}
 use Rattle.cfg_types.specs.declared.environment.EnvText.TheVariants.{Text, NotUnicode}
 use Rattle.cfg_script.specs.Forms.{◌>>=◌, each, pair_from}
 use Rattle.cfg_script.specs.Script.{Property, Section}
+use Rattle.cfg_script.specs.Faults.{Found, ◌<|>◌, unless_read, when_read, under_place, text_fault, list_fault}
+use Rattle.cfg_script.specs.declared.fault.Wanted.TheVariants as wanted
 
 -- a text, or null for a value that is not Unicode
 abbrev pub env_text_from : Data → Option EnvText
@@ -25,6 +27,11 @@ variable_from d = do
   text ← env_text_from pair.1
   Some (name, text)
 
+-- its fault: of the pair, of the name, of the text
+unfoldable pub variable_fault : Data → Found
+variable_fault d = when_read wanted.Variable (pair_from d) (λ pair.
+    under_place 0 (text_fault pair.0) <|> under_place 1 (unless_read wanted.TextOrNull (env_text_from pair.1)))
+
 -- a property: [key, value]
 unfoldable pub property_from : Data → Option Property
 property_from d = do
@@ -32,6 +39,11 @@ property_from d = do
   key ← as_str pair.0
   value ← as_str pair.1
   Some (key, value)
+
+-- its fault: of the pair, of the key, of the value
+unfoldable pub property_fault : Data → Found
+property_fault d = when_read wanted.Property (pair_from d) (λ pair.
+    under_place 0 (text_fault pair.0) <|> under_place 1 (text_fault pair.1))
 
 -- a section: [name, list of properties]
 unfoldable pub section_from : Data → Option Section
@@ -41,3 +53,8 @@ section_from d = do
   items ← as_array pair.1
   properties ← each property_from items
   Some (name, properties)
+
+-- its fault: of the pair, of the name, of the properties
+unfoldable pub section_fault : Data → Found
+section_fault d = when_read wanted.Section (pair_from d) (λ pair.
+    under_place 0 (text_fault pair.0) <|> under_place 1 (list_fault property_fault pair.1))

@@ -1,11 +1,13 @@
-ghost use Rattle.std.specs.Prelude.{◌≡◌};
+ghost use Rattle.std.specs.Prelude.{◌≡◌, option_map};
 ghost use Rattle.serde_json.specs.View.{view};
-ghost use Rattle.cfg_script.specs.Moments.{pair_moment, moment_from, clock_from};
+ghost use Rattle.cfg_script.specs.Moments.{pair_moment, moment_from, moment_fault, clock_from, clock_fault};
+ghost use Rattle.cfg_script.specs.Faults.{required};
 
+use crate::fault::{Fault, Wanted, here};
 use crate::part::Part;
 use crate::script::ScriptError;
 use crate::value::pair_of;
-use cfg_types::Instant;
+use cfg_types::{Instant, OutOfMemory};
 use serde_json::Value;
 use std::alloc::Global;
 
@@ -43,9 +45,31 @@ pub(crate) fn read_clock_moment(value: Value) -> Option<Instant>
     }
 }
 
+/// What is wrong with a member that has to be a moment.
+pub(crate) fn required_moment_fault(alloc: Global, member: Option<Value>) -> Option<Fault>
+    ensures { result ≡ required moment_fault (option_map view member) }
+{
+    let Some(value) = member else {
+        return Some(here(alloc, Wanted::Present));
+    };
+    match read_moment(value) {
+        Some(_) => None,
+        None => Some(here(alloc, Wanted::Moment)),
+    }
+}
+
+fn clock_moment_fault(alloc: Global, value: Value) -> Option<Fault>
+    ensures { result ≡ clock_fault (view value) }
+{
+    match read_clock_moment(value) {
+        Some(_) => None,
+        None => Some(here(alloc, Wanted::ClockMoment)),
+    }
+}
+
 impl Part for Instant {
     ghost use Rattle.cfg_types.specs.Moment.{Moment};
-    ghost use Rattle.cfg_script.specs.Moments.{clock_from};
+    ghost use Rattle.cfg_script.specs.Moments.{clock_from, clock_fault};
 
     ghost Plain = { Moment };
 
@@ -53,7 +77,13 @@ impl Part for Instant {
 
     ghost form = { clock_from };
 
+    ghost fault = { clock_fault };
+
     fn read(_: Global, value: Value) -> Result<Instant, ScriptError> {
         read_clock_moment(value).ok_or(ScriptError::NoScript)
+    }
+
+    fn find_fault(alloc: Global, value: Value) -> Result<Option<Fault>, OutOfMemory> {
+        Ok(clock_moment_fault(alloc, value))
     }
 }

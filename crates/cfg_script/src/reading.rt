@@ -32,16 +32,16 @@ fn value_of(alloc: Global, bytes: &[u8]) -> Result<Value, ScriptError>
 
 // What stands under the names that are built.
 #[derive(Drop)]
-struct ScriptMembers {
-    variables: Option<Value>,
-    profiles: Option<Value>,
-    selected: Option<Value>,
-    region: Option<Value>,
-    clock: Option<Value>,
-    replies: Option<Value>,
+pub(crate) struct ScriptMembers {
+    pub(crate) variables: Option<Value>,
+    pub(crate) profiles: Option<Value>,
+    pub(crate) selected: Option<Value>,
+    pub(crate) region: Option<Value>,
+    pub(crate) clock: Option<Value>,
+    pub(crate) replies: Option<Value>,
 }
 
-fn script_members(mut members: Map<String, Value>) -> ScriptMembers
+pub(crate) fn script_members(mut members: Map<String, Value>) -> ScriptMembers
     ensures { script_parts result ≡ script_parts_in (members_view members.entries) }
 {
     let variables = taken(&mut members, "variables");

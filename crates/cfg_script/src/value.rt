@@ -3,8 +3,11 @@ ghost use Rattle.std.specs.Prelude.{◌≡◌, ℕ, List, false, option_map, byt
 ghost use Rattle.serde_json.specs.Find.{as_array, as_object, as_str, get_member};
 ghost use Rattle.serde_json.specs.View.{view, items_view, members_view};
 ghost use Rattle.cfg_script.specs.Forms.{two, pair_from, text_from};
+ghost use Rattle.cfg_script.specs.Faults.{text_fault as text_fault_of, optional, required};
 
+use crate::fault::{Fault, Wanted, here};
 use serde_json::{Map, Value};
+use std::alloc::Global;
 
 /// The text itself, where the value is one.
 pub(crate) fn text_of(value: Value) -> Option<String>
@@ -79,4 +82,34 @@ pub(crate) fn text_under(member: Option<Value>) -> Option<Option<String>>
     };
     let text = text_of(value)?;
     Some(Some(text))
+}
+
+/// What is wrong with a value that is no text.
+pub(crate) fn text_fault(alloc: Global, value: Value) -> Option<Fault>
+    ensures { result ≡ text_fault_of (view value) }
+{
+    match text_of(value) {
+        Some(_) => None,
+        None => Some(here(alloc, Wanted::Text)),
+    }
+}
+
+/// The same of a member that may be missing.
+pub(crate) fn optional_text_fault(alloc: Global, member: Option<Value>) -> Option<Fault>
+    ensures { result ≡ optional text_fault_of (option_map view member) }
+{
+    match member {
+        Some(value) => text_fault(alloc, value),
+        None => None,
+    }
+}
+
+/// The same of a member that has to be there.
+pub(crate) fn required_text_fault(alloc: Global, member: Option<Value>) -> Option<Fault>
+    ensures { result ≡ required text_fault_of (option_map view member) }
+{
+    match member {
+        Some(value) => text_fault(alloc, value),
+        None => Some(here(alloc, Wanted::Present)),
+    }
 }

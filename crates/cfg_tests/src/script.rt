@@ -1,7 +1,7 @@
 // What no clause says: that the definition is the script that was meant, printed texts, and that
 // reading succeeds.
-use cfg_script::{Script, ScriptError, read_script};
-use cfg_types::{FailKind, Reply, StsCredentials, StsReply};
+use cfg_script::{Script, ScriptError, find_fault, find_unbuilt, read_script};
+use cfg_types::{FailKind, OutOfMemory, Reply, StsCredentials, StsReply};
 use std::alloc::{AllocError, Global};
 use std::test::Fail;
 
@@ -306,6 +306,144 @@ fn reads_every_reply(rt: HostRuntime) -> Result<(), Fail> {
     for (reply, want) in script.assume_role.iter().zip(table) {
         let words = reply_words(rt.alloc(), reply)?;
         assert_eq!(rt; words.as_str(), *want);
+    }
+    Ok(())
+}
+
+// The line of a script's fault, or of a name that is not built, or none.
+fn fault_line(alloc: Global, bytes: &[u8]) -> Result<String, OutOfMemory> {
+    if let Some(fault) = find_fault(alloc, bytes)? {
+        return Ok(format!(in alloc; "{fault}")?);
+    }
+    match find_unbuilt(alloc, bytes)? {
+        Some(fault) => Ok(format!(in alloc; "{fault}")?),
+        None => Ok(String::from_str(alloc, "none")?),
+    }
+}
+
+#[test]
+fn tells_faults(rt: HostRuntime) -> Result<(), Fail> {
+    let table: &[(&str, &str)] = &[
+        ("{}", "none"),
+        ("", "line 1, column 0: no JSON"),
+        ("{\n  \"clock\": [1,]\n}", "line 2, column 15: no JSON"),
+        ("[]", "a script is one JSON object"),
+        (
+            "{\"selected\":1,\"bogus\":1}",
+            "bogus: no member of this name belongs here",
+        ),
+        (
+            "{\"a\\nb\":1}",
+            "\"a\\nb\": no member of this name belongs here",
+        ),
+        (
+            "{\"region\":1,\"selected\":1}",
+            "selected: a text is wanted",
+        ),
+        ("{\"region\":null}", "region: a text is wanted"),
+        ("{\"variables\":{}}", "variables: a list is wanted"),
+        (
+            "{\"variables\":[[\"A\",\"a\"],[\"B\"]]}",
+            "variables[1]: a variable is [name, text] or [name, null]",
+        ),
+        (
+            "{\"variables\":[[1,2]]}",
+            "variables[0][0]: a text is wanted",
+        ),
+        (
+            "{\"variables\":[[\"A\",2]]}",
+            "variables[0][1]: a text or null is wanted",
+        ),
+        (
+            "{\"profiles\":[1]}",
+            "profiles[0]: a section is [name, list of properties]",
+        ),
+        ("{\"profiles\":[[1,2]]}", "profiles[0][0]: a text is wanted"),
+        (
+            "{\"profiles\":[[\"p\",2]]}",
+            "profiles[0][1]: a list is wanted",
+        ),
+        (
+            "{\"profiles\":[[\"p\",[]],[\"q\",[[\"k\",\"v\"],[]]]]}",
+            "profiles[1][1][1]: a property is [key, value]",
+        ),
+        (
+            "{\"profiles\":[[\"p\",[[1,2]]]]}",
+            "profiles[0][1][0][0]: a text is wanted",
+        ),
+        (
+            "{\"profiles\":[[\"p\",[[\"k\",null]]]]}",
+            "profiles[0][1][0][1]: a text is wanted",
+        ),
+        (
+            "{\"clock\":[1,-1]}",
+            "clock[1]: a moment of the clock is whole seconds or [seconds, nanos], from 0 on",
+        ),
+        (
+            "{\"replies\":[]}",
+            "replies: replies are an object of lists",
+        ),
+        (
+            "{\"replies\":{\"x\":1}}",
+            "replies.x: no member of this name belongs here",
+        ),
+        (
+            "{\"replies\":{\"assume-role\":1}}",
+            "replies.assume-role: a list is wanted",
+        ),
+        ("{\"calls\":1,\"bogus\":1}", "calls: not built yet"),
+        ("{\"replies\":{\"http\":1}}", "replies.http: not built yet"),
+    ];
+    for (text, want) in table {
+        let line = fault_line(rt.alloc(), text.as_bytes())?;
+        assert_eq!(rt; line.as_str(), *want, "{text}");
+    }
+    Ok(())
+}
+
+#[test]
+fn tells_faults_of_replies(rt: HostRuntime) -> Result<(), Fail> {
+    let table: &[(&str, &str)] = &[
+        (
+            "1",
+            ": a reply is credentials, a refusal, null, \"dispatch\", \"timeout\" or \"broken\"",
+        ),
+        (
+            "\"io\"",
+            ": a reply is credentials, a refusal, null, \"dispatch\", \"timeout\" or \"broken\"",
+        ),
+        (
+            "{\"id\":\"i\",\"message\":1}",
+            ".message: no member of this name belongs here",
+        ),
+        ("{}", ".id: this member has to be there"),
+        ("{\"id\":\"i\",\"secret\":1}", ".secret: a text is wanted"),
+        (
+            "{\"id\":\"i\",\"secret\":\"s\",\"token\":\"t\",\"expires\":1.5}",
+            ".expires: a moment is whole seconds or [seconds, nanos]",
+        ),
+        (
+            "{\"id\":\"i\",\"secret\":\"s\",\"token\":\"t\",\"expires\":1,\"arn\":null}",
+            ".arn: a text is wanted",
+        ),
+        (
+            "{\"refused\":\"Bogus\"}",
+            ".refused: a refusal is RegionDisabled, MalformedPolicyDocument, InsufficientPermissions, TokenExpired, UserCredentialsChanged or Other",
+        ),
+        (
+            "{\"refused\":\"Other\"}",
+            ".message: this member has to be there",
+        ),
+        (
+            "{\"refused\":\"Other\",\"id\":1}",
+            ".id: no member of this name belongs here",
+        ),
+    ];
+    for (item, want) in table {
+        let text = format!(in rt.alloc(); "{{\"replies\":{{\"assume-role\":[null,{item}]}}}}")?;
+        let want = format!(in rt.alloc(); "replies.assume-role[1]{want}")?;
+        let line = fault_line(rt.alloc(), text.as_bytes())?;
+        assert_eq!(rt; line.as_str(), want.as_str(), "{item}");
     }
     Ok(())
 }

@@ -1,0 +1,199 @@
+//! Where bytes are no script, and what is wanted there.
+ghost use Rattle.std.specs.Prelude.{◌≡◌, IfOk, option_map};
+ghost use Rattle.cfg_script.specs.Faults.{here as here_wanting, within as within_step, under_name as under_name_of, under_place as under_place_of, name_fault as name_fault_of};
+
+use cfg_types::{OutOfMemory, Seq, Text};
+use std::alloc::Global;
+use std::fmt;
+
+/// A step of the way from a script's object to a value in it.
+#[derive(Drop)]
+pub enum Step {
+    /// To the member of this name.
+    Member(Text),
+    /// To the item at this place, counted from 0.
+    Item(usize),
+}
+
+/// What is wanted at a place of a script.
+#[derive(Clone, Copy, Debug, PartialEq, Eq)]
+pub enum Wanted {
+    /// A script's object.
+    Object,
+    /// A name that belongs to its object.
+    KnownName,
+    /// A name that is built.
+    BuiltName,
+    /// A member that is there.
+    Present,
+    List,
+    Text,
+    TextOrNull,
+    Variable,
+    Section,
+    Property,
+    /// A moment of any sign.
+    Moment,
+    /// A moment from 0 on.
+    ClockMoment,
+    /// An object of lists of replies.
+    Replies,
+    Reply,
+    RefusalKind,
+}
+
+/// A value of another form than is wanted at its place.
+#[derive(Drop)]
+pub struct Fault {
+    /// The way to the value, from the script's object on. It is empty for the object itself.
+    pub path: Seq<Step>,
+    pub wanted: Wanted,
+}
+
+/// A place in a text, as serde_json counts: lines from 1, and columns in bytes.
+#[derive(Clone, Copy, Debug, PartialEq, Eq)]
+pub struct Position {
+    pub line: usize,
+    pub column: usize,
+}
+
+/// Why bytes are no script.
+#[derive(Drop)]
+pub enum ScriptFault {
+    /// They are no JSON from here on.
+    NoJson(Position),
+    /// This is the first value of another form.
+    Form(Fault),
+}
+
+pub(crate) fn here(alloc: Global, wanted: Wanted) -> Fault
+    ensures { result ≡ here_wanting wanted }
+{
+    Fault {
+        path: Seq::of(Vec::new(alloc)),
+        wanted,
+    }
+}
+
+fn within(step: Step, fault: Fault) -> Result<Fault, OutOfMemory>
+    ensures { IfOk result (λ f. f ≡ within_step step fault) }
+{
+    let Fault { path, wanted } = fault;
+    let mut steps = path.into_vec();
+    steps.insert(0, step)?;
+    Ok(Fault {
+        path: Seq::of(steps),
+        wanted,
+    })
+}
+
+/// What was found in the member of this name, seen from its object.
+pub(crate) fn under_name(
+    alloc: Global,
+    name: &str,
+    found: Option<Fault>,
+) -> Result<Option<Fault>, OutOfMemory>
+    ensures { IfOk result (λ o. o ≡ under_name_of name.now found) }
+{
+    let Some(fault) = found else {
+        return Ok(None);
+    };
+    let step = Step::Member(Text::of(alloc, name)?);
+    let fault = within(step, fault)?;
+    Ok(Some(fault))
+}
+
+/// What was found in the item at this place, seen from its list.
+pub(crate) fn under_place(place: usize, found: Option<Fault>) -> Result<Option<Fault>, OutOfMemory>
+    ensures { IfOk result (λ o. o ≡ under_place_of place found) }
+{
+    let Some(fault) = found else {
+        return Ok(None);
+    };
+    let fault = within(Step::Item(place), fault)?;
+    Ok(Some(fault))
+}
+
+/// A fault at the member of this name, where there is one.
+pub(crate) fn name_fault(
+    alloc: Global,
+    name: Option<&str>,
+    wanted: Wanted,
+) -> Result<Option<Fault>, OutOfMemory>
+    ensures { IfOk result (λ o. o ≡ name_fault_of wanted (option_map (λ n. n.now) name.entry)) }
+{
+    match name {
+        None => Ok(None),
+        Some(name) => under_name(alloc, name, Some(here(alloc, wanted))),
+    }
+}
+
+impl fmt::Display for Wanted {
+    fn fmt<W: fmt::Write>(&self, f: &mut fmt::Formatter<W>) -> fmt::Result {
+        f.write_str(match self {
+            Wanted::Object => "a script is one JSON object",
+            Wanted::KnownName => "no member of this name belongs here",
+            Wanted::BuiltName => "not built yet",
+            Wanted::Present => "this member has to be there",
+            Wanted::List => "a list is wanted",
+            Wanted::Text => "a text is wanted",
+            Wanted::TextOrNull => "a text or null is wanted",
+            Wanted::Variable => "a variable is [name, text] or [name, null]",
+            Wanted::Section => "a section is [name, list of properties]",
+            Wanted::Property => "a property is [key, value]",
+            Wanted::Moment => "a moment is whole seconds or [seconds, nanos]",
+            Wanted::ClockMoment => {
+                "a moment of the clock is whole seconds or [seconds, nanos], from 0 on"
+            }
+            Wanted::Replies => "replies are an object of lists",
+            Wanted::Reply => {
+                "a reply is credentials, a refusal, null, \"dispatch\", \"timeout\" or \"broken\""
+            }
+            Wanted::RefusalKind => {
+                "a refusal is RegionDisabled, MalformedPolicyDocument, InsufficientPermissions, TokenExpired, UserCredentialsChanged or Other"
+            }
+        })
+    }
+}
+
+// A name that could be taken for something else, or that breaks the line, is quoted.
+fn write_name<W: fmt::Write>(f: &mut fmt::Formatter<W>, name: &str) -> fmt::Result {
+    let is_plain = |byte: &u8| byte.is_ascii_alphanumeric() || *byte == b'-' || *byte == b'_';
+    if !name.is_empty() && name.as_bytes().iter().all(is_plain) {
+        f.write_str(name)
+    } else {
+        write!(f, "{name:?}")
+    }
+}
+
+impl fmt::Display for Fault {
+    fn fmt<W: fmt::Write>(&self, f: &mut fmt::Formatter<W>) -> fmt::Result {
+        let mut dot = "";
+        for step in self.path.as_slice() {
+            match step {
+                Step::Member(name) => {
+                    f.write_str(dot)?;
+                    write_name(f, name.as_str())?;
+                }
+                Step::Item(place) => write!(f, "[{place}]")?,
+            }
+            dot = ".";
+        }
+        if !self.path.as_slice().is_empty() {
+            f.write_str(": ")?;
+        }
+        let wanted = self.wanted;
+        write!(f, "{wanted}")
+    }
+}
+
+impl fmt::Display for ScriptFault {
+    fn fmt<W: fmt::Write>(&self, f: &mut fmt::Formatter<W>) -> fmt::Result {
+        match self {
+            ScriptFault::NoJson(Position { line, column }) => {
+                write!(f, "line {line}, column {column}: no JSON")
+            }
+            ScriptFault::Form(fault) => write!(f, "{fault}"),
+        }
+    }
+}
