@@ -3,4 +3,4 @@ pub mod Loop
 pub mod Members
 pub mod Pairs
 pub mod Fitting
-pub mod Telling
+pub mod OneOf

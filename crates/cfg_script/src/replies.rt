@@ -4,7 +4,8 @@ ghost use Rattle.serde_json.specs.View.{view, members_view};
 ghost use Rattle.cfg_script.specs.Gives.{GivesPart};
 ghost use Rattle.cfg_script.specs.Held.{credential_parts};
 ghost use Rattle.cfg_script.specs.Replies.{fail_kind, refusal_kind, required_text as required, optional_text as optional, required_moment as moment_at, refusal_of, refusal_from, credential_parts_in, credentials_of, credentials_from, object_reply, reply_from, replies_in, replies_from, kind_fault as kind_fault_of, refusal_fault as refusal_fault_of, credential_parts_fault as credential_parts_fault_of, credentials_fault as credentials_fault_of, object_fault as object_fault_of, reply_fault as reply_fault_of, replies_in_fault as replies_in_fault_of, replies_fault as replies_fault_of};
-ghost use Rattle.cfg_script.specs.Faults.{optional as optional_fault, required as required_fault};
+ghost use Rattle.cfg_script.specs.Faults.{unless_read, optional as optional_fault, required as required_fault};
+ghost use Rattle.cfg_script.specs.declared.fault.Wanted.TheVariants as wanted;
 
 use crate::fault::{Fault, Wanted, here, under_name};
 use crate::moments::{read_moment, required_moment_fault};
@@ -250,12 +251,21 @@ fn object_fault(alloc: Global, members: Map<String, Value>) -> Result<Option<Fau
     }
 }
 
+fn fail_kind_fault(alloc: Global, name: &str) -> Option<Fault>
+    ensures { result ≡ unless_read wanted.Reply (fail_kind name.now) }
+{
+    match fail_kind_named(name) {
+        Some(_) => None,
+        None => Some(here(alloc, Wanted::Reply)),
+    }
+}
+
 fn reply_fault(alloc: Global, value: Value) -> Result<Option<Fault>, OutOfMemory>
     ensures { IfOk result (λ o. o ≡ reply_fault_of (view value)) }
 {
     match value {
         Value::Null => Ok(None),
-        Value::String(name) if fail_kind_named(name.as_str()).is_some() => Ok(None),
+        Value::String(name) => Ok(fail_kind_fault(alloc, name.as_str())),
         Value::Object(members) => object_fault(alloc, members),
         _ => Ok(Some(here(alloc, Wanted::Reply))),
     }
