@@ -21,6 +21,7 @@ pub mod DatesTake
 pub mod DatesWritten
 pub mod WriterSteps
 pub mod LookupSteps
+pub mod LookupLaws
 pub mod DocumentLaws
 pub mod WrittenStrings
 pub mod WrittenObjectLaws

@@ -1,6 +1,6 @@
 -- The last member of a name.
 use Rattle.std.specs.Option.{option_or}
-use Rattle.std.specs.Prelude.{ℕ, List, [], ◌∷◌, Bool, ◌||◌, Option, Some, None, if◌then◌else◌}
+use Rattle.std.specs.Prelude.{◌≡◌, ℕ, List, [], ◌∷◌, ◌++◌, All, Bool, ◌||◌, Option, Some, None, if◌then◌else◌}
 use Rattle.std.specs.Str.{encode_utf8_all, str_eq_ignore_ascii_case}
 use Rattle.cfg_json.specs.declared.member.Member.{Member}
 use Rattle.cfg_json.specs.declared.member.MemberValue.{MemberValue}
@@ -44,3 +44,16 @@ last_text name other ms = last_given (text_under name other) ms
 -- the last number under a name
 abbrev pub last_number : List ℕ → List Member → Option (List ℕ)
 last_number name ms = last_given (number_under name) ms
+
+-- the member gives nothing: it has another name, or a value of another kind
+abbrev pub GivesNothing : {A : Type 0} → (Member → Option A) → Member → Type 0
+GivesNothing give m = give m ≡ None
+
+-- This is what the last of the members gives that give something.
+pub record IsLastGiven {A : Type 0} (give : Member → Option A) (members : List Member) (given : A) : Type 0 where
+  pub before : List Member
+  pub last : Member
+  pub behind : List Member
+  pub stands : members ≡ before ++ last ∷ behind
+  pub gives : give last ≡ Some given
+  pub others : All (GivesNothing give) behind

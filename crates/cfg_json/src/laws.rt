@@ -1,5 +1,5 @@
 //! Laws of the grammar, each on a call that shows it.
-ghost use Rattle.std.specs.Prelude.{◌≡◌, ◌↔◌, ℕ, ◌-◌, List, Some, ◌∷◌, ◌++◌, map, length, true};
+ghost use Rattle.std.specs.Prelude.{◌≡◌, ◌↔◌, ℕ, ◌-◌, List, Some, ◌∷◌, ◌++◌, map, length, true, None, All};
 ghost use Rattle.std.specs.Str.{encode_utf8_all, all_scalars};
 ghost use Rattle.cfg_json.specs.declared.member.Member.{Member};
 ghost use Rattle.cfg_types.specs.Moment.{Moment};
@@ -10,6 +10,7 @@ ghost use Rattle.cfg_json.specs.Writing.{quoted, braced};
 ghost use Rattle.cfg_json.specs.WrittenObjects.{WrittenObject, members_text, HasScalars, Nests, told, told_member};
 ghost use Rattle.cfg_json.specs.Objects.{IsObject, HasObject};
 ghost use Rattle.cfg_json.specs.Places.{between};
+ghost use Rattle.cfg_json.specs.Lookups.{text_under, number_under, last_text, last_number, GivesNothing, IsLastGiven};
 ghost use Rattle.cfg_json.specs.declared.member.MemberValue.TheVariants.{Object};
 
 /// Some bytes have one list of members, and one end of the object.
@@ -60,4 +61,13 @@ pub fn written_objects_are_read_back()
     ensures { (w : WrittenObject) → HasScalars w → Nests w 127
         → (list : List Member) × (end : ℕ) × HasObject (encode_utf8_all (braced (members_text w))) list end
         × (end ≡ length (encode_utf8_all (braced (members_text w)))) × (map told_member list ≡ told w) }
+{}
+
+/// The text under a name, or under another one, is that of the last member of these names whose
+/// value is a text, and there is none exactly where no such member has one. The number alike.
+pub fn the_last_of_a_name_counts()
+    ensures text { (name other : List ℕ) (members : List Member) (text : List ℕ) → (last_text name other members ≡ Some text) ↔ IsLastGiven (text_under name other) members text }
+    ensures no_text { (name other : List ℕ) (members : List Member) → (last_text name other members ≡ None) ↔ All (GivesNothing (text_under name other)) members }
+    ensures number { (name : List ℕ) (members : List Member) (number : List ℕ) → (last_number name members ≡ Some number) ↔ IsLastGiven (number_under name) members number }
+    ensures no_number { (name : List ℕ) (members : List Member) → (last_number name members ≡ None) ↔ All (GivesNothing (number_under name)) members }
 {}
