@@ -1,5 +1,5 @@
 -- A source that keeps what was read of it.
-use Rattle.std.specs.Prelude.{◌≡◌, ℕ, List, ◌++◌, Option, Some, None, if◌then◌else◌, ⊤, ⊥}
+use Rattle.std.specs.Prelude.{◌≡◌, ℕ, List, ◌++◌, Option, Some, None, if◌then◌else◌, ⊤}
 use Rattle.bujerova.specs.declared.keeping.KeepingSource.{KeepingSource}
 
 -- the source below it
