@@ -9,7 +9,7 @@ use cfg_program::run::run;
 use cfg_program::{LIMIT, Status, USAGE};
 use cfg_script::{find_fault, find_unbuilt};
 use cfg_types::{EnvText, OutOfMemory, Text};
-use cfg_world::{DeviceLists, ReaderSource, ScriptDevices, World, WriterSink};
+use cfg_world::{LocalDevices, ReaderSource, World, WriterSink};
 use keeping::KeepingSource;
 use std::alloc::Global;
 use std::env;
@@ -22,7 +22,7 @@ fn main(rt: HostRuntime) -> ExitCode {
     let status = match words_of(&rt) {
         Ok(words) => {
             let mut sink = WriterSink::new(rt.stdout());
-            let mut world = World::new(rt.alloc(), idle_devices(rt.alloc()));
+            let mut world = World::new(rt.alloc(), LocalDevices::new(rt.alloc(), &rt));
             match variables_of(&rt) {
                 Ok(vars) => run(
                     rt.alloc(),
@@ -117,9 +117,4 @@ fn variables_of(
         vars.push((String::from_str(rt.alloc(), name)?, value))?;
     }
     Ok(vars)
-}
-
-// Devices that no word asks.
-fn idle_devices(alloc: Global) -> ScriptDevices {
-    ScriptDevices::new(alloc, DeviceLists::empty(alloc))
 }

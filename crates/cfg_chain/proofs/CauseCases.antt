@@ -1,6 +1,6 @@
 -- Which answer comes where, by what the variables are set to.
 use Rattle.std.proofs.Common.{◌≡◌, ℕ, List, [], ◌∷◌, ◌++◌, append-nil, Bool, true, false, cond, Option, Some, None, Result, Ok, Err, inl, inr, refl, sym, ap, ◌∙◌, subst}
-use Rattle.std.specs.Prelude.{not, ◌&&◌, ◌||◌, IfSome, is_some, is_none, is_ok, codes, option_map, if◌then◌else◌}
+use Rattle.std.specs.Prelude.{not, ◌&&◌, ◌||◌, IfSome, is_some, is_none, is_ok, codes, option_and_then, if◌then◌else◌}
 use Rattle.cfg_types.specs.Keys.{Keys}
 use Rattle.cfg_types.specs.declared.errors.CredentialsError.{CredentialsError}
 use Rattle.cfg_types.specs.declared.errors.CredentialsError as errors
@@ -17,15 +17,15 @@ use Rattle.cfg_types.specs.Classes.{class_level, same_class, configuration_cause
 use Rattle.cfg_world.specs.Inquiry.{Done, Reads, if_ok}
 use Rattle.cfg_world.proofs.Inquiries.{split_after}
 use Rattle.cfg_chain.specs.declared.profile.plan.ProfileChain.{ProfileChain}
-use Rattle.cfg_chain.specs.Plans.{plan}
+use Rattle.cfg_chain.specs.profile.Plans.{plan}
 use Rattle.cfg_chain.specs.AssumeRole.{in_role, assumes_roles}
-use Rattle.cfg_chain.specs.Profiles.{refusal, by_profile, follows_plan, profile}
+use Rattle.cfg_chain.specs.profile.Profiles.{refusal, by_profile, follows_plan, profile}
 use Rattle.cfg_chain.specs.declared.kept.Found.{Found}
 use Rattle.cfg_chain.specs.declared.member.Member.{Member}
 use Rattle.cfg_chain.specs.declared.member.Member.TheVariants.{Environment, Profile}
 use Rattle.cfg_chain.specs.declared.member.Turn.TheVariants.{PassedOver, Answers}
 use Rattle.cfg_chain.specs.Configuration.{Configuration}
-use Rattle.cfg_types.specs.Gives.{◌>>=◌}
+use Rattle.cfg_values.specs.Gives.{◌>>=◌}
 use Rattle.cfg_chain.specs.EnvironmentKeys.{required_by, secret_or, optional, usable, is_not_unicode, environment}
 use Rattle.cfg_chain.specs.Members.{member_inquiry, is_not_loaded, turn}
 use Rattle.cfg_chain.specs.Chains.{Attempts, none_loaded}
@@ -107,9 +107,15 @@ unfolding errors.out-CredentialsError carrier.out
 refused (plan_error.InvalidProfile reason) h = record { not_loaded = refl; named = refl; fault = refl; is_role = refl; role = tt; loaded = refl }
 refused plan_error.NoProfilesDefined h = record { not_loaded = refl; named = refl; fault = refl; is_role = refl; role = tt; loaded = refl }
 refused (plan_error.ProfileDidNotContainCredentials name) h = record { not_loaded = refl; named = refl; fault = refl; is_role = refl; role = tt; loaded = refl }
+refused (plan_error.CredentialLoop profiles next) h = record { not_loaded = refl; named = refl; fault = refl; is_role = refl; role = tt; loaded = refl }
+refused (plan_error.MissingCredentialSource name message) h = record { not_loaded = refl; named = refl; fault = refl; is_role = refl; role = tt; loaded = refl }
 refused (plan_error.InvalidCredentialSource name message) h = record { not_loaded = refl; named = refl; fault = refl; is_role = refl; role = tt; loaded = refl }
 refused (plan_error.MissingProfile name message) h = record { not_loaded = refl; named = refl; fault = refl; is_role = refl; role = tt; loaded = refl }
+refused (plan_error.UnknownProvider name) h = record { not_loaded = refl; named = refl; fault = refl; is_role = refl; role = tt; loaded = refl }
 refused (plan_error.FeatureNotEnabled feature message) h = record { not_loaded = refl; named = refl; fault = refl; is_role = refl; role = tt; loaded = refl }
+refused (plan_error.MissingSsoSession name session) h = record { not_loaded = refl; named = refl; fault = refl; is_role = refl; role = tt; loaded = refl }
+refused (plan_error.InvalidSsoConfig name message) h = record { not_loaded = refl; named = refl; fault = refl; is_role = refl; role = tt; loaded = refl }
+refused plan_error.TokenProviderConfig h = record { not_loaded = refl; named = refl; fault = refl; is_role = refl; role = tt; loaded = refl }
 refused plan_error.OutOfMemory h = cc
 
 none_if : {T : Type 0} (P : T → Type 0) (o : Option T) → true ≡ is_none o → IfSome o P
@@ -166,9 +172,15 @@ unfolding errors.out-CredentialsError carrier.out
 refusal_line (plan_error.InvalidProfile reason) = refl
 refusal_line plan_error.NoProfilesDefined = refl
 refusal_line (plan_error.ProfileDidNotContainCredentials name) = refl
+refusal_line (plan_error.CredentialLoop profiles next) = refl
+refusal_line (plan_error.MissingCredentialSource name message) = refl
 refusal_line (plan_error.InvalidCredentialSource name message) = refl
 refusal_line (plan_error.MissingProfile name message) = refl
+refusal_line (plan_error.UnknownProvider name) = refl
 refusal_line (plan_error.FeatureNotEnabled feature message) = refl
+refusal_line (plan_error.MissingSsoSession name session) = refl
+refusal_line (plan_error.InvalidSsoConfig name message) = refl
+refusal_line plan_error.TokenProviderConfig = refl
 refusal_line plan_error.OutOfMemory = refl
 
 plan_line : (conf : Configuration) (p : Result ProfileChain ProfileFileError) (part : List Pair) (out : Result Keys CredentialsError) → Reads (follows_plan conf p) part out → Line part out (plan_is_passed_over p)
@@ -204,8 +216,9 @@ record Silent (e : CredentialsError) : Type 0 where
   role : tells_role (Err e) ≡ false
 
 silent_level : (l : errors.TheOpen.CredentialsError-F CredentialsError NotLoadedCause ProviderCause) → same_class class.CredentialsNotLoaded (class_level l) ≡ true →
-    (same_class class.OutOfMemory (class_level l) ≡ false) × (option_map fault_of_cause (configuration_cause_level l) ≡ None) × (is_of_role (provider_cause_level l) ≡ false)
+    (same_class class.OutOfMemory (class_level l) ≡ false) × (option_and_then fault_of_cause (configuration_cause_level l) ≡ None) × (is_of_role (provider_cause_level l) ≡ false)
 silent_level (errors.TheOpen.CredentialsError-F.CredentialsNotLoaded cause) h = (refl, refl, refl)
+silent_level errors.TheOpen.CredentialsError-F.ProviderTimedOut h = cc
 silent_level (errors.TheOpen.CredentialsError-F.InvalidConfiguration cause) h = cc
 silent_level (errors.TheOpen.CredentialsError-F.ProviderError cause) h = cc
 silent_level (errors.TheOpen.CredentialsError-F.Unhandled cause) h = cc

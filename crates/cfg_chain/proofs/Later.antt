@@ -8,11 +8,11 @@ use Rattle.std.specs.FinMap.{get, empty, insert, get-insert}
 use Rattle.std.specs.Str.{bytes_eq, str_eq_ignore_ascii_case}
 use Rattle.std.proofs.lemmas.Map.Text.{is_eq-slice_cmp}
 use Rattle.std.proofs.lemmas.List.Elements.{All-nil, All-cons, All-head, All-tail}
-use Rattle.cfg_types.specs.TextMap.{Named}
-use Rattle.cfg_chain.specs.SectionParts.{SectionParts}
-use Rattle.cfg_chain.specs.Sections.{last_match, property, named_section}
-use Rattle.cfg_chain.specs.SectionSets.{sections_by_name}
-use Rattle.cfg_chain.specs.LastUnder.{IsOther, IsLastUnder}
+use Rattle.cfg_values.specs.TextMap.{Named}
+use Rattle.cfg_chain.specs.profile.SectionParts.{SectionParts}
+use Rattle.cfg_chain.specs.profile.Sections.{last_match, property, named_section}
+use Rattle.cfg_chain.specs.profile.SectionSets.{sections_by_name}
+use Rattle.cfg_chain.specs.profile.LastUnder.{IsOther, IsLastUnder}
 
 abbrev Pairs : Type 0
 Pairs = List (List ℕ × List ℕ)

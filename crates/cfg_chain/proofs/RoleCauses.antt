@@ -7,10 +7,11 @@ use Rattle.cfg_types.specs.declared.errors.CredentialsError.{CredentialsError}
 use Rattle.cfg_types.specs.declared.errors.CredentialsError as errors
 use Rattle.cfg_types.specs.declared.errors.ProviderCause as causes
 use denote.Hole.Carrier as carrier
-use Rattle.cfg_types.specs.declared.request.Request.{Request}
+use Rattle.cfg_types.specs.declared.request.sts.AssumeRole.{AssumeRole}
+use Rattle.cfg_types.specs.Replies.{sts_in}
 use Rattle.cfg_world.specs.Fits.{Pair}
 use Rattle.cfg_world.specs.Inquiry.{Done, Reads, after, if_ok}
-use Rattle.cfg_world.specs.Leaves.{clock, sending, reply_of}
+use Rattle.cfg_world.specs.Leaves.{clock, assuming, granted_of}
 use Rattle.cfg_world.proofs.Inquiries.{split_after}
 use Rattle.cfg_chain.specs.declared.profile.plan.RoleArn.{RoleArn}
 use Rattle.cfg_chain.specs.Configuration.{Configuration}
@@ -35,13 +36,13 @@ first_failure-append : (p q : List Pair) → first_failure (p ++ q) ≡ option_o
 first_failure-append [] q = refl
 first_failure-append (e ∷ p) q = ap (option_or (exchange_failure e.0 e.1)) (first_failure-append p q) ∙ option_or-assoc (exchange_failure e.0 e.1) (first_failure p) (first_failure q)
 
-sent : (r : Request) (part : List Pair) (out : Result Keys CredentialsError) → Reads (after (sending r) (λ answer. Done (in_role (granted answer)))) part out → Assumed part out
-unfolding sending
+sent : (r : AssumeRole) (part : List Pair) (out : Result Keys CredentialsError) → Reads (after (assuming r) (λ answer. Done (in_role (granted answer)))) part out → Assumed part out
+unfolding assuming
 sent r [] out h = absurd h
 sent r (e ∷ []) out h = record {
-  given = granted (reply_of e.1);
+  given = granted (granted_of sts_in e.1);
   is = sym h.1;
-  failure = ap (λ q. option_or (exchange_failure q e.1) None) h.0 ∙ or_none (error_of (granted (reply_of e.1)));
+  failure = ap (λ q. option_or (exchange_failure q e.1) None) h.0 ∙ or_none (error_of (granted (granted_of sts_in e.1)));
 }
 sent r (e ∷ f ∷ part) out h = absurd h.1
 

@@ -4,18 +4,18 @@ use Rattle.std.proofs.Math.Seq.{drop-cons}
 use Rattle.std.proofs.Math.ListN.{drop_of_length-le}
 use Rattle.cfg_types.specs.Keys.{Keys}
 use Rattle.cfg_types.specs.declared.errors.CredentialsError.{CredentialsError}
-use Rattle.cfg_types.specs.Moment.{Moment}
-use Rattle.cfg_types.specs.declared.request.Request.{Request}
-use Rattle.cfg_types.specs.declared.reply.Reply.{Reply}
-use Rattle.cfg_types.specs.declared.reply.FailKind.{FailKind}
-use Rattle.cfg_world.specs.Leaves.{clock, sending}
+use Rattle.cfg_values.specs.Moment.{Moment}
+use Rattle.cfg_types.specs.declared.request.sts.AssumeRole.{AssumeRole}
+use Rattle.cfg_types.specs.declared.reply.sts.StsReply.{StsReply}
+use Rattle.cfg_world.specs.declared.leaves.NotGranted.{NotGranted}
+use Rattle.cfg_world.specs.Leaves.{clock, assuming}
 use Rattle.cfg_world.specs.declared.asking.Asking.{Ghosts}
 use Rattle.cfg_world.specs.Inquiry.{Inquiry, Done, after, if_ok, ◌>>=◌}
 use Rattle.cfg_world.specs.Follows.{Ends, Waits, Breaks}
 use Rattle.cfg_world.proofs.Inquiries.{Leads, leads_start, leads_after, ends_after, ends_done, waits_first, breaks_first, breaks_here}
 use Rattle.cfg_chain.specs.declared.profile.plan.RoleArn.{RoleArn}
 use Rattle.cfg_chain.specs.Configuration.{Configuration}
-use Rattle.cfg_chain.specs.Profiles.{by_profile}
+use Rattle.cfg_chain.specs.profile.Profiles.{by_profile}
 use Rattle.cfg_chain.specs.AssumeRole.{default_session_name, session_name, request, granted, in_role, exchange, assumes, assumes_roles}
 
 assumes_roles-drop : (conf : Configuration) (roles : List RoleArn) (i : ℕ) (d : RoleArn) (signer : Keys) → i < length roles →
@@ -64,13 +64,13 @@ module _ {W : Type 0} {w : Ghosts W} where
       (subst (λ n. Ends w (after clock (λ m. Done (default_session_name m))) old new n) (sym is) (ends_after (λ m. Done (default_session_name m)) e ends_done))
 
   -- one exchange
-  pub role_assumed : {old mid new : W} (conf : Configuration) (role : RoleArn) (signer : Keys) (name : List ℕ) (sent : Request) (answer : Result Reply FailKind) (given out : Result Keys CredentialsError) →
-      Ends w (session_name role.session_name) old mid name → sent ≡ request conf role signer name → Ends w (sending sent) mid new answer →
+  pub role_assumed : {old mid new : W} (conf : Configuration) (role : RoleArn) (signer : Keys) (name : List ℕ) (sent : AssumeRole) (answer : Result StsReply NotGranted) (given out : Result Keys CredentialsError) →
+      Ends w (session_name role.session_name) old mid name → sent ≡ request conf role signer name → Ends w (assuming sent) mid new answer →
       given ≡ granted answer → out ≡ in_role given → Ends w (assumes conf signer role) old new out
   unfolding assumes
   role_assumed {old} {mid} {new} conf role signer name sent answer given out e is s gives told =
       let exchanged : Ends w (exchange conf role signer name) mid new (in_role (granted answer)) =
-      ends_after (λ a. Done (in_role (granted a))) (subst (λ r. Ends w (sending r) mid new answer) is s) ends_done in
+      ends_after (λ a. Done (in_role (granted a))) (subst (λ r. Ends w (assuming r) mid new answer) is s) ends_done in
       ends_after (exchange conf role signer) e (subst (λ o. Ends w (exchange conf role signer name) mid new o) (sym (told ∙ ap in_role gives)) exchanged)
 
   -- credentials that are marked behind the last role

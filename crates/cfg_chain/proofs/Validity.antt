@@ -11,26 +11,27 @@ use Rattle.cfg_types.specs.declared.errors.ProfileFileError.{ProfileFileError}
 use Rattle.cfg_types.specs.declared.environment.VarError.{VarError}
 use Rattle.cfg_types.specs.declared.environment.VarError.TheVariants.{NotPresent, NotUnicode}
 use Rattle.cfg_types.specs.declared.errors.UnhandledCause.{UnhandledCause}
-use Rattle.cfg_types.specs.declared.reply.StsReply.{StsReply}
-use Rattle.cfg_types.specs.declared.reply.StsCredentials.{StsCredentials}
-use Rattle.cfg_types.specs.declared.reply.Reply.TheVariants as reply
-use Rattle.cfg_types.specs.Text.{characters}
+use Rattle.cfg_types.specs.declared.reply.sts.StsReply.{StsReply}
+use Rattle.cfg_types.specs.declared.reply.sts.StsCredentials.{StsCredentials}
+use Rattle.cfg_types.specs.Replies.{sts_in}
+use Rattle.cfg_values.specs.Text.{characters}
 use Rattle.cfg_types.specs.Environment.{Variables, variable}
 use Rattle.cfg_world.specs.declared.ask.Question.{Question}
 use Rattle.cfg_world.specs.declared.ask.Question.TheVariants as question
 use Rattle.cfg_world.specs.declared.ask.Answer.{Answer}
-use Rattle.cfg_world.specs.declared.ask.Answer.TheVariants as answer
+use Rattle.cfg_world.specs.declared.leaves.NotGranted.{NotGranted}
+use Rattle.cfg_world.specs.Leaves.{granted_of}
 use Rattle.cfg_world.specs.Fits.{Pair}
 use Rattle.cfg_chain.specs.declared.profile.plan.ProfileChain.{ProfileChain}
 use Rattle.cfg_chain.specs.Sts.{behind_colon, before_colon, fifth_part, account_of, account_or, keys_in, into_credentials}
-use Rattle.cfg_chain.specs.AssumeRole.{or_unhandled}
+use Rattle.cfg_chain.specs.AssumeRole.{or_unhandled, granted}
 use Rattle.cfg_chain.specs.EnvironmentKeys.{usable, is_not_unicode}
 use Rattle.cfg_chain.specs.Configuration.{Configuration}
-use Rattle.cfg_chain.specs.Plans.{plan}
+use Rattle.cfg_chain.specs.profile.Plans.{plan}
 use Rattle.cfg_chain.specs.Resolves.{default_members}
 use Rattle.cfg_chain.specs.PassedOver.{is_passed_over, environment_is_passed_over, plan_is_passed_over}
 use Rattle.cfg_chain.specs.Causes.{HasCause, error_of, exchange_failure, first_failure, unreadable_variable, fault_of_plan, fault}
-use Rattle.cfg_chain.specs.Valid.{colons, HasFiveParts, HoldsCredentials, IsGranted, HasTexts, HoldsKeys, IsValid}
+use Rattle.cfg_chain.specs.Valid.{colons, HasFiveParts, HoldsCredentials, IsUsable, IsGranted, HasTexts, HoldsKeys, IsValid}
 use Rattle.cfg_chain.proofs.CauseCases.{passed_by, stopped_by}
 
 -- a text with a colon has a rest behind its first, with one colon less
@@ -78,12 +79,18 @@ unhandled_fine : (r : Result Keys UnhandledCause) → is_ok r ≡ true → error
 unhandled_fine (Ok keys) h = refl
 unhandled_fine (Err cause) h = cc
 
+usable_fine : (r : Result StsReply NotGranted) → IsUsable r → error_of (granted r) ≡ None
+usable_fine (Ok given) h = unhandled_fine (into_credentials given (codes "AssumeRoleProvider")) (reply_given given (codes "AssumeRoleProvider") h)
+usable_fine (Err reason) h = absurd h
+
 entry_fine : (asked : Question) (answer : Answer) → IsGranted asked answer → exchange_failure asked answer ≡ None
-entry_fine question.Now a h = refl
-entry_fine (question.Send request) (answer.Replied (reply.Sts given)) h = unhandled_fine (into_credentials given (codes "AssumeRoleProvider")) (reply_given given (codes "AssumeRoleProvider") h)
-entry_fine (question.Send request) (answer.Replied (reply.Refused refusal)) h = absurd h
-entry_fine (question.Send request) (answer.Failed kind) h = absurd h
-entry_fine (question.Send request) (answer.Moment moment) h = absurd h
+entry_fine question.Now given h = refl
+entry_fine question.Jitter given h = refl
+entry_fine (question.Read path) given h = refl
+entry_fine (question.Write path bytes) given h = refl
+entry_fine (question.Run command) given h = refl
+entry_fine (question.LookUp host) given h = refl
+entry_fine (question.Send request) given h = usable_fine (granted_of sts_in given) h
 
 abbrev granted_entry : Pair → Type 0
 granted_entry e = IsGranted e.0 e.1

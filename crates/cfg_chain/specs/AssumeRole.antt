@@ -1,21 +1,20 @@
 -- Roles that are assumed one after another, each with the credentials of the step before.
 use Rattle.std.specs.Prelude.{ℕ, List, [], ◌∷◌, ◌++◌, ◌*ℤ◌, ◌+ℤ◌, ◌/◌, pos, Option, Some, None, Result, Ok, Err, codes}
 use Rattle.std.specs.Fmt.{signed_decimal}
-use Rattle.cfg_types.specs.Text.{characters}
-use Rattle.cfg_types.specs.Moment.{Moment}
+use Rattle.cfg_values.specs.Text.{characters}
+use Rattle.cfg_values.specs.Moment.{Moment}
 use Rattle.cfg_types.specs.Keys.{Keys}
 use Rattle.cfg_types.specs.declared.errors.CredentialsError.{CredentialsError}
 use Rattle.cfg_types.specs.declared.errors.CredentialsError.TheVariants.{ProviderError, Unhandled}
 use Rattle.cfg_types.specs.declared.errors.ProviderCause.TheVariants as cause
 use Rattle.cfg_types.specs.declared.errors.UnhandledCause.{UnhandledCause}
-use Rattle.cfg_types.specs.declared.reply.FailKind.{FailKind}
-use Rattle.cfg_types.specs.declared.reply.Reply.{Reply}
-use Rattle.cfg_types.specs.declared.reply.Reply.TheVariants.{Sts, Refused}
-use Rattle.cfg_types.specs.declared.request.Request.{Request}
-use Rattle.cfg_types.specs.declared.request.Request.TheVariants.{AssumeRole}
+use Rattle.cfg_types.specs.declared.reply.sts.StsReply.{StsReply}
+use Rattle.cfg_types.specs.declared.request.sts.AssumeRole.{AssumeRole}
 use Rattle.cfg_types.specs.declared.settings.CallSettings.{CallSettings}
 use Rattle.cfg_world.specs.Inquiry.{Inquiry, Done, after, ◌>>=◌}
-use Rattle.cfg_world.specs.Leaves.{clock, sending}
+use Rattle.cfg_world.specs.declared.leaves.NotGranted.{NotGranted}
+use Rattle.cfg_world.specs.declared.leaves.NotGranted.TheVariants.{Failed, Refused}
+use Rattle.cfg_world.specs.Leaves.{clock, assuming}
 use Rattle.cfg_chain.specs.declared.profile.plan.RoleArn.{RoleArn}
 use Rattle.cfg_chain.specs.Configuration.{Configuration}
 use Rattle.cfg_chain.specs.Sts.{into_credentials}
@@ -41,8 +40,8 @@ settings_of conf = record {
 }
 
 -- the request for a role's session of this name
-abbrev pub request : Configuration → RoleArn → Keys → List ℕ → Request
-request conf role signer name = AssumeRole (record {
+abbrev pub request : Configuration → RoleArn → Keys → List ℕ → AssumeRole
+request conf role signer name = record {
   signer = signer;
   role_arn = role.role_arn;
   session_name = name;
@@ -52,7 +51,7 @@ request conf role signer name = AssumeRole (record {
   duration_seconds = None;
   tags = None;
   settings = settings_of conf;
-})
+}
 
 -- what no rule allows for
 abbrev pub or_unhandled : Result Keys UnhandledCause → Result Keys CredentialsError
@@ -60,10 +59,10 @@ or_unhandled (Ok keys) = Ok keys
 or_unhandled (Err cause) = Err (Unhandled cause)
 
 -- what a reply gives, or why it gives nothing
-abbrev pub granted : Result Reply FailKind → Result Keys CredentialsError
-granted (Err kind) = Err (ProviderError (cause.Sent kind))
-granted (Ok (Refused refusal)) = Err (ProviderError (cause.Refused refusal))
-granted (Ok (Sts reply)) = or_unhandled (into_credentials reply (codes "AssumeRoleProvider"))
+abbrev pub granted : Result StsReply NotGranted → Result Keys CredentialsError
+granted (Err (Failed kind)) = Err (ProviderError (cause.Sent kind))
+granted (Err (Refused refusal)) = Err (ProviderError (cause.Refused refusal))
+granted (Ok reply) = or_unhandled (into_credentials reply (codes "AssumeRoleProvider"))
 
 -- an error of a role's exchange is told as such
 abbrev pub in_role : Result Keys CredentialsError → Result Keys CredentialsError
@@ -72,7 +71,7 @@ in_role (Err e) = Err (ProviderError (cause.Role e))
 
 -- one request for a role, and what its reply gives
 abbrev pub exchange : Configuration → RoleArn → Keys → List ℕ → Inquiry (Result Keys CredentialsError)
-exchange conf role signer name = after (sending (request conf role signer name)) (λ answer. Done (in_role (granted answer)))
+exchange conf role signer name = after (assuming (request conf role signer name)) (λ answer. Done (in_role (granted answer)))
 
 -- one role, assumed with these credentials
 unfoldable pub assumes : Configuration → Keys → RoleArn → Inquiry (Result Keys CredentialsError)

@@ -1,6 +1,6 @@
 -- Which answer of the default chain comes where.
 use Rattle.std.specs.Option.{option_or}
-use Rattle.std.specs.Prelude.{◌≡◌, ℕ, List, [], ◌∷◌, Bool, true, false, not, ◌&&◌, Option, Some, None, IfSome, is_some, is_none, option_map, option_and_then, is_ok, Result, Ok, Err, codes, if◌then◌else◌}
+use Rattle.std.specs.Prelude.{◌≡◌, ℕ, List, [], ◌∷◌, Bool, true, false, not, ◌&&◌, Option, Some, None, IfSome, is_some, is_none, option_and_then, is_ok, Result, Ok, Err, codes, if◌then◌else◌}
 use Rattle.std.specs.List.{list_all}
 use Rattle.cfg_types.specs.Keys.{Keys}
 use Rattle.cfg_types.specs.Classes.{is_of_class, configuration_cause, provider_cause, unhandled_cause}
@@ -16,16 +16,17 @@ use Rattle.cfg_types.specs.declared.errors.UnhandledCause.{UnhandledCause}
 use Rattle.cfg_types.specs.declared.errors.UnhandledCause.TheVariants as unhandled
 use Rattle.cfg_types.specs.Environment.{Variables, variable}
 use Rattle.cfg_world.specs.declared.ask.Question.{Question}
-use Rattle.cfg_world.specs.declared.ask.Question.TheVariants.{Now, Send}
+use Rattle.cfg_world.specs.declared.ask.Question.TheVariants.{Send}
 use Rattle.cfg_world.specs.declared.ask.Answer.{Answer}
 use Rattle.cfg_world.specs.Fits.{Pair}
-use Rattle.cfg_world.specs.Leaves.{reply_of}
+use Rattle.cfg_types.specs.Replies.{sts_in}
+use Rattle.cfg_world.specs.Leaves.{granted_of}
 use Rattle.cfg_chain.specs.declared.profile.plan.ProfileChain.{ProfileChain}
 use Rattle.cfg_chain.specs.Configuration.{Configuration}
 use Rattle.cfg_chain.specs.Members.{is_not_loaded}
 use Rattle.cfg_chain.specs.Resolves.{default_members}
-use Rattle.cfg_chain.specs.Plans.{plan}
-use Rattle.cfg_chain.specs.Profiles.{is_not_loaded_error}
+use Rattle.cfg_chain.specs.profile.Plans.{plan}
+use Rattle.cfg_chain.specs.profile.Profiles.{is_not_loaded_error}
 use Rattle.cfg_chain.specs.PassedOver.{is_passed_over, environment_is_passed_over, needs_older_secret}
 use Rattle.cfg_chain.specs.AssumeRole.{granted, in_role}
 use Rattle.cfg_chain.specs.EnvironmentKeys.{usable, is_not_unicode}
@@ -50,8 +51,8 @@ error_of (Err e) = Some e
 
 -- why the exchange of an entry gives no credentials: it failed, was refused, or its reply cannot be used
 abbrev pub exchange_failure : Question → Answer → Option CredentialsError
-exchange_failure Now answer = None
-exchange_failure (Send request) answer = error_of (granted (reply_of answer))
+exchange_failure (Send request) answer = error_of (granted (granted_of sts_in answer))
+exchange_failure _ answer = None
 
 -- the first exchange of a journal's part that gives no credentials
 abbrev pub first_failure : List Pair → Option CredentialsError
@@ -66,21 +67,21 @@ unreadable_variable env =
 
 abbrev pub variable_of_cause : UnhandledCause → Option (List ℕ)
 variable_of_cause (unhandled.NotUnicode name) = Some name
-variable_of_cause unhandled.StsNoCredentials = None
-variable_of_cause (unhandled.StsArn arn) = None
+variable_of_cause _ = None
 
 -- the variable that an answer names as not Unicode
 abbrev pub named_variable : Result Keys CredentialsError → Option (List ℕ)
 named_variable (Ok keys) = None
 named_variable (Err e) = option_and_then variable_of_cause (unhandled_cause e)
 
-abbrev pub fault_of_cause : ConfigCause → ProfileFileError
-fault_of_cause (config.Profile e) = e
+abbrev pub fault_of_cause : ConfigCause → Option ProfileFileError
+fault_of_cause (config.Profile e) = Some e
+fault_of_cause _ = None
 
 -- the fault of the configuration that an answer tells
 abbrev pub told_fault : Result Keys CredentialsError → Option ProfileFileError
 told_fault (Ok keys) = None
-told_fault (Err e) = option_map fault_of_cause (configuration_cause e)
+told_fault (Err e) = option_and_then fault_of_cause (configuration_cause e)
 
 abbrev pub is_role_cause : ProviderCause-F CredentialsError NotLoadedCause ProviderCause → Bool
 is_role_cause (ProviderCause-F.Role e) = true

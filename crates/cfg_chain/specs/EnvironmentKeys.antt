@@ -8,9 +8,9 @@ use Rattle.cfg_types.specs.declared.errors.NotLoadedCause.TheVariants.{NotSet}
 use Rattle.cfg_types.specs.declared.errors.UnhandledCause.TheVariants.{NotUnicode}
 use Rattle.cfg_types.specs.declared.credentials.AwsCredentialFeature.TheVariants.{CredentialsEnvVars}
 use Rattle.cfg_types.specs.Keys.{Keys}
-use Rattle.cfg_types.specs.WhiteSpace.{trimmed, is_blank}
+use Rattle.cfg_values.specs.WhiteSpace.{trimmed, is_blank}
 use Rattle.cfg_types.specs.Environment.{Variables, variable}
-use Rattle.cfg_types.specs.Gives.{◌>>=◌}
+use Rattle.cfg_values.specs.Gives.{◌>>=◌}
 
 -- the answer for a variable that is not set, or blank
 abbrev pub not_set : List ℕ → CredentialsError

@@ -1,15 +1,8 @@
-pub mod SectionParts
-pub mod Sections
-pub mod LastUnder
-pub mod SectionSets
 pub mod Configuration
 pub mod Gives
 pub mod EnvironmentKeys
-pub mod StaticKeys
-pub mod Plans
 pub mod Sts
 pub mod AssumeRole
-pub mod Profiles
 pub mod Members
 pub mod Chains
 pub mod KeptStates
@@ -19,3 +12,4 @@ pub mod Causes
 pub mod Valid
 pub mod Provides
 pub mod Setups
+pub mod profile

@@ -12,7 +12,7 @@ use Rattle.cfg_chain.specs.declared.member.Turn.{Turn}
 use Rattle.cfg_chain.specs.declared.member.Turn.TheVariants.{PassedOver, Answers}
 use Rattle.cfg_chain.specs.Configuration.{Configuration}
 use Rattle.cfg_chain.specs.EnvironmentKeys.{environment}
-use Rattle.cfg_chain.specs.Profiles.{profile}
+use Rattle.cfg_chain.specs.profile.Profiles.{profile}
 
 -- the name under which the chain tells of a member
 abbrev pub name_of : Member → List ℕ

@@ -6,8 +6,8 @@ use Rattle.cfg_chain.specs.declared.member.Member.{Member}
 use Rattle.cfg_chain.specs.declared.member.Member.TheVariants.{Environment, Profile}
 use Rattle.cfg_chain.specs.declared.profile.plan.ProfileChain.{ProfileChain}
 use Rattle.cfg_chain.specs.Configuration.{Configuration}
-use Rattle.cfg_chain.specs.Plans.{plan}
-use Rattle.cfg_chain.specs.Profiles.{is_not_loaded_error}
+use Rattle.cfg_chain.specs.profile.Plans.{plan}
+use Rattle.cfg_chain.specs.profile.Profiles.{is_not_loaded_error}
 use Rattle.cfg_chain.specs.EnvironmentKeys.{usable, is_not_unicode}
 
 -- a variable that is absent or blank

@@ -1,13 +1,13 @@
 -- Credentials in a reply of the Security Token Service.
 use Rattle.std.specs.Prelude.{ℕ, List, [], ◌∷◌, ◌==◌, Option, Some, None, option_map, option_and_then, Result, Ok, Err, if◌then◌else◌}
 use Rattle.std.specs.Str.{encode_utf8_all}
-use Rattle.cfg_types.specs.Text.{characters}
+use Rattle.cfg_values.specs.Text.{characters}
 use Rattle.cfg_types.specs.Keys.{Keys}
 use Rattle.cfg_types.specs.declared.errors.UnhandledCause.{UnhandledCause}
 use Rattle.cfg_types.specs.declared.errors.UnhandledCause.TheVariants.{StsNoCredentials, StsArn}
-use Rattle.cfg_types.specs.declared.reply.StsReply.{StsReply}
-use Rattle.cfg_types.specs.declared.reply.StsCredentials.{StsCredentials}
-use Rattle.cfg_types.specs.Gives.{◌>>=◌}
+use Rattle.cfg_types.specs.declared.reply.sts.StsReply.{StsReply}
+use Rattle.cfg_types.specs.declared.reply.sts.StsCredentials.{StsCredentials}
+use Rattle.cfg_values.specs.Gives.{◌>>=◌}
 
 -- the bytes behind the first `:`, where there is one
 abbrev pub behind_colon : List ℕ → Option (List ℕ)

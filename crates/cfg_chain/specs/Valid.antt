@@ -1,20 +1,21 @@
 -- Which calls of the default chain give credentials, said of the variables, of the selected profile
 -- and of the journal's entries.
-use Rattle.std.specs.Prelude.{◌≢◌, ◌⊎◌, ◌≤◌, ℕ, suc, List, [], ◌∷◌, ◌==◌, IsSome, IsNone, IfSome, IsOk, Err, codes, if◌then◌else◌}
+use Rattle.std.specs.Prelude.{◌≢◌, ◌⊎◌, ◌≤◌, ℕ, suc, List, [], ◌∷◌, ◌==◌, IsSome, IsNone, IfSome, IsOk, Result, Ok, Err, codes, if◌then◌else◌}
 use Rattle.std.specs.List.{All}
 use Rattle.std.specs.Str.{encode_utf8_all}
 use Rattle.cfg_types.specs.Environment.{Variables, variable}
 use Rattle.cfg_types.specs.declared.environment.VarError.TheVariants.{NotUnicode}
-use Rattle.cfg_types.specs.declared.reply.StsReply.{StsReply}
-use Rattle.cfg_types.specs.declared.reply.Reply.TheVariants as reply
+use Rattle.cfg_types.specs.declared.reply.sts.StsReply.{StsReply}
+use Rattle.cfg_types.specs.Replies.{sts_in}
 use Rattle.cfg_world.specs.declared.ask.Question.{Question}
 use Rattle.cfg_world.specs.declared.ask.Question.TheVariants as question
 use Rattle.cfg_world.specs.declared.ask.Answer.{Answer}
-use Rattle.cfg_world.specs.declared.ask.Answer.TheVariants as answer
+use Rattle.cfg_world.specs.declared.leaves.NotGranted.{NotGranted}
+use Rattle.cfg_world.specs.Leaves.{granted_of}
 use Rattle.cfg_world.specs.Fits.{Pair}
 use Rattle.cfg_chain.specs.EnvironmentKeys.{usable}
 use Rattle.cfg_chain.specs.Configuration.{Configuration}
-use Rattle.cfg_chain.specs.Plans.{plan}
+use Rattle.cfg_chain.specs.profile.Plans.{plan}
 
 -- the number of colons, each the byte 58
 abbrev pub colons : List ℕ → ℕ
@@ -31,13 +32,16 @@ pub record HoldsCredentials (given : StsReply) : Type 0 where
   pub credentials : IsSome given.credentials
   pub arn : IfSome given.arn HasFiveParts
 
--- The clock was read; or a request was sent and not refused, and its reply holds credentials.
+-- A service granted something, and what it granted holds credentials.
+abbrev pub IsUsable : Result StsReply NotGranted → Type 0
+IsUsable (Ok given) = HoldsCredentials given
+IsUsable (Err reason) = ⊥
+
+-- A request was answered and not refused, and its reply holds credentials. Nothing is asked of the
+-- answers to other questions.
 abbrev pub IsGranted : Question → Answer → Type 0
-IsGranted question.Now moment = Unit {0}
-IsGranted (question.Send request) (answer.Replied (reply.Sts given)) = HoldsCredentials given
-IsGranted (question.Send request) (answer.Replied (reply.Refused refusal)) = ⊥
-IsGranted (question.Send request) (answer.Failed kind) = ⊥
-IsGranted (question.Send request) (answer.Moment moment) = ⊥
+IsGranted (question.Send request) given = IsUsable (granted_of sts_in given)
+IsGranted _ given = Unit {0}
 
 -- The variables that the environment needs are Unicode where they are set: the access key, and
 -- behind it the older name of the secret, where the first name gives none.

@@ -6,10 +6,10 @@ use crate::profile::plan::RoleArn;
 use crate::provider_config::ProviderConfig;
 use crate::sts::into_credentials;
 use cfg_types::{
-    AssumeRole, Boxed, CallSettings, Credentials, CredentialsError, FailKind, Instant, OutOfMemory,
-    ProviderCause, Reply, Request, Text, Timeouts, TryCopy, copy_option,
+    AssumeRole, Boxed, CallSettings, Credentials, CredentialsError, Instant, OutOfMemory,
+    ProviderCause, StsReply, Text, Timeouts, TryCopy, copy_option,
 };
-use cfg_world::{Asking, Stop, read_clock, send};
+use cfg_world::{Asking, NotGranted, Stop, leaves, read_clock};
 use std::alloc::Global;
 use std::string::ToString;
 
@@ -48,8 +48,8 @@ fn assume_role<A: Asking>(
 {
     let name = session_name(alloc, role, asking)?;
     let request = request(alloc, config, role, signer, name)?;
-    let answer = send(alloc, request, asking)?;
-    let answer = granted(alloc, &answer)?;
+    let answer = leaves::assume_role(alloc, request, asking)?;
+    let answer = granted(alloc, answer)?;
     let outcome = or_role_error(alloc, answer)?;
     Ok(outcome)
 }
@@ -87,13 +87,13 @@ fn request(
     role: &RoleArn,
     signer: Credentials,
     session_name: Text,
-) -> Result<Request, OutOfMemory>
+) -> Result<AssumeRole, OutOfMemory>
     ensures { IfOk result (λ r. r ≡ request_of config.now role.now signer session_name) }
 {
     let role_arn = role.role_arn.copy(alloc)?;
     let external_id = copy_option(alloc, &role.external_id)?;
     let settings = settings(alloc, config)?;
-    Ok(Request::AssumeRole(AssumeRole {
+    Ok(AssumeRole {
         signer,
         role_arn,
         session_name,
@@ -103,7 +103,7 @@ fn request(
         duration_seconds: None,
         tags: None,
         settings,
-    }))
+    })
 }
 
 fn settings(alloc: Global, config: &ProviderConfig) -> Result<CallSettings, OutOfMemory>
@@ -131,20 +131,22 @@ fn settings(alloc: Global, config: &ProviderConfig) -> Result<CallSettings, OutO
 // What a reply gives, or why it gives nothing.
 fn granted(
     alloc: Global,
-    answer: &Result<Reply, FailKind>,
+    answer: Result<StsReply, NotGranted>,
 ) -> Result<Result<Credentials, CredentialsError>, OutOfMemory>
-    ensures { IfOk result (λ r. r ≡ granted_of answer.now) }
+    ensures { IfOk result (λ r. r ≡ granted_of answer) }
 {
     match answer {
-        Ok(Reply::Sts(reply)) => match into_credentials(alloc, reply, "AssumeRoleProvider")? {
+        Ok(reply) => match into_credentials(alloc, &reply, "AssumeRoleProvider")? {
             Ok(credentials) => Ok(Ok(credentials)),
             Err(cause) => Ok(Err(CredentialsError::Unhandled(cause))),
         },
-        Ok(Reply::Refused(refusal)) => {
-            let cause = ProviderCause::Refused(refusal.copy(alloc)?);
+        Err(NotGranted::Refused(refusal)) => {
+            let cause = ProviderCause::Refused(refusal);
             Ok(Err(CredentialsError::ProviderError(cause)))
         }
-        Err(kind) => Ok(Err(CredentialsError::ProviderError(ProviderCause::Sent(*kind)))),
+        Err(NotGranted::Failed(kind)) => {
+            Ok(Err(CredentialsError::ProviderError(ProviderCause::Sent(kind))))
+        }
     }
 }
 

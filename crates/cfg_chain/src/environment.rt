@@ -1,5 +1,5 @@
 ghost use Rattle.std.specs.Prelude.{◌≡◌, IfOk, option_map};
-ghost use Rattle.cfg_types.specs.Text.{characters};
+ghost use Rattle.cfg_values.specs.Text.{characters};
 ghost use Rattle.cfg_types.specs.Environment.{variable};
 ghost use Rattle.cfg_chain.specs.Gives.{GivesAnswer};
 ghost use Rattle.cfg_chain.specs.EnvironmentKeys.{required, usable, secret as secret_of, optional as optional_of, environment};

@@ -1,5 +1,5 @@
 ghost use Rattle.std.specs.Prelude.{◌≡◌};
-ghost use Rattle.cfg_types.specs.Text.{characters};
+ghost use Rattle.cfg_values.specs.Text.{characters};
 ghost use Rattle.cfg_world.specs.Follows.{Follows};
 ghost use Rattle.cfg_chain.specs.Members.{name_of, turn, member_inquiry};
 ghost use Rattle.cfg_world.specs.Inquiry.{Done};

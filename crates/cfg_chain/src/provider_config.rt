@@ -1,6 +1,6 @@
 ghost use Rattle.std.specs.Prelude.{◌≡◌, IfOk, Some, None, true, false, [], option_map, MatchOption};
 ghost use Rattle.std.specs.FinMap.{empty};
-ghost use Rattle.cfg_types.specs.Text.{characters};
+ghost use Rattle.cfg_values.specs.Text.{characters};
 ghost use Rattle.cfg_chain.specs.Configuration.{nothing_configured};
 
 use crate::profile::sections::{ProfileSet, ProfileSource};

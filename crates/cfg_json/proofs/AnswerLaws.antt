@@ -5,6 +5,7 @@ use Rattle.std.proofs.lemmas.Bool.{eqb-false, ne_eqb, eqb-true}
 use Rattle.std.proofs.lemmas.List.{append_cancel_right, drop_at, append-nil}
 use Rattle.cfg_types.specs.declared.document.JsonError.{JsonError}
 use Rattle.cfg_types.specs.declared.document.JsonError.TheVariants as json
+use Rattle.cfg_json.specs.Ascii.{left_curly_bracket}
 use Rattle.cfg_json.specs.WhiteSpace.{is_json_white_space, IsWhiteSpace}
 use Rattle.cfg_json.specs.Reads.{Reads}
 use Rattle.cfg_json.specs.Objects.{IsObject, HasObject}
@@ -52,7 +53,7 @@ more_stays e = absurd cc
 
 -- ---- what each answer says of the bytes
 
-has_at_front : (bytes : List ℕ) (t : List ℕ) (b : WhiteSpace bytes) (ms : List Member) (rest : List ℕ) → after_white_space bytes ≡ 123 ∷ t → ObjectTaken (length b.white_space) (123 ∷ t) ms rest → HasObject bytes ms (length bytes - length rest)
+has_at_front : (bytes : List ℕ) (t : List ℕ) (b : WhiteSpace bytes) (ms : List Member) (rest : List ℕ) → after_white_space bytes ≡ left_curly_bracket ∷ t → ObjectTaken (length b.white_space) (left_curly_bracket ∷ t) ms rest → HasObject bytes ms (length bytes - length rest)
 has_at_front bytes t b ms rest is f = record {
   white_space = b.white_space;
   text = f.0;
@@ -83,20 +84,20 @@ Cause bytes (Err json.OutOfMemory) = ⊥
 at_front : (bytes : List ℕ) (b : WhiteSpace bytes) (u : List ℕ) → after_white_space bytes ≡ u → bytes ≡ b.white_space ++ u
 at_front bytes b u is = b.is ∙ ap (λ (y : List ℕ). b.white_space ++ y) is
 
-cause_read : (bytes t : List ℕ) (o : Option ReadMembers) → after_white_space bytes ≡ 123 ∷ t → object_at (length bytes) t ≡ o → Cause bytes (answer_of o)
-cause_read bytes t None is e = let b = white_space_takes bytes in (b.white_space, t, b.are, at_front bytes b (123 ∷ t) is)
+cause_read : (bytes t : List ℕ) (o : Option ReadMembers) → after_white_space bytes ≡ left_curly_bracket ∷ t → object_at (length bytes) t ≡ o → Cause bytes (answer_of o)
+cause_read bytes t None is e = let b = white_space_takes bytes in (b.white_space, t, b.are, at_front bytes b (left_curly_bracket ∷ t) is)
 cause_read bytes t (Some r) is e =
     let b = white_space_takes bytes in
-    let place : length bytes ≡ length b.white_space + length (123 ∷ t) = ap length (at_front bytes b (123 ∷ t) is) ∙ length-append b.white_space (123 ∷ t) in
+    let place : length bytes ≡ length b.white_space + length (left_curly_bracket ∷ t) = ap length (at_front bytes b (left_curly_bracket ∷ t) is) ∙ length-append b.white_space (left_curly_bracket ∷ t) in
     has_at_front bytes t b r.0 r.1 is (object_takes_at (length bytes) (length b.white_space) t r place e)
 
-cause_opened : (bytes : List ℕ) (x : ℕ) (t : List ℕ) (b : Bool) → after_white_space bytes ≡ x ∷ t → is_json_white_space x ≡ false → (x == 123) ≡ b → Cause bytes (cond b (answer_of (object_at (length bytes) t)) (Err json.NotObject))
-cause_opened bytes x t true is not_white_space e = cause_read bytes t (object_at (length bytes) t) (is ∙ ap (λ (y : ℕ). y ∷ t) (eqb-true x 123 e)) refl
-cause_opened bytes x t false is not_white_space e = let b = white_space_takes bytes in inr (b.white_space, x, t, b.are, not_white_space, eqb-false x 123 e, at_front bytes b (x ∷ t) is)
+cause_opened : (bytes : List ℕ) (x : ℕ) (t : List ℕ) (b : Bool) → after_white_space bytes ≡ x ∷ t → is_json_white_space x ≡ false → (x == left_curly_bracket) ≡ b → Cause bytes (cond b (answer_of (object_at (length bytes) t)) (Err json.NotObject))
+cause_opened bytes x t true is not_white_space e = cause_read bytes t (object_at (length bytes) t) (is ∙ ap (λ (y : ℕ). y ∷ t) (eqb-true x left_curly_bracket e)) refl
+cause_opened bytes x t false is not_white_space e = let b = white_space_takes bytes in inr (b.white_space, x, t, b.are, not_white_space, eqb-false x left_curly_bracket e, at_front bytes b (x ∷ t) is)
 
 cause_at : (bytes u : List ℕ) → after_white_space bytes ≡ u → NoWhiteSpace u → Cause bytes (opened (length bytes) u)
 cause_at bytes [] is n = let b = white_space_takes bytes in inl (subst IsWhiteSpace (sym (at_front bytes b [] is ∙ append-nil b.white_space)) b.are)
-cause_at bytes (x ∷ t) is n = cause_opened bytes x t (x == 123) is n refl
+cause_at bytes (x ∷ t) is n = cause_opened bytes x t (x == left_curly_bracket) is n refl
 
 cause : (bytes : List ℕ) → Cause bytes (object_answer bytes)
 unfolding object_answer
@@ -119,21 +120,21 @@ not_opened bytes h = elim h [
   | inl b ↦ ap (opened (length bytes)) (all_white_space bytes b)
   | inr o ↦
       let is : after_white_space bytes ≡ o.1 ∷ o.2 = ap after_white_space o.6 ∙ white_space_again o.0 (o.1 ∷ o.2) o.3 o.4 in
-      let other : (o.1 == 123) ≡ false = ne_eqb o.1 123 o.5 in
+      let other : (o.1 == left_curly_bracket) ≡ false = ne_eqb o.1 left_curly_bracket o.5 in
       ap (opened (length bytes)) is ∙ rw other refl
 ]
 
-opened_is : (bytes rest : List ℕ) → after_white_space bytes ≡ 123 ∷ rest → object_answer bytes ≡ answer_of (object_at (length bytes) rest)
+opened_is : (bytes rest : List ℕ) → after_white_space bytes ≡ left_curly_bracket ∷ rest → object_answer bytes ≡ answer_of (object_at (length bytes) rest)
 unfolding object_answer
 opened_is bytes rest is = ap (opened (length bytes)) is
 
-broken_at : (bytes rest : List ℕ) (o : Option ReadMembers) → after_white_space bytes ≡ 123 ∷ rest → object_at (length bytes) rest ≡ o → HasNoObject bytes → answer_of o ≡ Err json.Syntax
+broken_at : (bytes rest : List ℕ) (o : Option ReadMembers) → after_white_space bytes ≡ left_curly_bracket ∷ rest → object_at (length bytes) rest ≡ o → HasNoObject bytes → answer_of o ≡ Err json.Syntax
 broken_at bytes rest None is e none = refl
 broken_at bytes rest (Some r) is e none = absurd (none r.0 _ (cause_read bytes rest (Some r) is e))
 
 broken_answer : (bytes : List ℕ) → OpensObject bytes → HasNoObject bytes → object_answer bytes ≡ Err json.Syntax
 broken_answer bytes h none =
-    let is : after_white_space bytes ≡ 123 ∷ h.1 = ap after_white_space h.3 ∙ white_space_again h.0 (123 ∷ h.1) h.2 refl in
+    let is : after_white_space bytes ≡ left_curly_bracket ∷ h.1 = ap after_white_space h.3 ∙ white_space_again h.0 (left_curly_bracket ∷ h.1) h.2 refl in
     opened_is bytes h.1 is ∙ broken_at bytes h.1 (object_at (length bytes) h.1) is refl none
 
 ok_or_error : {Y : Type 0} (x : Y) (e : JsonError) (a : Result Y JsonError) → a ≡ Ok x → a ≡ Err e → ⊥
@@ -313,7 +314,7 @@ one_text_is at t u x y list other h k e =
     let total : ℕ = at + length (t ++ x) in
     let f = object_again at t list h total x refl in
     let g = object_again at u other k total y (ap (λ (z : List ℕ). at + length z) e) in
-    let inside : f.inside ≡ g.inside = cons_same 123 f.inside g.inside (sym f.is ∙ e ∙ g.is) in
+    let inside : f.inside ≡ g.inside = cons_same left_curly_bracket f.inside g.inside (sym f.is ∙ e ∙ g.is) in
     let a : ReadMembers = (list, x) in
     let b : ReadMembers = (other, y) in
     let same : a ≡ b = given_is a b (sym f.reads ∙ ap (object_at total) inside ∙ g.reads) in

@@ -2,7 +2,8 @@
 use Rattle.std.proofs.Common.{◌≡◌, ℕ, zero, suc, inl, inr, List, [], ◌∷◌, drop, true, false, cond, Option, Some, None, refl, sym, ap, subst, ◌∙◌}
 use Rattle.std.specs.Prelude.{◌==◌, ◌&&◌}
 use Rattle.std.proofs.lemmas.Bool.{eqb-true, and_parts, ne_eqb}
-use Rattle.cfg_json.specs.Characters.{backslash, lower_u, is_plain, short_escape, code_unit, is_high, is_low, pair_char}
+use Rattle.cfg_json.specs.Ascii.{backslash, small_u}
+use Rattle.cfg_json.specs.Characters.{is_plain, short_escape, code_unit, is_high, is_low, pair_char}
 use Rattle.cfg_json.specs.Reads.{◌>>=◌}
 use Rattle.cfg_json.specs.Strings.{IsContent}
 use Rattle.cfg_json.specs.Reading.{hex_at, low_at, unit_at, escape_at, piece_at, content_of}
@@ -15,20 +16,20 @@ use Rattle.cfg_json.proofs.PlainText.{piece_plain}
 pub short_is : (x c y : ℕ) → short_escape x ≡ Some c → short_escape y ≡ None → (x == y) ≡ false
 short_is x c y e n = ne_eqb x y (λ same. none_is c (sym n ∙ sym (ap short_escape same) ∙ e))
 
-no_escape_u : short_escape lower_u ≡ None
+no_escape_u : short_escape small_u ≡ None
 unfolding short_escape
 no_escape_u = refl
 
 piece_short : (x c : ℕ) (t : List ℕ) → short_escape x ≡ Some c → piece_at (backslash ∷ x ∷ t) ≡ Some (c, 1)
 unfolding piece_at escape_at
-piece_short x c t e = let u : (x == lower_u) ≡ false = short_is x c lower_u e no_escape_u in rw (u, e) refl
+piece_short x c t e = let u : (x == small_u) ≡ false = short_is x c small_u e no_escape_u in rw (u, e) refl
 
-piece_unit : (a b c d u : ℕ) (t : List ℕ) → code_unit a b c d ≡ Some u → is_high u ≡ false → is_low u ≡ false → piece_at (backslash ∷ lower_u ∷ a ∷ b ∷ c ∷ d ∷ t) ≡ Some (u, 5)
+piece_unit : (a b c d u : ℕ) (t : List ℕ) → code_unit a b c d ≡ Some u → is_high u ≡ false → is_low u ≡ false → piece_at (backslash ∷ small_u ∷ a ∷ b ∷ c ∷ d ∷ t) ≡ Some (u, 5)
 unfolding piece_at escape_at unit_at hex_at
 piece_unit a b c d u t e high low = rw (e, high, low) refl
 
 piece_pair : (a b c d u e f g h l : ℕ) (t : List ℕ) → code_unit a b c d ≡ Some u → is_high u ≡ true → code_unit e f g h ≡ Some l → is_low l ≡ true
-    → piece_at (backslash ∷ lower_u ∷ a ∷ b ∷ c ∷ d ∷ backslash ∷ lower_u ∷ e ∷ f ∷ g ∷ h ∷ t) ≡ Some (pair_char u l, 11)
+    → piece_at (backslash ∷ small_u ∷ a ∷ b ∷ c ∷ d ∷ backslash ∷ small_u ∷ e ∷ f ∷ g ∷ h ∷ t) ≡ Some (pair_char u l, 11)
 unfolding piece_at escape_at unit_at low_at hex_at
 piece_pair a b c d u e f g h l t first high second low = rw (first, high, second, low) refl
 
@@ -44,9 +45,9 @@ pub content_again : (t s : List ℕ) → IsContent t s → content_of 0 t ≡ So
 content_again _ _ IsContent.ended = none_left
 content_again _ _ (IsContent.plain c t s p more) = then c c 0 t s (piece_plain c t p) (content_again t s more)
 content_again _ _ (IsContent.short x c t s e more) = then backslash c 1 (x ∷ t) s (piece_short x c t e) (content_again t s more)
-content_again _ _ (IsContent.unit a b c d u t s e high low more) = then backslash u 5 (lower_u ∷ a ∷ b ∷ c ∷ d ∷ t) s (piece_unit a b c d u t e high low) (content_again t s more)
+content_again _ _ (IsContent.unit a b c d u t s e high low more) = then backslash u 5 (small_u ∷ a ∷ b ∷ c ∷ d ∷ t) s (piece_unit a b c d u t e high low) (content_again t s more)
 content_again _ _ (IsContent.pair a b c d u e f g h l t s first high second low more) =
-    then backslash (pair_char u l) 11 (lower_u ∷ a ∷ b ∷ c ∷ d ∷ backslash ∷ lower_u ∷ e ∷ f ∷ g ∷ h ∷ t) s (piece_pair a b c d u e f g h l t first high second low) (content_again t s more)
+    then backslash (pair_char u l) 11 (small_u ∷ a ∷ b ∷ c ∷ d ∷ backslash ∷ small_u ∷ e ∷ f ∷ g ∷ h ∷ t) s (piece_pair a b c d u e f g h l t first high second low) (content_again t s more)
 
 -- ---- what is read is spelled so
 
@@ -82,7 +83,7 @@ hex_takes (a ∷ b ∷ c ∷ d ∷ t) u e = record { a = a; b = b; c = c; d = d;
 
 record Low (t : List ℕ) (l : ℕ) : Type 0 where
   digits : List ℕ
-  text : t ≡ backslash ∷ lower_u ∷ digits
+  text : t ≡ backslash ∷ small_u ∷ digits
   hex : Hex digits l
   low : is_low l ≡ true
 
@@ -97,40 +98,40 @@ unfolding low_at
 low_takes [] l e = absurd (none_is l e)
 low_takes (x ∷ []) l e = absurd (none_is l e)
 low_takes (x ∷ y ∷ t) l e =
-    elim (chosen ((x == backslash) && (y == lower_u)) (hex_at t >>= λ l. cond (is_low l) (Some l) None) nothing (given l) e) [
+    elim (chosen ((x == backslash) && (y == small_u)) (hex_at t >>= λ l. cond (is_low l) (Some l) None) nothing (given l) e) [
       | inl w ↦ (let q = and_parts _ _ w.0 in let r = low_if t l w.1 in
-          record { digits = t; text = rw (eqb-true x backslash q.0, eqb-true y lower_u q.1) refl; hex = r.0; low = r.1 })
+          record { digits = t; text = rw (eqb-true x backslash q.0, eqb-true y small_u q.1) refl; hex = r.0; low = r.1 })
       | inr w ↦ absurd (none_is l w.1)
     ]
 
 pair_is : (t : List ℕ) (u c n : ℕ) (h : Hex t u) → is_high u ≡ true → (low_at (drop 4 t) >>= λ l. Some (pair_char u l, 11)) ≡ a_pair c n
-    → (s : List ℕ) → IsContent (drop n (lower_u ∷ t)) s → IsContent (backslash ∷ lower_u ∷ t) (c ∷ s)
+    → (s : List ℕ) → IsContent (drop n (small_u ∷ t)) s → IsContent (backslash ∷ small_u ∷ t) (c ∷ s)
 pair_is t u c n h high e s more =
     let p = bind_some (low_at (drop 4 t)) (λ l. Some (pair_char u l, 11)) (c, n) e in
     let l = low_takes (drop 4 t) p.0 p.1 in
     let k = l.hex in
     let after : drop 4 t ≡ h.rest = ap (drop 4) h.text in
-    let all : t ≡ h.a ∷ h.b ∷ h.c ∷ h.d ∷ backslash ∷ lower_u ∷ k.a ∷ k.b ∷ k.c ∷ k.d ∷ k.rest =
-    h.text ∙ ap (λ (r : List ℕ). h.a ∷ h.b ∷ h.c ∷ h.d ∷ r) (sym after ∙ l.text ∙ ap (λ (r : List ℕ). backslash ∷ lower_u ∷ r) k.text) in
+    let all : t ≡ h.a ∷ h.b ∷ h.c ∷ h.d ∷ backslash ∷ small_u ∷ k.a ∷ k.b ∷ k.c ∷ k.d ∷ k.rest =
+    h.text ∙ ap (λ (r : List ℕ). h.a ∷ h.b ∷ h.c ∷ h.d ∷ r) (sym after ∙ l.text ∙ ap (λ (r : List ℕ). backslash ∷ small_u ∷ r) k.text) in
     let is_c : pair_char u p.0 ≡ c = first_same _ _ _ _ p.2 in
     let is_n : n ≡ 11 = sym (second_same _ _ _ _ p.2) in
-    let left : drop n (lower_u ∷ t) ≡ k.rest = ap (λ (m : ℕ). drop m (lower_u ∷ t)) is_n ∙ ap (λ (r : List ℕ). drop 10 r) all in
+    let left : drop n (small_u ∷ t) ≡ k.rest = ap (λ (m : ℕ). drop m (small_u ∷ t)) is_n ∙ ap (λ (r : List ℕ). drop 10 r) all in
     let rest : IsContent k.rest s = subst (λ (r : List ℕ). IsContent r s) left more in
-    subst (λ (r : List ℕ). IsContent (backslash ∷ lower_u ∷ r) (c ∷ s)) (sym all)
-    (subst (λ (x : ℕ). IsContent (backslash ∷ lower_u ∷ h.a ∷ h.b ∷ h.c ∷ h.d ∷ backslash ∷ lower_u ∷ k.a ∷ k.b ∷ k.c ∷ k.d ∷ k.rest) (x ∷ s)) is_c
+    subst (λ (r : List ℕ). IsContent (backslash ∷ small_u ∷ r) (c ∷ s)) (sym all)
+    (subst (λ (x : ℕ). IsContent (backslash ∷ small_u ∷ h.a ∷ h.b ∷ h.c ∷ h.d ∷ backslash ∷ small_u ∷ k.a ∷ k.b ∷ k.c ∷ k.d ∷ k.rest) (x ∷ s)) is_c
     (IsContent.pair h.a h.b h.c h.d u k.a k.b k.c k.d p.0 k.rest s h.spells high k.spells l.low rest))
 
 one_is : (t : List ℕ) (u c n : ℕ) (h : Hex t u) → is_high u ≡ false → is_low u ≡ false → a_pair u 5 ≡ a_pair c n
-    → (s : List ℕ) → IsContent (drop n (lower_u ∷ t)) s → IsContent (backslash ∷ lower_u ∷ t) (c ∷ s)
+    → (s : List ℕ) → IsContent (drop n (small_u ∷ t)) s → IsContent (backslash ∷ small_u ∷ t) (c ∷ s)
 one_is t u c n h high low e s more =
     let is_c : u ≡ c = first_same _ _ _ _ e in
     let is_n : n ≡ 5 = sym (second_same _ _ _ _ e) in
-    let left : drop n (lower_u ∷ t) ≡ h.rest = ap (λ (m : ℕ). drop m (lower_u ∷ t)) is_n ∙ ap (λ (r : List ℕ). drop 4 r) h.text in
+    let left : drop n (small_u ∷ t) ≡ h.rest = ap (λ (m : ℕ). drop m (small_u ∷ t)) is_n ∙ ap (λ (r : List ℕ). drop 4 r) h.text in
     let rest : IsContent h.rest s = subst (λ (r : List ℕ). IsContent r s) left more in
-    subst (λ (r : List ℕ). IsContent (backslash ∷ lower_u ∷ r) (c ∷ s)) (sym h.text)
-    (subst (λ (x : ℕ). IsContent (backslash ∷ lower_u ∷ h.a ∷ h.b ∷ h.c ∷ h.d ∷ h.rest) (x ∷ s)) is_c (IsContent.unit h.a h.b h.c h.d u h.rest s h.spells high low rest))
+    subst (λ (r : List ℕ). IsContent (backslash ∷ small_u ∷ r) (c ∷ s)) (sym h.text)
+    (subst (λ (x : ℕ). IsContent (backslash ∷ small_u ∷ h.a ∷ h.b ∷ h.c ∷ h.d ∷ h.rest) (x ∷ s)) is_c (IsContent.unit h.a h.b h.c h.d u h.rest s h.spells high low rest))
 
-unit_is : (t : List ℕ) (c n : ℕ) → unit_at t ≡ a_pair c n → (s : List ℕ) → IsContent (drop n (lower_u ∷ t)) s → IsContent (backslash ∷ lower_u ∷ t) (c ∷ s)
+unit_is : (t : List ℕ) (c n : ℕ) → unit_at t ≡ a_pair c n → (s : List ℕ) → IsContent (drop n (small_u ∷ t)) s → IsContent (backslash ∷ small_u ∷ t) (c ∷ s)
 unfolding unit_at
 unit_is t c n e s more =
     let p = bind_some (hex_at t) (λ u. cond (is_high u) (low_at (drop 4 t) >>= λ l. Some (pair_char u l, 11)) (cond (is_low u) None (Some (u, 5)))) (c, n) e in
@@ -155,8 +156,8 @@ escape_takes : (t : List ℕ) (c n : ℕ) → escape_at t ≡ a_pair c n → (s 
 unfolding escape_at
 escape_takes [] c n e s more = absurd (none_is (c, n) e)
 escape_takes (x ∷ t) c n e s more =
-    elim (chosen (x == lower_u) (unit_at t) (short_escape x >>= λ c. Some (c, 1)) (a_pair c n) e) [
-      | inl w ↦ (let is : lower_u ≡ x = sym (eqb-true x lower_u w.0) in
+    elim (chosen (x == small_u) (unit_at t) (short_escape x >>= λ c. Some (c, 1)) (a_pair c n) e) [
+      | inl w ↦ (let is : small_u ≡ x = sym (eqb-true x small_u w.0) in
           subst (λ (y : ℕ). IsContent (drop n (y ∷ t)) s → IsContent (backslash ∷ y ∷ t) (c ∷ s)) is (unit_is t c n w.1 s) more)
       | inr w ↦ short_takes x t c n w.1 s more
     ]

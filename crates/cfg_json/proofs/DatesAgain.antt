@@ -5,7 +5,8 @@ use Rattle.std.specs.Char.{is_ascii_digit}
 use Rattle.jiff_core.specs.Calendar.{days_in_month}
 use Rattle.jiff_core.proofs.CalendarLemmas.{days_in_month_bounds}
 use Rattle.std.proofs.lemmas.Bool.{le-leb, lt-ltb, eq-eqb, ne_eqb, or_left, or_right}
-use Rattle.cfg_types.specs.Moment.{Moment}
+use Rattle.cfg_values.specs.Moment.{Moment}
+use Rattle.cfg_json.specs.Ascii.{plus_sign, hyphen_minus, full_stop, digit_zero, digit_nine, colon, capital_t, capital_z, small_t, small_z}
 use Rattle.cfg_json.specs.Numbers.{AllDigits, AreDigits}
 use Rattle.cfg_json.specs.Reading.{mark_at}
 use Rattle.cfg_json.specs.declared.dates.local.LocalTime.{LocalTime}
@@ -13,10 +14,10 @@ use Rattle.cfg_json.specs.Dates.{two, four, IsCommonDate, Exists, spelled, secon
 use Rattle.cfg_json.specs.ReadingDates.{digit, two_at, four_at, next_at, either_at, three_read, day_at, clock_at, local_at, add_front, nanos_from, nanos_at, second_fraction_at, is_civil, is_clock, offset_at, zone_of, moment_at}
 use Rattle.cfg_json.proofs.NumberLaws.{NoDigit}
 
-digit_again : (n : ℕ) → n < 10 → digit (48 + n) ≡ Some n
+digit_again : (n : ℕ) → n < 10 → digit (digit_zero + n) ≡ Some n
 digit_again n lt =
-    let low : nat_le 48 (48 + n) ≡ true = le-leb _ _ (omega arith) in
-    let high : nat_le (48 + n) 57 ≡ true = le-leb _ _ (omega arith) in
+    let low : nat_le digit_zero (digit_zero + n) ≡ true = le-leb _ _ (omega arith) in
+    let high : nat_le (digit_zero + n) digit_nine ≡ true = le-leb _ _ (omega arith) in
     rw (low, high) (ap Some (omega arith))
 
 two_again : (n : ℕ) (t : List ℕ) → n < 100 → two_at (two n ++ t) ≡ Some (n, t)
@@ -35,10 +36,10 @@ next_again : (c n : ℕ) (t : List ℕ) → (c == c) ≡ true → n < 100 → ne
 unfolding next_at mark_at
 next_again c n t is lt = rw is (two_again n t lt)
 
-mark_again : (mark : ℕ) (t : List ℕ) → (mark ≡ 84) ⊎ (mark ≡ 116) → either_at 84 116 (mark ∷ t) ≡ Some t
+mark_again : (mark : ℕ) (t : List ℕ) → (mark ≡ capital_t) ⊎ (mark ≡ small_t) → either_at capital_t small_t (mark ∷ t) ≡ Some t
 unfolding either_at
 mark_again mark t h =
-    let e : ((mark == 84) || (mark == 116)) ≡ true = elim h [ inl a ↦ or_left _ _ (eq-eqb mark 84 a) | inr a ↦ or_right _ _ (eq-eqb mark 116 a) ] in
+    let e : ((mark == capital_t) || (mark == small_t)) ≡ true = elim h [ inl a ↦ or_left _ _ (eq-eqb mark capital_t a) | inr a ↦ or_right _ _ (eq-eqb mark small_t a) ] in
     rw e refl
 
 -- the numbers of a date and a time have two digits, and the year has four
@@ -60,20 +61,20 @@ short_numbers l h = record {
   second = omega (arith, h.second);
 }
 
-day_again : (y m d : ℕ) (t : List ℕ) → y < 10000 → m < 100 → d < 100 → day_at (four y ++ (45 ∷ (two m ++ (45 ∷ (two d ++ t))))) ≡ three_read y m d t
+day_again : (y m d : ℕ) (t : List ℕ) → y < 10000 → m < 100 → d < 100 → day_at (four y ++ (hyphen_minus ∷ (two m ++ (hyphen_minus ∷ (two d ++ t))))) ≡ three_read y m d t
 unfolding day_at
-day_again y m d t hy hm hd = rw (four_again y (45 ∷ (two m ++ (45 ∷ (two d ++ t)))) hy, next_again 45 m (45 ∷ (two d ++ t)) refl hm, next_again 45 d t refl hd) refl
+day_again y m d t hy hm hd = rw (four_again y (hyphen_minus ∷ (two m ++ (hyphen_minus ∷ (two d ++ t)))) hy, next_again hyphen_minus m (hyphen_minus ∷ (two d ++ t)) refl hm, next_again hyphen_minus d t refl hd) refl
 
-clock_again : (h m s : ℕ) (t : List ℕ) → h < 100 → m < 100 → s < 100 → clock_at (two h ++ (58 ∷ (two m ++ (58 ∷ (two s ++ t))))) ≡ three_read h m s t
+clock_again : (h m s : ℕ) (t : List ℕ) → h < 100 → m < 100 → s < 100 → clock_at (two h ++ (colon ∷ (two m ++ (colon ∷ (two s ++ t))))) ≡ three_read h m s t
 unfolding clock_at
-clock_again h m s t hh hm hs = rw (two_again h (58 ∷ (two m ++ (58 ∷ (two s ++ t)))) hh, next_again 58 m (58 ∷ (two s ++ t)) refl hm, next_again 58 s t refl hs) refl
+clock_again h m s t hh hm hs = rw (two_again h (colon ∷ (two m ++ (colon ∷ (two s ++ t)))) hh, next_again colon m (colon ∷ (two s ++ t)) refl hm, next_again colon s t refl hs) refl
 
-local_again : (l : LocalTime) (mark : ℕ) (t : List ℕ) → Short l → (mark ≡ 84) ⊎ (mark ≡ 116) → local_at (spelled l mark t) ≡ Some (l, t)
+local_again : (l : LocalTime) (mark : ℕ) (t : List ℕ) → Short l → (mark ≡ capital_t) ⊎ (mark ≡ small_t) → local_at (spelled l mark t) ≡ Some (l, t)
 unfolding local_at spelled
 local_again l mark t h m =
     rw (
-      day_again l.year l.month l.day (mark ∷ (two l.hour ++ (58 ∷ (two l.minute ++ (58 ∷ (two l.second ++ t)))))) h.year h.month h.day,
-      mark_again mark (two l.hour ++ (58 ∷ (two l.minute ++ (58 ∷ (two l.second ++ t))))) m,
+      day_again l.year l.month l.day (mark ∷ (two l.hour ++ (colon ∷ (two l.minute ++ (colon ∷ (two l.second ++ t)))))) h.year h.month h.day,
+      mark_again mark (two l.hour ++ (colon ∷ (two l.minute ++ (colon ∷ (two l.second ++ t))))) m,
       clock_again l.hour l.minute l.second t h.hour h.minute h.second,
     ) refl
 
@@ -97,7 +98,7 @@ nine_last (a ∷ b ∷ c ∷ d ∷ f ∷ g ∷ i ∷ j ∷ []) h = ((λ e. omega
 nine_last (a ∷ b ∷ c ∷ d ∷ f ∷ g ∷ i ∷ j ∷ k ∷ []) h = ((λ e. omega arith), ((λ e. omega arith), ((λ e. omega arith), ((λ e. omega arith), ((λ e. omega arith), ((λ e. omega arith), ((λ e. omega arith), ((λ e. omega arith), ((λ e. omega arith), tt)))))))))
 nine_last (a ∷ b ∷ c ∷ d ∷ f ∷ g ∷ i ∷ j ∷ k ∷ l ∷ ds) h = absurd (omega arith)
 
-digit_is : (x : ℕ) → is_ascii_digit x ≡ true → digit x ≡ Some (x - 48)
+digit_is : (x : ℕ) → is_ascii_digit x ≡ true → digit x ≡ Some (x - digit_zero)
 digit_is x e = rw e refl
 
 no_digit_is : (x : ℕ) → is_ascii_digit x ≡ false → digit x ≡ None
@@ -110,7 +111,7 @@ nanos_again weight [] (x ∷ t) h l n = let e = no_digit_is x n in rw e refl
 nanos_again weight (d ∷ ds) rest h l n =
     let e = digit_is d h.0 in
     let some : (weight == 0) ≡ false = ne_eqb weight 0 l.0 in
-    rw (e, some) (ap (add_front ((d - 48) * weight)) (nanos_again (weight / 10) ds rest h.1 l.1 n))
+    rw (e, some) (ap (add_front ((d - digit_zero) * weight)) (nanos_again (weight / 10) ds rest h.1 l.1 n))
 
 some_nanos_again : (ds rest : List ℕ) → AreDigits ds → length ds ≤ 9 → NoDigit rest → nanos_at (ds ++ rest) ≡ Some (fraction_value first_weight ds, rest)
 unfolding nanos_at
@@ -123,22 +124,22 @@ pub record ZoneHead (zone : List ℕ) : Type 0 where
   pub others : List ℕ
   pub is : zone ≡ first ∷ others
   pub digit : is_ascii_digit first ≡ false
-  pub point : (first == 46) ≡ false
+  pub point : (first == full_stop) ≡ false
 
 zulu_head : (zone : List ℕ) (z : ℤ) → IsZulu zone z → ZoneHead zone
 zulu_head zone z h = elim h.0 [
-  | inl a ↦ record { first = 90; others = []; is = a; digit = refl; point = refl }
-  | inr a ↦ record { first = 122; others = []; is = a; digit = refl; point = refl }
+  | inl a ↦ record { first = capital_z; others = []; is = a; digit = refl; point = refl }
+  | inr a ↦ record { first = small_z; others = []; is = a; digit = refl; point = refl }
 ]
 
-sign_no_digit : (sign : ℕ) (A B : Type 0) → ((sign ≡ 43) × A) ⊎ ((sign ≡ 45) × B) → is_ascii_digit sign ≡ false
+sign_no_digit : (sign : ℕ) (A B : Type 0) → ((sign ≡ plus_sign) × A) ⊎ ((sign ≡ hyphen_minus) × B) → is_ascii_digit sign ≡ false
 sign_no_digit sign A B h = elim h [ inl a ↦ ap is_ascii_digit a.0 | inr a ↦ ap is_ascii_digit a.0 ]
 
-sign_no_point : (sign : ℕ) (A B : Type 0) → ((sign ≡ 43) × A) ⊎ ((sign ≡ 45) × B) → (sign == 46) ≡ false
-sign_no_point sign A B h = elim h [ inl a ↦ ap (λ y. y == 46) a.0 | inr a ↦ ap (λ y. y == 46) a.0 ]
+sign_no_point : (sign : ℕ) (A B : Type 0) → ((sign ≡ plus_sign) × A) ⊎ ((sign ≡ hyphen_minus) × B) → (sign == full_stop) ≡ false
+sign_no_point sign A B h = elim h [ inl a ↦ ap (λ y. y == full_stop) a.0 | inr a ↦ ap (λ y. y == full_stop) a.0 ]
 
 numeric_head : (zone : List ℕ) (z : ℤ) → IsNumericOffset zone z → ZoneHead zone
-numeric_head zone z h = record { first = h.sign; others = two h.hour ++ 58 ∷ two h.minute; is = h.is; digit = sign_no_digit h.sign _ _ h.is_offset; point = sign_no_point h.sign _ _ h.is_offset }
+numeric_head zone z h = record { first = h.sign; others = two h.hour ++ colon ∷ two h.minute; is = h.is; digit = sign_no_digit h.sign _ _ h.is_offset; point = sign_no_point h.sign _ _ h.is_offset }
 
 -- the zones that a reader takes
 abbrev pub Zones : Bool → List ℕ → ℤ → Type 0
@@ -156,17 +157,17 @@ fraction_again [] zone nanos h k =
     let here : second_fraction_at (k.first ∷ k.others) ≡ Some (0, k.first ∷ k.others) = rw no_point refl in
     ap second_fraction_at k.is ∙ here ∙ ap (λ (n : ℕ). Some (n, k.first ∷ k.others)) (sym h) ∙ ap (λ (t : List ℕ). Some (nanos, t)) (sym k.is)
 fraction_again (x ∷ ds) zone nanos h k =
-    let point : (x == 46) ≡ true = eq-eqb x 46 h.0 in
+    let point : (x == full_stop) ≡ true = eq-eqb x full_stop h.0 in
     let no_digit : NoDigit zone = subst NoDigit (sym k.is) k.digit in
     rw point (some_nanos_again ds zone h.1 h.2 no_digit ∙ ap (λ (n : ℕ). Some (n, zone)) (sym h.3))
 
 -- ---- zones
 
-offset_again : (hour minute : ℕ) → hour < 24 → minute < 60 → offset_at (two hour ++ 58 ∷ two minute) ≡ Some (hour * 3600 + minute * 60)
+offset_again : (hour minute : ℕ) → hour < 24 → minute < 60 → offset_at (two hour ++ colon ∷ two minute) ≡ Some (hour * 3600 + minute * 60)
 unfolding offset_at
 offset_again hour minute h m =
-    let a : two_at (two hour ++ 58 ∷ two minute) ≡ Some (hour, 58 ∷ two minute) = two_again hour (58 ∷ two minute) (omega arith) in
-    let b : next_at 58 (58 ∷ two minute) ≡ Some (minute, []) = next_again 58 minute [] refl (omega arith) in
+    let a : two_at (two hour ++ colon ∷ two minute) ≡ Some (hour, colon ∷ two minute) = two_again hour (colon ∷ two minute) (omega arith) in
+    let b : next_at colon (colon ∷ two minute) ≡ Some (minute, []) = next_again colon minute [] refl (omega arith) in
     let c : nat_lt hour 24 ≡ true = lt-ltb _ _ h in
     let d : nat_lt minute 60 ≡ true = lt-ltb _ _ m in
     rw (a, b, c, d) refl
@@ -178,18 +179,18 @@ zulu_again offsets zone z h = elim h.0 [
   | inr a ↦ ap (zone_of offsets) a ∙ ap (λ (y : ℤ). Some y) (sym h.1)
 ]
 
-plus_again : (t : List ℕ) (n : ℕ) → offset_at t ≡ Some n → zone_of true (43 ∷ t) ≡ Some (pos n)
+plus_again : (t : List ℕ) (n : ℕ) → offset_at t ≡ Some n → zone_of true (plus_sign ∷ t) ≡ Some (pos n)
 unfolding zone_of
 plus_again t n e = rw e refl
 
-minus_again : (t : List ℕ) (n : ℕ) → offset_at t ≡ Some n → zone_of true (45 ∷ t) ≡ Some (neg_ℤ (pos n))
+minus_again : (t : List ℕ) (n : ℕ) → offset_at t ≡ Some n → zone_of true (hyphen_minus ∷ t) ≡ Some (neg_ℤ (pos n))
 unfolding zone_of
 minus_again t n e = rw e refl
 
 numeric_again : (zone : List ℕ) (z : ℤ) → IsNumericOffset zone z → zone_of true zone ≡ Some z
 numeric_again zone z h =
     let e = offset_again h.hour h.minute h.is_hour h.is_minute in
-    let t : List ℕ = two h.hour ++ 58 ∷ two h.minute in
+    let t : List ℕ = two h.hour ++ colon ∷ two h.minute in
     elim h.is_offset [
       | inl a ↦ ap (zone_of true) (h.is ∙ ap (λ (s : ℕ). s ∷ t) a.0) ∙ plus_again t _ e ∙ ap (λ (y : ℤ). Some y) (sym a.1)
       | inr a ↦ ap (zone_of true) (h.is ∙ ap (λ (s : ℕ). s ∷ t) a.0) ∙ minus_again t _ e ∙ ap (λ (y : ℤ). Some y) (sym a.1)
@@ -221,7 +222,7 @@ clock_is h m s a b c =
 abbrev a_moment : ℤ → ℕ → Option Moment
 a_moment s n = Some (record { seconds = s; nanos = n })
 
-spelled_again : (offsets : Bool) (l : LocalTime) (mark : ℕ) (fraction zone : List ℕ) (nanos : ℕ) (z : ℤ) → Exists l → (mark ≡ 84) ⊎ (mark ≡ 116) → IsSecondFraction fraction nanos → Zones offsets zone z
+spelled_again : (offsets : Bool) (l : LocalTime) (mark : ℕ) (fraction zone : List ℕ) (nanos : ℕ) (z : ℤ) → Exists l → (mark ≡ capital_t) ⊎ (mark ≡ small_t) → IsSecondFraction fraction nanos → Zones offsets zone z
     → moment_at offsets (spelled l mark (fraction ++ zone)) ≡ a_moment (seconds_of l -ℤ z) nanos
 unfolding moment_at
 spelled_again offsets l mark fraction zone nanos z h m f k =

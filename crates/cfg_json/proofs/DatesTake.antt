@@ -7,9 +7,10 @@ use Rattle.jiff_core.proofs.CalendarLemmas.{days_in_month_bounds}
 use Rattle.std.proofs.lemmas.Bool.{and_parts, eqb-true, eqb-false, or_cases}
 use Rattle.std.proofs.lemmas.Str.{IsAscii-append, chars-IsAscii, encodes-IsAscii}
 use borrow.Author.Tests.{ltb-true, leb-true}
-use Rattle.cfg_types.specs.Moment.{Moment}
-use Rattle.cfg_types.specs.Text.{characters}
-use Rattle.cfg_types.proofs.TextLemmas.{characters-chars, characters-encodes, encodes-chars}
+use Rattle.cfg_values.specs.Moment.{Moment}
+use Rattle.cfg_values.specs.Text.{characters}
+use Rattle.cfg_values.proofs.TextLemmas.{characters-chars, characters-encodes, encodes-chars}
+use Rattle.cfg_json.specs.Ascii.{plus_sign, hyphen_minus, full_stop, digit_zero, digit_nine, colon, capital_t, capital_z, small_t, small_z}
 use Rattle.cfg_json.specs.Reads.{◌>>=◌}
 use Rattle.cfg_json.specs.Numbers.{AllDigits}
 use Rattle.cfg_json.specs.Reading.{mark_at}
@@ -21,13 +22,13 @@ use Rattle.cfg_json.proofs.WhiteSpaceLaws.{mark_takes}
 use Rattle.cfg_json.proofs.NumberLaws.{cons_ascii, nil_ascii, some_ascii}
 use Rattle.cfg_json.proofs.DatesAgain.{Lasts, Zones, moment_again}
 
-digit_takes : (c n : ℕ) → digit c ≡ given n → (c ≡ 48 + n) × (n < 10)
+digit_takes : (c n : ℕ) → digit c ≡ given n → (c ≡ digit_zero + n) × (n < 10)
 digit_takes c n e =
-    let t = tested (nat_le 48 c && nat_le c 57) (c - 48) n e in
+    let t = tested (nat_le digit_zero c && nat_le c digit_nine) (c - digit_zero) n e in
     let b = and_parts _ _ t.0 in
-    let low : 48 ≤ c = leb-true _ _ b.0 in
-    let high : c ≤ 57 = leb-true _ _ b.1 in
-    let is : c - 48 ≡ n = t.1 in
+    let low : digit_zero ≤ c = leb-true _ _ b.0 in
+    let high : c ≤ digit_nine = leb-true _ _ b.1 in
+    let is : c - digit_zero ≡ n = t.1 in
     (omega arith, omega arith)
 
 abbrev Field : Type 0
@@ -43,9 +44,9 @@ two_takes (a ∷ b ∷ t) p e =
     let made : Field = (x.0 * 10 + y.0, t) in
     let da = digit_takes a x.0 x.1 in
     let db = digit_takes b y.0 y.1 in
-    let ea : a ≡ 48 + (x.0 * 10 + y.0) / 10 = omega (arith, da.0, da.1, db.1) in
-    let eb : b ≡ 48 + (x.0 * 10 + y.0) % 10 = omega (arith, db.0, da.1, db.1) in
-    subst (λ (q : Field). (a ∷ b ∷ t ≡ two q.0 ++ q.1) × (q.0 < 100)) (given_is made p y.2) (ap (λ (z : ℕ). z ∷ b ∷ t) ea ∙ ap (λ (z : ℕ). (48 + (x.0 * 10 + y.0) / 10) ∷ z ∷ t) eb, omega (arith, da.1, db.1))
+    let ea : a ≡ digit_zero + (x.0 * 10 + y.0) / 10 = omega (arith, da.0, da.1, db.1) in
+    let eb : b ≡ digit_zero + (x.0 * 10 + y.0) % 10 = omega (arith, db.0, da.1, db.1) in
+    subst (λ (q : Field). (a ∷ b ∷ t ≡ two q.0 ++ q.1) × (q.0 < 100)) (given_is made p y.2) (ap (λ (z : ℕ). z ∷ b ∷ t) ea ∙ ap (λ (z : ℕ). (digit_zero + (x.0 * 10 + y.0) / 10) ∷ z ∷ t) eb, omega (arith, da.1, db.1))
 
 four_takes : (t : List ℕ) (p : Field) → four_at t ≡ given p → t ≡ four p.0 ++ p.1
 unfolding four_at
@@ -70,55 +71,55 @@ next_takes c t p e =
 record Mark (t r : List ℕ) : Type 0 where
   mark : ℕ
   is : t ≡ mark ∷ r
-  is_mark : (mark ≡ 84) ⊎ (mark ≡ 116)
+  is_mark : (mark ≡ capital_t) ⊎ (mark ≡ small_t)
 
-mark_is : (t r : List ℕ) → either_at 84 116 t ≡ given r → Mark t r
+mark_is : (t r : List ℕ) → either_at capital_t small_t t ≡ given r → Mark t r
 unfolding either_at
 mark_is [] r e = absurd (none_is r e)
 mark_is (x ∷ t) r e =
-    let w = tested ((x == 84) || (x == 116)) t r e in
-    record { mark = x; is = ap (λ (y : List ℕ). x ∷ y) w.1; is_mark = elim (or_cases _ _ w.0) [ inl a ↦ inl (eqb-true x 84 a) | inr a ↦ inr (eqb-true x 116 a) ] }
+    let w = tested ((x == capital_t) || (x == small_t)) t r e in
+    record { mark = x; is = ap (λ (y : List ℕ). x ∷ y) w.1; is_mark = elim (or_cases _ _ w.0) [ inl a ↦ inl (eqb-true x capital_t a) | inr a ↦ inr (eqb-true x small_t a) ] }
 
 abbrev ReadLocal : Type 0
 ReadLocal = LocalTime × List ℕ
 
 abbrev LocalFront : List ℕ → LocalTime → List ℕ → Type 0
-LocalFront t l rest = (mark : ℕ) × (t ≡ spelled l mark rest) × ((mark ≡ 84) ⊎ (mark ≡ 116))
+LocalFront t l rest = (mark : ℕ) × (t ≡ spelled l mark rest) × ((mark ≡ capital_t) ⊎ (mark ≡ small_t))
 
-day_takes : (t : List ℕ) (p : ReadThree) → day_at t ≡ given p → t ≡ four p.0.0 ++ (45 ∷ (two p.0.1 ++ (45 ∷ (two p.0.2 ++ p.1))))
+day_takes : (t : List ℕ) (p : ReadThree) → day_at t ≡ given p → t ≡ four p.0.0 ++ (hyphen_minus ∷ (two p.0.1 ++ (hyphen_minus ∷ (two p.0.2 ++ p.1))))
 unfolding day_at
 day_takes t p e =
-    let y = bind_some (four_at t) (λ y. next_at 45 y.1 >>= λ m. next_at 45 m.1 >>= λ d. three_read y.0 m.0 d.0 d.1) p e in
-    let m = bind_some (next_at 45 y.0.1) (λ m. next_at 45 m.1 >>= λ d. three_read y.0.0 m.0 d.0 d.1) p y.2 in
-    let d = bind_some (next_at 45 m.0.1) (λ d. three_read y.0.0 m.0.0 d.0 d.1) p m.2 in
+    let y = bind_some (four_at t) (λ y. next_at hyphen_minus y.1 >>= λ m. next_at hyphen_minus m.1 >>= λ d. three_read y.0 m.0 d.0 d.1) p e in
+    let m = bind_some (next_at hyphen_minus y.0.1) (λ m. next_at hyphen_minus m.1 >>= λ d. three_read y.0.0 m.0 d.0 d.1) p y.2 in
+    let d = bind_some (next_at hyphen_minus m.0.1) (λ d. three_read y.0.0 m.0.0 d.0 d.1) p m.2 in
     let made : ReadThree = ((y.0.0, m.0.0, d.0.0), d.0.1) in
-    let text : t ≡ four y.0.0 ++ (45 ∷ (two m.0.0 ++ (45 ∷ (two d.0.0 ++ d.0.1)))) =
-    four_takes t y.0 y.1 ∙ ap (λ (z : List ℕ). four y.0.0 ++ z) (next_takes 45 y.0.1 m.0 m.1 ∙ ap (λ (z : List ℕ). 45 ∷ (two m.0.0 ++ z)) (next_takes 45 m.0.1 d.0 d.1)) in
-    subst (λ (q : ReadThree). t ≡ four q.0.0 ++ (45 ∷ (two q.0.1 ++ (45 ∷ (two q.0.2 ++ q.1))))) (given_is made p d.2) text
+    let text : t ≡ four y.0.0 ++ (hyphen_minus ∷ (two m.0.0 ++ (hyphen_minus ∷ (two d.0.0 ++ d.0.1)))) =
+    four_takes t y.0 y.1 ∙ ap (λ (z : List ℕ). four y.0.0 ++ z) (next_takes hyphen_minus y.0.1 m.0 m.1 ∙ ap (λ (z : List ℕ). hyphen_minus ∷ (two m.0.0 ++ z)) (next_takes hyphen_minus m.0.1 d.0 d.1)) in
+    subst (λ (q : ReadThree). t ≡ four q.0.0 ++ (hyphen_minus ∷ (two q.0.1 ++ (hyphen_minus ∷ (two q.0.2 ++ q.1))))) (given_is made p d.2) text
 
-clock_takes : (t : List ℕ) (p : ReadThree) → clock_at t ≡ given p → t ≡ two p.0.0 ++ (58 ∷ (two p.0.1 ++ (58 ∷ (two p.0.2 ++ p.1))))
+clock_takes : (t : List ℕ) (p : ReadThree) → clock_at t ≡ given p → t ≡ two p.0.0 ++ (colon ∷ (two p.0.1 ++ (colon ∷ (two p.0.2 ++ p.1))))
 unfolding clock_at
 clock_takes t p e =
-    let h = bind_some (two_at t) (λ h. next_at 58 h.1 >>= λ m. next_at 58 m.1 >>= λ s. three_read h.0 m.0 s.0 s.1) p e in
-    let m = bind_some (next_at 58 h.0.1) (λ m. next_at 58 m.1 >>= λ s. three_read h.0.0 m.0 s.0 s.1) p h.2 in
-    let s = bind_some (next_at 58 m.0.1) (λ s. three_read h.0.0 m.0.0 s.0 s.1) p m.2 in
+    let h = bind_some (two_at t) (λ h. next_at colon h.1 >>= λ m. next_at colon m.1 >>= λ s. three_read h.0 m.0 s.0 s.1) p e in
+    let m = bind_some (next_at colon h.0.1) (λ m. next_at colon m.1 >>= λ s. three_read h.0.0 m.0 s.0 s.1) p h.2 in
+    let s = bind_some (next_at colon m.0.1) (λ s. three_read h.0.0 m.0.0 s.0 s.1) p m.2 in
     let made : ReadThree = ((h.0.0, m.0.0, s.0.0), s.0.1) in
-    let text : t ≡ two h.0.0 ++ (58 ∷ (two m.0.0 ++ (58 ∷ (two s.0.0 ++ s.0.1)))) =
-    (two_takes t h.0 h.1).0 ∙ ap (λ (z : List ℕ). two h.0.0 ++ z) (next_takes 58 h.0.1 m.0 m.1 ∙ ap (λ (z : List ℕ). 58 ∷ (two m.0.0 ++ z)) (next_takes 58 m.0.1 s.0 s.1)) in
-    subst (λ (q : ReadThree). t ≡ two q.0.0 ++ (58 ∷ (two q.0.1 ++ (58 ∷ (two q.0.2 ++ q.1))))) (given_is made p s.2) text
+    let text : t ≡ two h.0.0 ++ (colon ∷ (two m.0.0 ++ (colon ∷ (two s.0.0 ++ s.0.1)))) =
+    (two_takes t h.0 h.1).0 ∙ ap (λ (z : List ℕ). two h.0.0 ++ z) (next_takes colon h.0.1 m.0 m.1 ∙ ap (λ (z : List ℕ). colon ∷ (two m.0.0 ++ z)) (next_takes colon m.0.1 s.0 s.1)) in
+    subst (λ (q : ReadThree). t ≡ two q.0.0 ++ (colon ∷ (two q.0.1 ++ (colon ∷ (two q.0.2 ++ q.1))))) (given_is made p s.2) text
 
 abbrev local_of : ℕ × ℕ × ℕ → ℕ × ℕ × ℕ → LocalTime
 local_of d c = record { year = d.0; month = d.1; day = d.2; hour = c.0; minute = c.1; second = c.2 }
 
-local_from : (t : List ℕ) (d c : ReadThree) (k : List ℕ) (m : Mark d.1 k) → t ≡ four d.0.0 ++ (45 ∷ (two d.0.1 ++ (45 ∷ (two d.0.2 ++ d.1)))) → k ≡ two c.0.0 ++ (58 ∷ (two c.0.1 ++ (58 ∷ (two c.0.2 ++ c.1)))) → LocalFront t (local_of d.0 c.0) c.1
+local_from : (t : List ℕ) (d c : ReadThree) (k : List ℕ) (m : Mark d.1 k) → t ≡ four d.0.0 ++ (hyphen_minus ∷ (two d.0.1 ++ (hyphen_minus ∷ (two d.0.2 ++ d.1)))) → k ≡ two c.0.0 ++ (colon ∷ (two c.0.1 ++ (colon ∷ (two c.0.2 ++ c.1)))) → LocalFront t (local_of d.0 c.0) c.1
 unfolding spelled
-local_from t d c k m a b = (m.mark, a ∙ ap (λ (z : List ℕ). four d.0.0 ++ (45 ∷ (two d.0.1 ++ (45 ∷ (two d.0.2 ++ z))))) (m.is ∙ ap (λ (z : List ℕ). m.mark ∷ z) b), m.is_mark)
+local_from t d c k m a b = (m.mark, a ∙ ap (λ (z : List ℕ). four d.0.0 ++ (hyphen_minus ∷ (two d.0.1 ++ (hyphen_minus ∷ (two d.0.2 ++ z))))) (m.is ∙ ap (λ (z : List ℕ). m.mark ∷ z) b), m.is_mark)
 
 local_takes : (t : List ℕ) (p : ReadLocal) → local_at t ≡ given p → LocalFront t p.0 p.1
 unfolding local_at
 local_takes t p e =
-    let d = bind_some (day_at t) (λ d. either_at 84 116 d.1 >>= λ r. clock_at r >>= λ c. Some (local_of d.0 c.0, c.1)) p e in
-    let r = bind_some (either_at 84 116 d.0.1) (λ r. clock_at r >>= λ c. Some (local_of d.0.0 c.0, c.1)) p d.2 in
+    let d = bind_some (day_at t) (λ d. either_at capital_t small_t d.1 >>= λ r. clock_at r >>= λ c. Some (local_of d.0 c.0, c.1)) p e in
+    let r = bind_some (either_at capital_t small_t d.0.1) (λ r. clock_at r >>= λ c. Some (local_of d.0.0 c.0, c.1)) p d.2 in
     let c = bind_some (clock_at r.0) (λ c. Some (local_of d.0.0 c.0, c.1)) p r.2 in
     let made : ReadLocal = (local_of d.0.0 c.0.0, c.0.1) in
     subst (λ (q : ReadLocal). LocalFront t q.0 q.1) (given_is made p c.2) (local_from t d.0 c.0 r.0 (mark_is d.0.1 r.0 r.1) (day_takes t d.0 d.1) (clock_takes r.0 c.0 c.1))
@@ -132,8 +133,8 @@ record Digits (weight : ℕ) (t : List ℕ) (r : ReadNumber) : Type 0 where
   lasts : Lasts weight digits
   value : r.0 ≡ fraction_value weight digits
 
-digit_from : (x d : ℕ) → digit x ≡ given d → (is_ascii_digit x ≡ true) × (d ≡ x - 48)
-digit_from x d e = let t = tested (nat_le 48 x && nat_le x 57) (x - 48) d e in (t.0, sym t.1)
+digit_from : (x d : ℕ) → digit x ≡ given d → (is_ascii_digit x ≡ true) × (d ≡ x - digit_zero)
+digit_from x d e = let t = tested (nat_le digit_zero x && nat_le x digit_nine) (x - digit_zero) d e in (t.0, sym t.1)
 
 no_digits : (weight : ℕ) (t : List ℕ) (r : ReadNumber) → Some (0, t) ≡ given r → Digits weight t r
 unfolding fraction_value
@@ -180,12 +181,12 @@ at_most_nine (a ∷ b ∷ c ∷ d ∷ f ∷ g ∷ i ∷ j ∷ k ∷ l ∷ ds) h 
 abbrev FractionFront : List ℕ → ℕ → List ℕ → Type 0
 FractionFront t nanos rest = (fraction : List ℕ) × (t ≡ fraction ++ rest) × IsSecondFraction fraction nanos
 
-first_value : (x : ℕ) (ds : List ℕ) → fraction_value first_weight (x ∷ ds) ≡ (x - 48) * first_weight + fraction_value (first_weight / 10) ds
+first_value : (x : ℕ) (ds : List ℕ) → fraction_value first_weight (x ∷ ds) ≡ (x - digit_zero) * first_weight + fraction_value (first_weight / 10) ds
 unfolding fraction_value
 first_value x ds = refl
 
 -- digits of which the first was seen have a value, and so are not none
-nanos_take : (t : List ℕ) (r : ReadNumber) → nanos_at t ≡ given r → FractionFront (46 ∷ t) r.0 r.1
+nanos_take : (t : List ℕ) (r : ReadNumber) → nanos_at t ≡ given r → FractionFront (full_stop ∷ t) r.0 r.1
 unfolding nanos_at nanos_from
 nanos_take [] r e = absurd (none_is r e)
 nanos_take (x ∷ t) r e =
@@ -198,15 +199,15 @@ nanos_take (x ∷ t) r e =
     let ds : List ℕ = x ∷ l.digits in
     let lasts : Lasts first_weight ds = ((λ z. omega arith), l.lasts) in
     let value : d.0 * first_weight + p.0.0 ≡ fraction_value first_weight ds = sym (first_value x l.digits ∙ ap (λ (y : ℕ). y * first_weight + fraction_value (first_weight / 10) l.digits) (sym f.1) ∙ ap (λ (y : ℕ). d.0 * first_weight + y) (sym l.value)) in
-    subst (λ (q : ReadNumber). FractionFront (46 ∷ x ∷ t) q.0 q.1) (given_is made r p.2)
-    (46 ∷ ds, ap (λ (y : List ℕ). 46 ∷ x ∷ y) l.is, (refl, (f.0, l.all), at_most_nine ds lasts, value))
+    subst (λ (q : ReadNumber). FractionFront (full_stop ∷ x ∷ t) q.0 q.1) (given_is made r p.2)
+    (full_stop ∷ ds, ap (λ (y : List ℕ). full_stop ∷ x ∷ y) l.is, (refl, (f.0, l.all), at_most_nine ds lasts, value))
 
 fraction_takes : (t : List ℕ) (r : ReadNumber) → second_fraction_at t ≡ given r → FractionFront t r.0 r.1
 unfolding second_fraction_at
 fraction_takes [] r e = let made : ReadNumber = (0, []) in subst (λ (q : ReadNumber). FractionFront [] q.0 q.1) (given_is made r e) ([], refl, refl)
 fraction_takes (x ∷ t) r e =
-    elim (chosen (x == 46) (nanos_at t) (Some (0, x ∷ t)) (given r) e) [
-      | inl w ↦ subst (λ (y : ℕ). FractionFront (y ∷ t) r.0 r.1) (sym (eqb-true x 46 w.0)) (nanos_take t r w.1)
+    elim (chosen (x == full_stop) (nanos_at t) (Some (0, x ∷ t)) (given r) e) [
+      | inl w ↦ subst (λ (y : ℕ). FractionFront (y ∷ t) r.0 r.1) (sym (eqb-true x full_stop w.0)) (nanos_take t r w.1)
       | inr w ↦ (let made : ReadNumber = (0, x ∷ t) in subst (λ (q : ReadNumber). FractionFront (x ∷ t) q.0 q.1) (given_is made r w.1) ([], refl, refl))
     ]
 
@@ -219,7 +220,7 @@ last_takes x (c ∷ r) y e = absurd (none_is y e)
 record Offset (t : List ℕ) (n : ℕ) : Type 0 where
   hour : ℕ
   minute : ℕ
-  is : t ≡ two hour ++ 58 ∷ two minute
+  is : t ≡ two hour ++ colon ∷ two minute
   is_hour : hour < 24
   is_minute : minute < 60
   value : n ≡ hour * 3600 + minute * 60
@@ -231,33 +232,33 @@ nil_right (x ∷ t) = ap (λ (y : List ℕ). x ∷ y) (nil_right t)
 offset_takes : (t : List ℕ) (n : ℕ) → offset_at t ≡ given n → Offset t n
 unfolding offset_at
 offset_takes t n e =
-    let h = bind_some (two_at t) (λ h. next_at 58 h.1 >>= λ m. if_last m.0 m.1 >>= λ n. cond (nat_lt h.0 24 && nat_lt n 60) (given (h.0 * 3600 + n * 60)) nothing) n e in
-    let m = bind_some (next_at 58 h.0.1) (λ m. if_last m.0 m.1 >>= λ n. cond (nat_lt h.0.0 24 && nat_lt n 60) (given (h.0.0 * 3600 + n * 60)) nothing) n h.2 in
+    let h = bind_some (two_at t) (λ h. next_at colon h.1 >>= λ m. if_last m.0 m.1 >>= λ n. cond (nat_lt h.0 24 && nat_lt n 60) (given (h.0 * 3600 + n * 60)) nothing) n e in
+    let m = bind_some (next_at colon h.0.1) (λ m. if_last m.0 m.1 >>= λ n. cond (nat_lt h.0.0 24 && nat_lt n 60) (given (h.0.0 * 3600 + n * 60)) nothing) n h.2 in
     let l = bind_some (if_last m.0.0 m.0.1) (λ n. cond (nat_lt h.0.0 24 && nat_lt n 60) (given (h.0.0 * 3600 + n * 60)) nothing) n m.2 in
     let w = tested (nat_lt h.0.0 24 && nat_lt l.0 60) (h.0.0 * 3600 + l.0 * 60) n l.2 in
     let b = and_parts _ _ w.0 in
     let last = last_takes m.0.0 m.0.1 l.0 l.1 in
-    let tail : h.0.1 ≡ 58 ∷ two l.0 = next_takes 58 h.0.1 m.0 m.1 ∙ ap (λ (y : List ℕ). 58 ∷ (two m.0.0 ++ y)) last.0 ∙ ap (λ (y : List ℕ). 58 ∷ y) (nil_right (two m.0.0)) ∙ ap (λ (y : ℕ). 58 ∷ two y) last.1 in
+    let tail : h.0.1 ≡ colon ∷ two l.0 = next_takes colon h.0.1 m.0 m.1 ∙ ap (λ (y : List ℕ). colon ∷ (two m.0.0 ++ y)) last.0 ∙ ap (λ (y : List ℕ). colon ∷ y) (nil_right (two m.0.0)) ∙ ap (λ (y : ℕ). colon ∷ two y) last.1 in
     record { hour = h.0.0; minute = l.0; is = (two_takes t h.0 h.1).0 ∙ ap (λ (y : List ℕ). two h.0.0 ++ y) tail; is_hour = ltb-true _ _ b.0; is_minute = ltb-true _ _ b.1; value = sym w.1 }
 
-plus_takes : (x : ℕ) (t : List ℕ) (z : ℤ) → x ≡ 43 → (offset_at t >>= λ n. Some (pos n)) ≡ given z → IsNumericOffset (x ∷ t) z
+plus_takes : (x : ℕ) (t : List ℕ) (z : ℤ) → x ≡ plus_sign → (offset_at t >>= λ n. Some (pos n)) ≡ given z → IsNumericOffset (x ∷ t) z
 plus_takes x t z s e =
     let p = bind_some (offset_at t) (λ n. Some (pos n)) z e in
     let o = offset_takes t p.0 p.1 in
     record { sign = x; hour = o.hour; minute = o.minute; is = ap (λ (y : List ℕ). x ∷ y) o.is; is_hour = o.is_hour; is_minute = o.is_minute; is_offset = inl (s, sym (given_is (pos p.0) z p.2) ∙ ap pos o.value) }
 
-minus_takes : (x : ℕ) (t : List ℕ) (z : ℤ) → x ≡ 45 → (offset_at t >>= λ n. Some (neg_ℤ (pos n))) ≡ given z → IsNumericOffset (x ∷ t) z
+minus_takes : (x : ℕ) (t : List ℕ) (z : ℤ) → x ≡ hyphen_minus → (offset_at t >>= λ n. Some (neg_ℤ (pos n))) ≡ given z → IsNumericOffset (x ∷ t) z
 minus_takes x t z s e =
     let p = bind_some (offset_at t) (λ n. Some (neg_ℤ (pos n))) z e in
     let o = offset_takes t p.0 p.1 in
     record { sign = x; hour = o.hour; minute = o.minute; is = ap (λ (y : List ℕ). x ∷ y) o.is; is_hour = o.is_hour; is_minute = o.is_minute; is_offset = inr (s, sym (given_is (neg_ℤ (pos p.0)) z p.2) ∙ ap (λ (n : ℕ). neg_ℤ (pos n)) o.value) }
 
-zulu_takes : (x : ℕ) (t : List ℕ) (z : ℤ) → ((x == 90) || (x == 122)) ≡ true → if_last (pos 0) t ≡ given z → IsZulu (x ∷ t) z
+zulu_takes : (x : ℕ) (t : List ℕ) (z : ℤ) → ((x == capital_z) || (x == small_z)) ≡ true → if_last (pos 0) t ≡ given z → IsZulu (x ∷ t) z
 zulu_takes x t z k e =
     let l = last_takes (pos 0) t z e in (
       elim (or_cases _ _ k) [
-        | inl a ↦ inl (ap (λ (y : ℕ). y ∷ t) (eqb-true x 90 a) ∙ ap (λ (y : List ℕ). 90 ∷ y) l.0)
-        | inr a ↦ inr (ap (λ (y : ℕ). y ∷ t) (eqb-true x 122 a) ∙ ap (λ (y : List ℕ). 122 ∷ y) l.0)
+        | inl a ↦ inl (ap (λ (y : ℕ). y ∷ t) (eqb-true x capital_z a) ∙ ap (λ (y : List ℕ). capital_z ∷ y) l.0)
+        | inr a ↦ inr (ap (λ (y : ℕ). y ∷ t) (eqb-true x small_z a) ∙ ap (λ (y : List ℕ). small_z ∷ y) l.0)
       ],
       sym l.1,
     )
@@ -274,12 +275,12 @@ zone_takes : (offsets : Bool) (t : List ℕ) (z : ℤ) → zone_of offsets t ≡
 unfolding zone_of
 zone_takes offsets [] z e = absurd (none_is z e)
 zone_takes offsets (x ∷ t) z e =
-    elim (chosen ((x == 90) || (x == 122)) (if_last (pos 0) t) (cond (offsets && x == 43) (offset_at t >>= λ n. Some (pos n)) (cond (offsets && x == 45) (offset_at t >>= λ n. Some (neg_ℤ (pos n))) nothing)) (given z) e) [
+    elim (chosen ((x == capital_z) || (x == small_z)) (if_last (pos 0) t) (cond (offsets && x == plus_sign) (offset_at t >>= λ n. Some (pos n)) (cond (offsets && x == hyphen_minus) (offset_at t >>= λ n. Some (neg_ℤ (pos n))) nothing)) (given z) e) [
       | inl w ↦ zulu_zone offsets (x ∷ t) z (zulu_takes x t z w.0 w.1)
-      | inr w ↦ (elim (chosen (offsets && x == 43) (offset_at t >>= λ n. Some (pos n)) (cond (offsets && x == 45) (offset_at t >>= λ n. Some (neg_ℤ (pos n))) nothing) (given z) w.1) [
-        | inl v ↦ (let b = and_parts offsets (x == 43) v.0 in numeric_zone offsets (x ∷ t) z b.0 (plus_takes x t z (eqb-true x 43 b.1) v.1))
-        | inr v ↦ (elim (chosen (offsets && x == 45) (offset_at t >>= λ n. Some (neg_ℤ (pos n))) nothing (given z) v.1) [
-          | inl u ↦ (let b = and_parts offsets (x == 45) u.0 in numeric_zone offsets (x ∷ t) z b.0 (minus_takes x t z (eqb-true x 45 b.1) u.1))
+      | inr w ↦ (elim (chosen (offsets && x == plus_sign) (offset_at t >>= λ n. Some (pos n)) (cond (offsets && x == hyphen_minus) (offset_at t >>= λ n. Some (neg_ℤ (pos n))) nothing) (given z) w.1) [
+        | inl v ↦ (let b = and_parts offsets (x == plus_sign) v.0 in numeric_zone offsets (x ∷ t) z b.0 (plus_takes x t z (eqb-true x plus_sign b.1) v.1))
+        | inr v ↦ (elim (chosen (offsets && x == hyphen_minus) (offset_at t >>= λ n. Some (neg_ℤ (pos n))) nothing (given z) v.1) [
+          | inl u ↦ (let b = and_parts offsets (x == hyphen_minus) u.0 in numeric_zone offsets (x ∷ t) z b.0 (minus_takes x t z (eqb-true x hyphen_minus b.1) u.1))
           | inr u ↦ absurd (none_is z u.1)
         ])
       ])
@@ -349,7 +350,7 @@ then : (s t : List ℕ) → IsAscii s → Ascii t → Ascii (s ++ t)
 then s t a h = record { is = IsAscii-append s t a h.is }
 
 two_more : (n : ℕ) (t : List ℕ) → n < 100 → Ascii t → Ascii (two n ++ t)
-two_more n t lt h = one_more (48 + n / 10) _ (omega arith) (one_more (48 + n % 10) t (omega arith) h)
+two_more n t lt h = one_more (digit_zero + n / 10) _ (omega arith) (one_more (digit_zero + n % 10) t (omega arith) h)
 
 spelled_ascii : (l : LocalTime) (mark : ℕ) (t : List ℕ) → Exists l → mark < 128 → Ascii t → Ascii (spelled l mark t)
 unfolding spelled
@@ -357,11 +358,11 @@ spelled_ascii l mark t h m a =
     let y : l.year ≤ 9999 = h.date.year_to in
     let f : l.year / 100 < 100 = omega arith in
     let g : l.year % 100 < 100 = omega arith in
-    two_more (l.year / 100) _ f (two_more (l.year % 100) _ g (one_more 45 _ (omega arith) (two_more l.month _ (omega (arith, h.date.month_to)) (one_more 45 _ (omega arith)
-    (two_more l.day _ (omega (arith, h.date.day_to, days_in_month_bounds (pos l.year) l.month)) (one_more mark _ m (two_more l.hour _ (omega (arith, h.hour)) (one_more 58 _ (omega arith) (two_more l.minute _ (omega (arith, h.minute))
-    (one_more 58 _ (omega arith) (two_more l.second t (omega (arith, h.second)) a)))))))))))
+    two_more (l.year / 100) _ f (two_more (l.year % 100) _ g (one_more hyphen_minus _ (omega arith) (two_more l.month _ (omega (arith, h.date.month_to)) (one_more hyphen_minus _ (omega arith)
+    (two_more l.day _ (omega (arith, h.date.day_to, days_in_month_bounds (pos l.year) l.month)) (one_more mark _ m (two_more l.hour _ (omega (arith, h.hour)) (one_more colon _ (omega arith) (two_more l.minute _ (omega (arith, h.minute))
+    (one_more colon _ (omega arith) (two_more l.second t (omega (arith, h.second)) a)))))))))))
 
-mark_small : (mark : ℕ) → (mark ≡ 84) ⊎ (mark ≡ 116) → mark < 128
+mark_small : (mark : ℕ) → (mark ≡ capital_t) ⊎ (mark ≡ small_t) → mark < 128
 mark_small mark h = elim h [ inl a ↦ omega (arith, a) | inr a ↦ omega (arith, a) ]
 
 fraction_ascii : (fraction : List ℕ) (nanos : ℕ) → IsSecondFraction fraction nanos → IsAscii fraction
@@ -369,14 +370,14 @@ fraction_ascii [] nanos h = nil_ascii
 fraction_ascii (x ∷ ds) nanos h = cons_ascii x ds (omega (arith, h.0)) (some_ascii ds h.1)
 
 zulu_ascii : (zone : List ℕ) (z : ℤ) → IsZulu zone z → Ascii zone
-zulu_ascii zone z h = elim h.0 [ inl a ↦ subst Ascii (sym a) (one_more 90 [] (omega arith) none) | inr a ↦ subst Ascii (sym a) (one_more 122 [] (omega arith) none) ]
+zulu_ascii zone z h = elim h.0 [ inl a ↦ subst Ascii (sym a) (one_more capital_z [] (omega arith) none) | inr a ↦ subst Ascii (sym a) (one_more small_z [] (omega arith) none) ]
 
-sign_small : (sign : ℕ) (A B : Type 0) → ((sign ≡ 43) × A) ⊎ ((sign ≡ 45) × B) → sign < 128
+sign_small : (sign : ℕ) (A B : Type 0) → ((sign ≡ plus_sign) × A) ⊎ ((sign ≡ hyphen_minus) × B) → sign < 128
 sign_small sign A B h = elim h [ inl a ↦ omega (arith, a.0) | inr a ↦ omega (arith, a.0) ]
 
 numeric_ascii : (zone : List ℕ) (z : ℤ) → IsNumericOffset zone z → Ascii zone
 numeric_ascii zone z h =
-    subst Ascii (sym h.is) (one_more h.sign _ (sign_small h.sign _ _ h.is_offset) (two_more h.hour _ (omega (arith, h.is_hour)) (one_more 58 _ (omega arith)
+    subst Ascii (sym h.is) (one_more h.sign _ (sign_small h.sign _ _ h.is_offset) (two_more h.hour _ (omega (arith, h.is_hour)) (one_more colon _ (omega arith)
     (subst Ascii (nil_right (two h.minute)) (two_more h.minute [] (omega (arith, h.is_minute)) none)))))
 
 zone_ascii : (offsets : Bool) (zone : List ℕ) (z : ℤ) → Zones offsets zone z → Ascii zone

@@ -9,9 +9,10 @@ use Rattle.std.proofs.lemmas.Str.{IsUtf8-from_ascii, chars-IsAscii}
 use Rattle.jiff_core.specs.Calendar.{days_from_civil, day_count, days_of_years, days_of_months, IsCivilDate}
 use Rattle.jiff_core.proofs.CalendarLemmas.{days_in_month_bounds, day_count-lt_year, day_count-lt_month, day_count-day, day_count_bounds, days_from_civil-day_count}
 use Rattle.jiff_core.proofs.SignedLemmas.{signed_arith}
-use Rattle.cfg_types.specs.Moment.{Moment}
-use Rattle.cfg_types.specs.Text.{characters}
-use Rattle.cfg_types.proofs.TextLemmas.{characters-chars}
+use Rattle.cfg_values.specs.Moment.{Moment}
+use Rattle.cfg_values.specs.Text.{characters}
+use Rattle.cfg_values.proofs.TextLemmas.{characters-chars}
+use Rattle.cfg_json.specs.Ascii.{full_stop, digit_zero, digit_nine, capital_t, capital_z}
 use Rattle.cfg_json.specs.Numbers.{AllDigits, AreDigits}
 use Rattle.cfg_json.specs.declared.dates.local.LocalTime.{LocalTime}
 use Rattle.cfg_json.specs.Dates.{IsCommonDate, Exists, spelled, seconds_of, fraction_value, first_weight, IsSecondFraction, IsShortFraction, IsDateText, IsOutside, IsWrittenDate}
@@ -36,12 +37,12 @@ before_year_one y m d h lt =
 
 -- ---- zeros at the end
 
-zeros_behind : (x : ℕ) (front : List ℕ) → without_zeros (front ++ 48 ∷ []) ≡ without_zeros front
+zeros_behind : (x : ℕ) (front : List ℕ) → without_zeros (front ++ digit_zero ∷ []) ≡ without_zeros front
 unfolding without_zeros
 zeros_behind x [] = refl
 zeros_behind x (y ∷ front) = ap (drop_zero y) (zeros_behind x front)
 
-other_behind : (x : ℕ) (front : List ℕ) → (x == 48) ≡ false → without_zeros (front ++ x ∷ []) ≡ front ++ x ∷ []
+other_behind : (x : ℕ) (front : List ℕ) → (x == digit_zero) ≡ false → without_zeros (front ++ x ∷ []) ≡ front ++ x ∷ []
 unfolding without_zeros
 other_behind x [] e = rw e refl
 other_behind x (y ∷ front) e = ap (drop_zero y) (other_behind x front e) ∙ kept y front x where
@@ -49,37 +50,37 @@ other_behind x (y ∷ front) e = ap (drop_zero y) (other_behind x front e) ∙ k
   kept y [] x = refl
   kept y (z ∷ front) x = refl
 
-pub zero_off : (rest : List ℕ) (x : ℕ) (front total : List ℕ) → rest ≡ front ++ x ∷ [] → x ≡ 48 → without_zeros rest ≡ total → without_zeros front ≡ total
+pub zero_off : (rest : List ℕ) (x : ℕ) (front total : List ℕ) → rest ≡ front ++ x ∷ [] → x ≡ digit_zero → without_zeros rest ≡ total → without_zeros front ≡ total
 zero_off rest x front total is z so_far = sym (zeros_behind x front) ∙ ap (λ (y : ℕ). without_zeros (front ++ y ∷ [])) (sym z) ∙ sym (ap without_zeros is) ∙ so_far
 
-pub no_zero : (rest : List ℕ) (x : ℕ) (front total : List ℕ) → rest ≡ front ++ x ∷ [] → (x ≡ 48 → ⊥) → without_zeros rest ≡ total → rest ≡ total
-no_zero rest x front total is n so_far = is ∙ sym (other_behind x front (ne_eqb x 48 n)) ∙ sym (ap without_zeros is) ∙ so_far
+pub no_zero : (rest : List ℕ) (x : ℕ) (front total : List ℕ) → rest ≡ front ++ x ∷ [] → (x ≡ digit_zero → ⊥) → without_zeros rest ≡ total → rest ≡ total
+no_zero rest x front total is n so_far = is ∙ sym (other_behind x front (ne_eqb x digit_zero n)) ∙ sym (ap without_zeros is) ∙ so_far
 
 pub none_left : (rest total : List ℕ) → length rest ≡ 0 → without_zeros rest ≡ total → rest ≡ total
 unfolding without_zeros
 none_left rest total e so_far = let n = nil_from_length rest e in n ∙ sym (ap without_zeros n) ∙ so_far
 
-all_dropped : (x : ℕ) (xs : List ℕ) (front : List ℕ) → ((front : List ℕ) → xs ≡ front ++ 48 ∷ [] → ⊥) → drop_zero x xs ≡ front ++ 48 ∷ [] → ⊥
-all_dropped x [] front later e = one x front (x == 48) refl e where
-  nil_end : (front : List ℕ) → [] ≡ front ++ 48 ∷ [] → ⊥
+all_dropped : (x : ℕ) (xs : List ℕ) (front : List ℕ) → ((front : List ℕ) → xs ≡ front ++ digit_zero ∷ [] → ⊥) → drop_zero x xs ≡ front ++ digit_zero ∷ [] → ⊥
+all_dropped x [] front later e = one x front (x == digit_zero) refl e where
+  nil_end : (front : List ℕ) → [] ≡ front ++ digit_zero ∷ [] → ⊥
   nil_end [] e = absurd cc
   nil_end (y ∷ front) e = absurd cc
 
-  head_end : (x : ℕ) (front : List ℕ) → x ∷ [] ≡ front ++ 48 ∷ [] → x ≡ 48
+  head_end : (x : ℕ) (front : List ℕ) → x ∷ [] ≡ front ++ digit_zero ∷ [] → x ≡ digit_zero
   head_end x [] e = cc
-  head_end x (y ∷ front) e = absurd (nil_end front (tail_same x y [] (front ++ 48 ∷ []) e)) where
+  head_end x (y ∷ front) e = absurd (nil_end front (tail_same x y [] (front ++ digit_zero ∷ []) e)) where
     tail_same : (x y : ℕ) (s t : List ℕ) → x ∷ s ≡ y ∷ t → s ≡ t
     tail_same x y s t e = cc
 
-  one : (x : ℕ) (front : List ℕ) (b : Bool) → (x == 48) ≡ b → cond b [] (x ∷ []) ≡ front ++ 48 ∷ [] → ⊥
+  one : (x : ℕ) (front : List ℕ) (b : Bool) → (x == digit_zero) ≡ b → cond b [] (x ∷ []) ≡ front ++ digit_zero ∷ [] → ⊥
   one x front true k e = nil_end front e
-  one x front false k e = eqb-false x 48 k (head_end x front e)
+  one x front false k e = eqb-false x digit_zero k (head_end x front e)
 all_dropped x (y ∷ ys) [] later e = absurd cc
-all_dropped x (y ∷ ys) (z ∷ front) later e = later front (tail_same x z (y ∷ ys) (front ++ 48 ∷ []) e) where
+all_dropped x (y ∷ ys) (z ∷ front) later e = later front (tail_same x z (y ∷ ys) (front ++ digit_zero ∷ []) e) where
   tail_same : (x y : ℕ) (s t : List ℕ) → x ∷ s ≡ y ∷ t → s ≡ t
   tail_same x y s t e = cc
 
-no_zero_ends : (ds front : List ℕ) → without_zeros ds ≡ front ++ 48 ∷ [] → ⊥
+no_zero_ends : (ds front : List ℕ) → without_zeros ds ≡ front ++ digit_zero ∷ [] → ⊥
 unfolding without_zeros
 no_zero_ends [] [] e = absurd cc
 no_zero_ends [] (y ∷ front) e = absurd cc
@@ -87,26 +88,26 @@ no_zero_ends (x ∷ xs) front e = all_dropped x (without_zeros xs) front (no_zer
 
 -- ---- what the digits stand for
 
-value_dropped : (weight x : ℕ) (xs : List ℕ) → fraction_value weight (drop_zero x xs) ≡ (x - 48) * weight + fraction_value (weight / 10) xs
+value_dropped : (weight x : ℕ) (xs : List ℕ) → fraction_value weight (drop_zero x xs) ≡ (x - digit_zero) * weight + fraction_value (weight / 10) xs
 unfolding fraction_value
-value_dropped weight x [] = one weight x (x == 48) refl where
-  one : (weight x : ℕ) (b : Bool) → (x == 48) ≡ b → fraction_value weight (cond b [] (x ∷ [])) ≡ (x - 48) * weight + 0
-  one weight x true k = let z : x - 48 ≡ 0 = omega (arith, eqb-true x 48 k) in sym (rw z (omega arith))
+value_dropped weight x [] = one weight x (x == digit_zero) refl where
+  one : (weight x : ℕ) (b : Bool) → (x == digit_zero) ≡ b → fraction_value weight (cond b [] (x ∷ [])) ≡ (x - digit_zero) * weight + 0
+  one weight x true k = let z : x - digit_zero ≡ 0 = omega (arith, eqb-true x digit_zero k) in sym (rw z (omega arith))
   one weight x false k = refl
 value_dropped weight x (y ∷ ys) = refl
 
 value_kept : (weight : ℕ) (ds : List ℕ) → fraction_value weight (without_zeros ds) ≡ fraction_value weight ds
 unfolding without_zeros fraction_value
 value_kept weight [] = refl
-value_kept weight (x ∷ xs) = value_dropped weight x (without_zeros xs) ∙ ap (λ (n : ℕ). (x - 48) * weight + n) (value_kept (weight / 10) xs)
+value_kept weight (x ∷ xs) = value_dropped weight x (without_zeros xs) ∙ ap (λ (n : ℕ). (x - digit_zero) * weight + n) (value_kept (weight / 10) xs)
 
 three_value : (n : ℕ) → n < 1000 → n / 100 * 100 + (n / 10 % 10 * 10 + n % 10) ≡ n
 three_value n lt = omega arith
 
-off : (x : ℕ) → 48 + x - 48 ≡ x
+off : (x : ℕ) → digit_zero + x - digit_zero ≡ x
 off x = omega arith
 
-nine_cells : (a b c d e f g h i : ℕ) → fraction_value first_weight ((48 + a) ∷ (48 + b) ∷ (48 + c) ∷ (48 + d) ∷ (48 + e) ∷ (48 + f) ∷ (48 + g) ∷ (48 + h) ∷ (48 + i) ∷ [])
+nine_cells : (a b c d e f g h i : ℕ) → fraction_value first_weight ((digit_zero + a) ∷ (digit_zero + b) ∷ (digit_zero + c) ∷ (digit_zero + d) ∷ (digit_zero + e) ∷ (digit_zero + f) ∷ (digit_zero + g) ∷ (digit_zero + h) ∷ (digit_zero + i) ∷ [])
     ≡ a * 100000000 + (b * 10000000 + (c * 1000000 + (d * 100000 + (e * 10000 + (f * 1000 + (g * 100 + (h * 10 + (i * 1 + 0))))))))
 unfolding fraction_value
 nine_cells a b c d e f g h i = rw (off a, off b, off c, off d, off e, off f, off g, off h, off i) refl
@@ -123,8 +124,8 @@ nine_value n lt =
 
 -- ---- the digits
 
-digit_of : (n : ℕ) → n < 10 → is_ascii_digit (48 + n) ≡ true
-digit_of n lt = and_from _ _ (le-leb 48 (48 + n) (omega arith)) (le-leb (48 + n) 57 (omega arith))
+digit_of : (n : ℕ) → n < 10 → is_ascii_digit (digit_zero + n) ≡ true
+digit_of n lt = and_from _ _ (le-leb digit_zero (digit_zero + n) (omega arith)) (le-leb (digit_zero + n) digit_nine (omega arith))
 
 nine_digits : (n : ℕ) → n < 1000000000 → AllDigits (nine n)
 unfolding nine
@@ -167,7 +168,7 @@ kept_digits (x ∷ xs) h = let k = kept_digits xs h.1 in kept x (without_zeros x
   one x n false d = ((d, tt), omega arith)
 
   kept : (x : ℕ) (ys : List ℕ) (n : ℕ) → is_ascii_digit x ≡ true → AllDigits ys → length ys ≤ n → AllDigits (drop_zero x ys) × (length (drop_zero x ys) ≤ suc n)
-  kept x [] n d h le = one x n (x == 48) d
+  kept x [] n d h le = one x n (x == digit_zero) d
   kept x (y ∷ ys) n d h le = ((d, h), omega arith)
 
 some_digits : (ds : List ℕ) (n : ℕ) → 0 < n → fraction_value first_weight ds ≡ n → AllDigits ds → AreDigits ds
@@ -175,15 +176,15 @@ unfolding fraction_value
 some_digits [] n lt e h = absurd (omega (arith, e))
 some_digits (x ∷ ds) n lt e h = h
 
-head_no_zero : (ds front : List ℕ) → ((front : List ℕ) → ds ≡ front ++ 48 ∷ [] → ⊥) → 46 ∷ ds ≡ front ++ 48 ∷ [] → ⊥
-head_no_zero ds [] later e = absurd (omega (arith, head_same 46 48 ds [] e)) where
+head_no_zero : (ds front : List ℕ) → ((front : List ℕ) → ds ≡ front ++ digit_zero ∷ [] → ⊥) → full_stop ∷ ds ≡ front ++ digit_zero ∷ [] → ⊥
+head_no_zero ds [] later e = absurd (omega (arith, head_same full_stop digit_zero ds [] e)) where
   head_same : (x y : ℕ) (s t : List ℕ) → x ∷ s ≡ y ∷ t → x ≡ y
   head_same x y s t e = cc
-head_no_zero ds (y ∷ front) later e = later front (tail_same 46 y ds (front ++ 48 ∷ []) e) where
+head_no_zero ds (y ∷ front) later e = later front (tail_same full_stop y ds (front ++ digit_zero ∷ []) e) where
   tail_same : (x y : ℕ) (s t : List ℕ) → x ∷ s ≡ y ∷ t → s ≡ t
   tail_same x y s t e = cc
 
-some_fraction : (n : ℕ) → 0 < n → n < 1000000000 → IsSecondFraction (46 ∷ without_zeros (nine n)) n
+some_fraction : (n : ℕ) → 0 < n → n < 1000000000 → IsSecondFraction (full_stop ∷ without_zeros (nine n)) n
 some_fraction n pos_ lt =
     let k = kept_digits (nine n) (nine_digits n lt) in
     let value : fraction_value first_weight (without_zeros (nine n)) ≡ n = value_kept first_weight (nine n) ∙ nine_value n lt in
@@ -192,7 +193,7 @@ some_fraction n pos_ lt =
 fraction_is : (n : ℕ) → n < 1000000000 → IsShortFraction (fraction_of n) n
 unfolding fraction_of
 fraction_is n lt = by_zero n lt (n == 0) refl where
-  by_zero : (n : ℕ) → n < 1000000000 → (b : Bool) → (n == 0) ≡ b → IsShortFraction (cond b [] (46 ∷ without_zeros (nine n))) n
+  by_zero : (n : ℕ) → n < 1000000000 → (b : Bool) → (n == 0) ≡ b → IsShortFraction (cond b [] (full_stop ∷ without_zeros (nine n))) n
   by_zero n lt true e = inl (refl, eqb-true n 0 e)
   by_zero n lt false e =
       let above : 0 < n = let z = eqb-false n 0 e in omega arith in
@@ -200,7 +201,7 @@ fraction_is n lt = by_zero n lt (n == 0) refl where
 
 -- ---- the text
 
-text_is : (l : LocalTime) (n : ℕ) → date_text l n ≡ spelled l 84 (fraction_of n ++ 90 ∷ [])
+text_is : (l : LocalTime) (n : ℕ) → date_text l n ≡ spelled l capital_t (fraction_of n ++ capital_z ∷ [])
 unfolding date_text day_text clock_text spelled
 text_is l n = refl
 
@@ -216,9 +217,9 @@ less_zero z = omega (arith, signed_arith)
 pub written_stands : (t : List ℕ) (m : Moment) → IsWrittenDate t m → IsDateText t m
 written_stands t m h = record {
   local = h.local;
-  mark = 84;
+  mark = capital_t;
   fraction = h.fraction;
-  zone = 90 ∷ [];
+  zone = capital_z ∷ [];
   offset = pos 0;
   is = h.is;
   exists = h.exists;

@@ -3,9 +3,9 @@ use Rattle.std.proofs.Common.{◌≡◌, ℕ, suc, ◌+◌, ◌-◌, inl, inr, L
 use Rattle.std.specs.Prelude.{codes}
 use Rattle.std.proofs.lemmas.Bool.{eqb-false, true≢false}
 use Rattle.std.proofs.lemmas.List.{append-nil, take_at, drop_at}
+use Rattle.cfg_json.specs.Ascii.{quotation_mark, comma, left_square_bracket, right_square_bracket, small_f, small_n, small_t, left_curly_bracket, right_curly_bracket}
 use Rattle.cfg_json.specs.WhiteSpace.{IsWhiteSpace}
-use Rattle.cfg_json.specs.Characters.{quote}
-use Rattle.cfg_json.specs.Values.{comma, close_of, IsWord, IsValue, IsItem, AreItems}
+use Rattle.cfg_json.specs.Values.{close_of, IsWord, IsValue, IsItem, AreItems}
 use Rattle.cfg_json.specs.Objects.{inner_depth, IsMemberValue, IsMember, AreMembers, IsObject, HasObject}
 use Rattle.cfg_json.specs.Places.{between}
 use Rattle.cfg_json.specs.declared.member.Member.{Member}
@@ -43,10 +43,10 @@ as_value : (d : ℕ) (v : List ℕ) (b : Bool) → IsValue d v b → Fits d → 
 as_value _ _ _ (IsValue.string d t s h) fits at = (value.Text s, IsMemberValue.text at t s h)
 as_value _ _ _ (IsValue.number d t h) fits at = (value.Number t, IsMemberValue.number at t h)
 as_value _ _ _ (IsValue.word d t h) fits at = (value.Other, IsMemberValue.word at t h)
-as_value _ _ _ (IsValue.no_items d w h) fits at = (value.Array false, IsMemberValue.array at (w ++ 93 ∷ []) false (fits _ _ (IsValue.no_items d w h)))
+as_value _ _ _ (IsValue.no_items d w h) fits at = (value.Array false, IsMemberValue.array at (w ++ right_square_bracket ∷ []) false (fits _ _ (IsValue.no_items d w h)))
 as_value _ _ _ (IsValue.items d t b h) fits at = (value.Array b, IsMemberValue.array at t b (fits _ _ (IsValue.items d t b h)))
-as_value _ _ _ (IsValue.no_members d w h) fits at = (value.Object at (at + length (123 ∷ (w ++ 125 ∷ []))), IsMemberValue.object at (w ++ 125 ∷ []) (fits _ _ (IsValue.no_members d w h)))
-as_value _ _ _ (IsValue.members d t b h) fits at = (value.Object at (at + length (123 ∷ t)), IsMemberValue.object at t (fits _ _ (IsValue.members d t b h)))
+as_value _ _ _ (IsValue.no_members d w h) fits at = (value.Object at (at + length (left_curly_bracket ∷ (w ++ right_curly_bracket ∷ []))), IsMemberValue.object at (w ++ right_curly_bracket ∷ []) (fits _ _ (IsValue.no_members d w h)))
+as_value _ _ _ (IsValue.members d t b h) fits at = (value.Object at (at + length (left_curly_bracket ∷ t)), IsMemberValue.object at t (fits _ _ (IsValue.members d t b h)))
 
 record Bare (d : ℕ) (t : List ℕ) : Type 0 where
   before : List ℕ
@@ -93,24 +93,24 @@ as_members _ _ _ _ (AreItems.more k d v u t b c h hs e) is fits at =
 first_is : (x y : ℕ) (t u : List ℕ) → x ∷ t ≡ y ∷ u → x ≡ y
 first_is x y t u e = cc
 
-no_brace : (x : ℕ) (t u : List ℕ) → (x ≡ 123 → ⊥) → x ∷ t ≡ 123 ∷ u → ⊥
-no_brace x t u other e = other (first_is x 123 t u e)
+no_brace : (x : ℕ) (t u : List ℕ) → (x ≡ left_curly_bracket → ⊥) → x ∷ t ≡ left_curly_bracket ∷ u → ⊥
+no_brace x t u other e = other (first_is x left_curly_bracket t u e)
 
-word_no_brace : (t u : List ℕ) → IsWord t → t ≡ 123 ∷ u → ⊥
+word_no_brace : (t u : List ℕ) → IsWord t → t ≡ left_curly_bracket ∷ u → ⊥
 word_no_brace t u h e = elim h [
-  | inl a ↦ no_brace 116 (codes "rue") u (λ n. omega arith) (sym a ∙ e)
+  | inl a ↦ no_brace small_t (codes "rue") u (λ n. omega arith) (sym a ∙ e)
   | inr b ↦ (elim b [
-    | inl a ↦ no_brace 102 (codes "alse") u (λ n. omega arith) (sym a ∙ e)
-    | inr a ↦ no_brace 110 (codes "ull") u (λ n. omega arith) (sym a ∙ e)
+    | inl a ↦ no_brace small_f (codes "alse") u (λ n. omega arith) (sym a ∙ e)
+    | inr a ↦ no_brace small_n (codes "ull") u (λ n. omega arith) (sym a ∙ e)
   ])
 ]
 
-as_object : (d : ℕ) (t : List ℕ) (b : Bool) → IsValue d t b → (tail : List ℕ) → t ≡ 123 ∷ tail → Fits d → (ms : List Member) × IsObject 0 t ms
-as_object _ _ _ (IsValue.string d t s h) tail e fits = absurd (no_brace quote _ tail (λ n. omega arith) (sym h.is ∙ e))
-as_object _ _ _ (IsValue.number d t h) tail e fits = let k = number_head t h in absurd (no_brace k.first k.others tail (eqb-false k.first 123 (not_number k.first 123 refl refl k.digit)) (sym k.is ∙ e))
+as_object : (d : ℕ) (t : List ℕ) (b : Bool) → IsValue d t b → (tail : List ℕ) → t ≡ left_curly_bracket ∷ tail → Fits d → (ms : List Member) × IsObject 0 t ms
+as_object _ _ _ (IsValue.string d t s h) tail e fits = absurd (no_brace quotation_mark _ tail (λ n. omega arith) (sym h.is ∙ e))
+as_object _ _ _ (IsValue.number d t h) tail e fits = let k = number_head t h in absurd (no_brace k.first k.others tail (eqb-false k.first left_curly_bracket (not_number k.first left_curly_bracket refl refl k.digit)) (sym k.is ∙ e))
 as_object _ _ _ (IsValue.word d t h) tail e fits = absurd (word_no_brace t tail h e)
-as_object _ _ _ (IsValue.no_items d w h) tail e fits = absurd (no_brace 91 _ tail (λ n. omega arith) e)
-as_object _ _ _ (IsValue.items d t b h) tail e fits = absurd (no_brace 91 _ tail (λ n. omega arith) e)
+as_object _ _ _ (IsValue.no_items d w h) tail e fits = absurd (no_brace left_square_bracket _ tail (λ n. omega arith) e)
+as_object _ _ _ (IsValue.items d t b h) tail e fits = absurd (no_brace left_square_bracket _ tail (λ n. omega arith) e)
 as_object _ _ _ (IsValue.no_members d w h) tail e fits = ([], IsObject.empty 0 w _ h refl)
 as_object _ _ _ (IsValue.members d t b h) tail e fits = let ms = as_members true d t b h refl (λ u c v. fits u c (deeper_value d u c v)) 1 in (ms.0, IsObject.members 0 t _ ms.0 ms.1 refl)
 
@@ -120,10 +120,10 @@ record Placed (t : List ℕ) (at from to : ℕ) : Type 0 where
   before : List ℕ
   tail : List ℕ
   after : List ℕ
-  is : t ≡ before ++ ((123 ∷ tail) ++ after)
+  is : t ≡ before ++ ((left_curly_bracket ∷ tail) ++ after)
   begins : from ≡ at + length before
-  ends : to ≡ from + length (123 ∷ tail)
-  is_object : IsValue inner_depth (123 ∷ tail) true
+  ends : to ≡ from + length (left_curly_bracket ∷ tail)
+  is_object : IsValue inner_depth (left_curly_bracket ∷ tail) true
 
 shifted : (at place : ℕ) (front t whole back : List ℕ) (from to : ℕ) → Placed t place from to → whole ≡ front ++ (t ++ back) → place ≡ at + length front → Placed whole at from to
 shifted at place front t whole back from to p e is = record {
@@ -141,8 +141,8 @@ value_placed _ _ _ (IsMemberValue.text at t s h) from to e = absurd cc
 value_placed _ _ _ (IsMemberValue.number at t h) from to e = absurd cc
 value_placed _ _ _ (IsMemberValue.object at t h) from to e =
     let begins : at ≡ from = cc in
-    let ends : at + length (123 ∷ t) ≡ to = cc in
-    record { before = []; tail = t; after = []; is = sym (append-nil (123 ∷ t)); begins = omega (arith, begins); ends = omega (arith, begins, ends); is_object = h }
+    let ends : at + length (left_curly_bracket ∷ t) ≡ to = cc in
+    record { before = []; tail = t; after = []; is = sym (append-nil (left_curly_bracket ∷ t)); begins = omega (arith, begins); ends = omega (arith, begins, ends); is_object = h }
 value_placed _ _ _ (IsMemberValue.array at t b h) from to e = absurd cc
 value_placed _ _ _ (IsMemberValue.word at t h) from to e = absurd cc
 
@@ -166,7 +166,7 @@ first_placed at v t back n m s after from to h e is o =
     shifted at at [] v t back from to (member_placed at v n h from to (ap (λ (x : Member). x.value) (same_member n m s after is) ∙ o)) e (omega arith)
 
 members_placed : (at : ℕ) (t : List ℕ) (ms : List Member) → AreMembers at t ms → (before : List Member) (m : Member) (after : List Member) (from to : ℕ) → ms ≡ before ++ m ∷ after → m.value ≡ value.Object from to → Placed t at from to
-members_placed _ _ _ (AreMembers.last at v t n h e) [] m after from to is o = first_placed at v t (125 ∷ []) n m [] after from to h e is o
+members_placed _ _ _ (AreMembers.last at v t n h e) [] m after from to is o = first_placed at v t (right_curly_bracket ∷ []) n m [] after from to h e is o
 members_placed _ _ _ (AreMembers.last at v t n h e) (b ∷ before) m after from to is o = absurd (no_middle before m after (same_others n b [] (before ++ m ∷ after) is))
 members_placed _ _ _ (AreMembers.more at v u t n ms h hs e) [] m after from to is o = first_placed at v t (comma ∷ u) n m ms after from to h e is o
 members_placed _ _ _ (AreMembers.more at v u t n ms h hs e) (b ∷ before) m after from to is o =
@@ -176,7 +176,7 @@ members_placed _ _ _ (AreMembers.more at v u t n ms h hs e) (b ∷ before) m aft
 object_placed : (at : ℕ) (t : List ℕ) (ms : List Member) → IsObject at t ms → (before : List Member) (m : Member) (after : List Member) (from to : ℕ) → ms ≡ before ++ m ∷ after → m.value ≡ value.Object from to → Placed t at from to
 object_placed _ _ _ (IsObject.empty at w t h e) before m after from to is o = absurd (no_middle before m after is)
 object_placed _ _ _ (IsObject.members at u t ms hs e) before m after from to is o =
-    shifted at (at + 1) (123 ∷ []) u t [] from to (members_placed (at + 1) u ms hs before m after from to is o) (e ∙ ap (λ (y : List ℕ). 123 ∷ y) (sym (append-nil u))) (omega arith)
+    shifted at (at + 1) (left_curly_bracket ∷ []) u t [] from to (members_placed (at + 1) u ms hs before m after from to is o) (e ∙ ap (λ (y : List ℕ). left_curly_bracket ∷ y) (sym (append-nil u))) (omega arith)
 
 -- ---- the law
 
@@ -185,7 +185,7 @@ pub inner_object_is : (bytes : List ℕ) (before after : List Member) (m : Membe
 inner_object_is bytes before after m end from to h o =
     let w : List ℕ = h.white_space in
     let p : Placed bytes 0 from to = shifted 0 (length w) w h.text bytes h.rest from to (object_placed (length w) h.text _ h.object before m after from to refl o) h.is (omega arith) in
-    let text : List ℕ = 123 ∷ p.tail in
+    let text : List ℕ = left_curly_bracket ∷ p.tail in
     let start : length p.before ≡ from = omega (arith, p.begins) in
     let size : length text ≡ to - from = omega (arith, p.ends) in
     let left : drop from bytes ≡ text ++ p.after = ap (drop from) p.is ∙ drop_at p.before (text ++ p.after) from start in

@@ -5,6 +5,7 @@ use Rattle.std.specs.Char.{is_ascii_digit}
 use Rattle.std.specs.Str.{IsAscii}
 use Rattle.std.proofs.lemmas.Bool.{eqb-true, eqb-false, ne_eqb, eq-eqb, or_from, or_left, or_right, or_cases, both_ways, leb-true, and_parts}
 use Rattle.std.proofs.lemmas.Str.{IsAscii-append}
+use Rattle.cfg_json.specs.Ascii.{plus_sign, hyphen_minus, full_stop, digit_zero, digit_nine, capital_e, small_e}
 use Rattle.cfg_json.specs.Numbers.{AllDigits, AreDigits, IsWhole, IsFraction, IsSigned, IsExponent, IsMinus, IsNumber}
 use Rattle.cfg_json.specs.Reads.{◌>>=◌}
 use Rattle.cfg_json.specs.Reading.{after_digits, digits_at, after_minus, after_sign, whole_at, fraction_at, exponent_at, number_at}
@@ -18,14 +19,14 @@ NoDigit (x ∷ t) = is_ascii_digit x ≡ false
 
 abbrev NoPoint : List ℕ → Type 0
 NoPoint [] = Unit {0}
-NoPoint (x ∷ t) = (x == 46) ≡ false
+NoPoint (x ∷ t) = (x == full_stop) ≡ false
 
 abbrev pub is_exponent_mark : ℕ → Bool
-is_exponent_mark x = (x == 101) || (x == 69)
+is_exponent_mark x = (x == small_e) || (x == capital_e)
 
 pub record IsEnd (x : ℕ) : Type 0 where
   pub digit : is_ascii_digit x ≡ false
-  pub point : (x == 46) ≡ false
+  pub point : (x == full_stop) ≡ false
   pub exponent : is_exponent_mark x ≡ false
 
 abbrev pub EndsNumber : List ℕ → Type 0
@@ -56,27 +57,27 @@ unfolding whole_at
 whole_again [] rest h e = absurd h
 whole_again (x ∷ w) rest h e =
     elim h [
-      | inl z ↦ (let i : (x == 48) ≡ true = eq-eqb x 48 z.0 in rw i (ap (λ (t : List ℕ). Some (t ++ rest)) z.1))
-      | inr z ↦ (let i : (x == 48) ≡ false = ne_eqb x 48 z.0 in rw i (some_again (x ∷ w) rest z.1 e))
+      | inl z ↦ (let i : (x == digit_zero) ≡ true = eq-eqb x digit_zero z.0 in rw i (ap (λ (t : List ℕ). Some (t ++ rest)) z.1))
+      | inr z ↦ (let i : (x == digit_zero) ≡ false = ne_eqb x digit_zero z.0 in rw i (some_again (x ∷ w) rest z.1 e))
     ]
 
 fraction_again : (f rest : List ℕ) → IsFraction f → NoDigit rest → NoPoint rest → fraction_at (f ++ rest) ≡ Some rest
 unfolding fraction_at
 fraction_again [] [] h d p = refl
 fraction_again [] (x ∷ t) h d p = rw p refl
-fraction_again (x ∷ f) rest h d p = let i : (x == 46) ≡ true = eq-eqb x 46 h.0 in rw i (some_again f rest h.1 d)
+fraction_again (x ∷ f) rest h d p = let i : (x == full_stop) ≡ true = eq-eqb x full_stop h.0 in rw i (some_again f rest h.1 d)
 
 signed_again : (s rest : List ℕ) → IsSigned s → NoDigit rest → digits_at (after_sign (s ++ rest)) ≡ Some rest
 unfolding after_sign
 signed_again [] rest h e = absurd h
 signed_again (x ∷ s) rest h e =
     elim h [
-      | inl z ↦ (let i : ((x == 43) || (x == 45)) ≡ true = elim z.0 [ inl a ↦ or_left _ _ (eq-eqb x 43 a) | inr a ↦ or_right _ _ (eq-eqb x 45 a) ] in rw i (some_again s rest z.1 e))
-      | inr z ↦ (let i : ((x == 43) || (x == 45)) ≡ false = or_from _ _ (digit_is_no x 43 refl z.0) (digit_is_no x 45 refl z.0) in rw i (some_again (x ∷ s) rest z e))
+      | inl z ↦ (let i : ((x == plus_sign) || (x == hyphen_minus)) ≡ true = elim z.0 [ inl a ↦ or_left _ _ (eq-eqb x plus_sign a) | inr a ↦ or_right _ _ (eq-eqb x hyphen_minus a) ] in rw i (some_again s rest z.1 e))
+      | inr z ↦ (let i : ((x == plus_sign) || (x == hyphen_minus)) ≡ false = or_from _ _ (digit_is_no x plus_sign refl z.0) (digit_is_no x hyphen_minus refl z.0) in rw i (some_again (x ∷ s) rest z e))
     ]
 
-mark_is : (x : ℕ) → (x ≡ 101) ⊎ (x ≡ 69) → is_exponent_mark x ≡ true
-mark_is x h = elim h [ inl a ↦ or_left _ _ (eq-eqb x 101 a) | inr a ↦ or_right _ _ (eq-eqb x 69 a) ]
+mark_is : (x : ℕ) → (x ≡ small_e) ⊎ (x ≡ capital_e) → is_exponent_mark x ≡ true
+mark_is x h = elim h [ inl a ↦ or_left _ _ (eq-eqb x small_e a) | inr a ↦ or_right _ _ (eq-eqb x capital_e a) ]
 
 ends_no_digit : (rest : List ℕ) → EndsNumber rest → NoDigit rest
 ends_no_digit [] h = tt
@@ -90,16 +91,16 @@ exponent_again (x ∷ e) rest h n = let i = mark_is x h.0 in rw i (signed_again 
 
 exponent_no_digit : (e rest : List ℕ) → IsExponent e → EndsNumber rest → NoDigit (e ++ rest)
 exponent_no_digit [] rest h n = ends_no_digit rest n
-exponent_no_digit (x ∷ e) rest h n = elim h.0 [ inl a ↦ no_digit_is x 101 refl a | inr a ↦ no_digit_is x 69 refl a ]
+exponent_no_digit (x ∷ e) rest h n = elim h.0 [ inl a ↦ no_digit_is x small_e refl a | inr a ↦ no_digit_is x capital_e refl a ]
 
 exponent_no_point : (e rest : List ℕ) → IsExponent e → EndsNumber rest → NoPoint (e ++ rest)
 exponent_no_point [] [] h n = tt
 exponent_no_point [] (x ∷ t) h n = n.point
-exponent_no_point (x ∷ e) rest h n = elim h.0 [ inl a ↦ ap (λ y. y == 46) a | inr a ↦ ap (λ y. y == 46) a ]
+exponent_no_point (x ∷ e) rest h n = elim h.0 [ inl a ↦ ap (λ y. y == full_stop) a | inr a ↦ ap (λ y. y == full_stop) a ]
 
 fraction_no_digit : (f e rest : List ℕ) → IsFraction f → IsExponent e → EndsNumber rest → NoDigit (f ++ (e ++ rest))
 fraction_no_digit [] e rest h k n = exponent_no_digit e rest k n
-fraction_no_digit (x ∷ f) e rest h k n = no_digit_is x 46 refl h.0
+fraction_no_digit (x ∷ f) e rest h k n = no_digit_is x full_stop refl h.0
 
 body_again : (w f e rest : List ℕ) → IsWhole w → IsFraction f → IsExponent e → EndsNumber rest
     → (whole_at (w ++ (f ++ (e ++ rest))) >>= λ r. fraction_at r >>= λ r. exponent_at r) ≡ Some rest
@@ -112,13 +113,13 @@ whole_head : (w t : List ℕ) → IsWhole w → after_minus (w ++ t) ≡ w ++ t
 unfolding after_minus
 whole_head [] t h = absurd h
 whole_head (x ∷ w) t h =
-    let i : (x == 45) ≡ false = elim h [ inl z ↦ ap (λ y. y == 45) z.0 | inr z ↦ digit_is_no x 45 refl z.1.0 ] in
+    let i : (x == hyphen_minus) ≡ false = elim h [ inl z ↦ ap (λ y. y == hyphen_minus) z.0 | inr z ↦ digit_is_no x hyphen_minus refl z.1.0 ] in
     rw i refl
 
 minus_again : (m w t : List ℕ) → IsMinus m → IsWhole w → after_minus (m ++ (w ++ t)) ≡ w ++ t
 unfolding after_minus
 minus_again [] w t h hw = whole_head w t hw
-minus_again (x ∷ m) w t h hw = let i : (x == 45) ≡ true = eq-eqb x 45 h.0 in rw i (ap (λ (y : List ℕ). y ++ (w ++ t)) h.1)
+minus_again (x ∷ m) w t h hw = let i : (x == hyphen_minus) ≡ true = eq-eqb x hyphen_minus h.0 in rw i (ap (λ (y : List ℕ). y ++ (w ++ t)) h.1)
 
 regroup : (m w f e rest : List ℕ) → (m ++ (w ++ (f ++ e))) ++ rest ≡ m ++ (w ++ (f ++ (e ++ rest)))
 regroup m w f e rest = simp append_assoc
@@ -152,35 +153,35 @@ some_take (x ∷ t) r e =
     ]
 
 -- digits whose first is the text's first
-first_is : (ds : List ℕ) (x : ℕ) (t r : List ℕ) → x ∷ t ≡ ds ++ r → (x ≢ 48) → AreDigits ds → IsWhole ds
+first_is : (ds : List ℕ) (x : ℕ) (t r : List ℕ) → x ∷ t ≡ ds ++ r → (x ≢ digit_zero) → AreDigits ds → IsWhole ds
 first_is [] x t r e n h = absurd h
 first_is (y ∷ ds) x t r e n h = let same : x ≡ y = cc in inr ((λ z. n (same ∙ z)), h)
 
-digits_whole : (x : ℕ) (t r : List ℕ) → (x ≢ 48) → ((ds : List ℕ) × (x ∷ t ≡ ds ++ r) × AreDigits ds) → (w : List ℕ) × (x ∷ t ≡ w ++ r) × IsWhole w
+digits_whole : (x : ℕ) (t r : List ℕ) → (x ≢ digit_zero) → ((ds : List ℕ) × (x ∷ t ≡ ds ++ r) × AreDigits ds) → (w : List ℕ) × (x ∷ t ≡ w ++ r) × IsWhole w
 digits_whole x t r n d = (d.0, d.1, first_is d.0 x t r d.1 n d.2)
 
 whole_takes : (t r : List ℕ) → whole_at t ≡ given r → (w : List ℕ) × (t ≡ w ++ r) × IsWhole w
 unfolding whole_at
 whole_takes [] r e = absurd (none_is r e)
 whole_takes (x ∷ t) r e =
-    elim (chosen (x == 48) (given t) (digits_at (x ∷ t)) (given r) e) [
-      | inl w ↦ (let i : x ≡ 48 = eqb-true x 48 w.0 in (x ∷ [], ap (λ (y : List ℕ). x ∷ y) (given_is _ _ w.1), inl (i, refl)))
-      | inr w ↦ digits_whole x t r (eqb-false x 48 w.0) (some_take (x ∷ t) r w.1)
+    elim (chosen (x == digit_zero) (given t) (digits_at (x ∷ t)) (given r) e) [
+      | inl w ↦ (let i : x ≡ digit_zero = eqb-true x digit_zero w.0 in (x ∷ [], ap (λ (y : List ℕ). x ∷ y) (given_is _ _ w.1), inl (i, refl)))
+      | inr w ↦ digits_whole x t r (eqb-false x digit_zero w.0) (some_take (x ∷ t) r w.1)
     ]
 
 fraction_takes : (t r : List ℕ) → fraction_at t ≡ given r → (f : List ℕ) × (t ≡ f ++ r) × IsFraction f
 unfolding fraction_at
 fraction_takes [] r e = ([], given_is _ _ e, tt)
 fraction_takes (x ∷ t) r e =
-    elim (chosen (x == 46) (digits_at t) (given (x ∷ t)) (given r) e) [
-      | inl w ↦ (let d = some_take t r w.1 in (x ∷ d.0, ap (λ (y : List ℕ). x ∷ y) d.1, (eqb-true x 46 w.0, d.2)))
+    elim (chosen (x == full_stop) (digits_at t) (given (x ∷ t)) (given r) e) [
+      | inl w ↦ (let d = some_take t r w.1 in (x ∷ d.0, ap (λ (y : List ℕ). x ∷ y) d.1, (eqb-true x full_stop w.0, d.2)))
       | inr w ↦ ([], given_is _ _ w.1, tt)
     ]
 
-sign_case : (x : ℕ) (t r : List ℕ) (b : Bool) → ((x == 43) || (x == 45)) ≡ b → digits_at (cond b t (x ∷ t)) ≡ given r → (s : List ℕ) × (x ∷ t ≡ s ++ r) × IsSigned s
+sign_case : (x : ℕ) (t r : List ℕ) (b : Bool) → ((x == plus_sign) || (x == hyphen_minus)) ≡ b → digits_at (cond b t (x ∷ t)) ≡ given r → (s : List ℕ) × (x ∷ t ≡ s ++ r) × IsSigned s
 sign_case x t r true i e =
     let d = some_take t r e in
-    (x ∷ d.0, ap (λ (y : List ℕ). x ∷ y) d.1, inl (elim (or_cases _ _ i) [ inl a ↦ inl (eqb-true x 43 a) | inr a ↦ inr (eqb-true x 45 a) ], d.2))
+    (x ∷ d.0, ap (λ (y : List ℕ). x ∷ y) d.1, inl (elim (or_cases _ _ i) [ inl a ↦ inl (eqb-true x plus_sign a) | inr a ↦ inr (eqb-true x hyphen_minus a) ], d.2))
 sign_case x t r false i e = let d = some_take (x ∷ t) r e in (d.0, d.1, digits_signed d.0 d.2) where
   digits_signed : (ds : List ℕ) → AreDigits ds → IsSigned ds
   digits_signed [] h = absurd h
@@ -189,7 +190,7 @@ sign_case x t r false i e = let d = some_take (x ∷ t) r e in (d.0, d.1, digits
 signed_takes : (t r : List ℕ) → digits_at (after_sign t) ≡ given r → (s : List ℕ) × (t ≡ s ++ r) × IsSigned s
 unfolding after_sign digits_at
 signed_takes [] r e = absurd (none_is r e)
-signed_takes (x ∷ t) r e = sign_case x t r ((x == 43) || (x == 45)) refl e
+signed_takes (x ∷ t) r e = sign_case x t r ((x == plus_sign) || (x == hyphen_minus)) refl e
 
 exponent_takes : (t r : List ℕ) → exponent_at t ≡ given r → (x : List ℕ) × (t ≡ x ++ r) × IsExponent x
 unfolding exponent_at
@@ -197,18 +198,18 @@ exponent_takes [] r e = ([], given_is _ _ e, tt)
 exponent_takes (x ∷ t) r e =
     elim (chosen (is_exponent_mark x) (digits_at (after_sign t)) (given (x ∷ t)) (given r) e) [
       | inl w ↦ (let d = signed_takes t r w.1 in
-          (x ∷ d.0, ap (λ (y : List ℕ). x ∷ y) d.1, (elim (or_cases _ _ w.0) [ inl a ↦ inl (eqb-true x 101 a) | inr a ↦ inr (eqb-true x 69 a) ], d.2)))
+          (x ∷ d.0, ap (λ (y : List ℕ). x ∷ y) d.1, (elim (or_cases _ _ w.0) [ inl a ↦ inl (eqb-true x small_e a) | inr a ↦ inr (eqb-true x capital_e a) ], d.2)))
       | inr w ↦ ([], given_is _ _ w.1, tt)
     ]
 
-minus_case : (x : ℕ) (t : List ℕ) (b : Bool) → (x == 45) ≡ b → (m : List ℕ) × (x ∷ t ≡ m ++ cond b t (x ∷ t)) × IsMinus m
-minus_case x t true e = (x ∷ [], refl, (eqb-true x 45 e, refl))
+minus_case : (x : ℕ) (t : List ℕ) (b : Bool) → (x == hyphen_minus) ≡ b → (m : List ℕ) × (x ∷ t ≡ m ++ cond b t (x ∷ t)) × IsMinus m
+minus_case x t true e = (x ∷ [], refl, (eqb-true x hyphen_minus e, refl))
 minus_case x t false e = ([], refl, tt)
 
 minus_takes : (t : List ℕ) → (m : List ℕ) × (t ≡ m ++ after_minus t) × IsMinus m
 unfolding after_minus
 minus_takes [] = ([], refl, tt)
-minus_takes (x ∷ t) = minus_case x t (x == 45) refl
+minus_takes (x ∷ t) = minus_case x t (x == hyphen_minus) refl
 
 pub number_takes : (t r : List ℕ) → number_at t ≡ given r → (n : List ℕ) × (t ≡ n ++ r) × IsNumber n
 unfolding number_at
@@ -234,7 +235,7 @@ pub nil_ascii : IsAscii []
 nil_ascii i = omega arith
 
 pub digit_small : (x : ℕ) → is_ascii_digit x ≡ true → x < 128
-digit_small x e = let p = and_parts _ _ e in let high : x ≤ 57 = leb-true _ _ p.1 in omega arith
+digit_small x e = let p = and_parts _ _ e in let high : x ≤ digit_nine = leb-true _ _ p.1 in omega arith
 
 digits_ascii : (ds : List ℕ) → AllDigits ds → IsAscii ds
 digits_ascii [] h = nil_ascii

@@ -5,11 +5,11 @@ use Rattle.std.specs.Prelude.{◌||◌, ◌==◌}
 use Rattle.std.proofs.lemmas.Bool.{or_cases, eqb-true}
 use Rattle.std.proofs.lemmas.Str.{chars-IsAscii}
 use Rattle.std.proofs.lemmas.List.{take_at}
-use Rattle.cfg_types.specs.Text.{characters}
-use Rattle.cfg_types.proofs.TextLemmas.{characters-chars}
-use Rattle.cfg_json.specs.Characters.{quote}
+use Rattle.cfg_values.specs.Text.{characters}
+use Rattle.cfg_values.proofs.TextLemmas.{characters-chars}
+use Rattle.cfg_json.specs.Ascii.{quotation_mark, comma, left_square_bracket, left_curly_bracket, right_curly_bracket}
 use Rattle.cfg_json.specs.Reads.{◌>>=◌}
-use Rattle.cfg_json.specs.Values.{comma, IsValue}
+use Rattle.cfg_json.specs.Values.{IsValue}
 use Rattle.cfg_json.specs.Objects.{inner_depth, IsMemberValue, IsMember, AreMembers, IsObject}
 use Rattle.cfg_json.specs.Reading.{after_white_space, number_at, word_at, string_at, utf8_of}
 use Rattle.cfg_json.specs.ReadingValues.{Read, key_at, inside_at, value_at}
@@ -28,13 +28,13 @@ use Rattle.cfg_json.proofs.ValuesTake.{value_takes}
 abbrev ValueFront : ℕ → List ℕ → MemberValue → List ℕ → Type 0
 ValueFront at all m rest = (text : List ℕ) × (all ≡ text ++ rest) × IsMemberValue at text m
 
-text_takes : (at : ℕ) (t : List ℕ) (r : ReadValue) → text_value_at t ≡ given r → ValueFront at (quote ∷ t) r.0 r.1
+text_takes : (at : ℕ) (t : List ℕ) (r : ReadValue) → text_value_at t ≡ given r → ValueFront at (quotation_mark ∷ t) r.0 r.1
 unfolding text_value_at
 text_takes at t r e =
     let p = bind_some (string_at t) (λ p. Some (value.Text p.0, p.1)) r e in
     let s = string_takes t p.0.0 p.0.1 p.1 in
     let made : ReadValue = (value.Text p.0.0, p.0.1) in
-    subst (λ (q : ReadValue). ValueFront at (quote ∷ t) q.0 q.1) (given_is made r p.2) (s.string, s.is, IsMemberValue.text at s.string p.0.0 s.is_string)
+    subst (λ (q : ReadValue). ValueFront at (quotation_mark ∷ t) q.0 q.1) (given_is made r p.2) (s.string, s.is, IsMemberValue.text at s.string p.0.0 s.is_string)
 
 text_from_takes : (bytes n : List ℕ) → text_from bytes ≡ given n → characters bytes ≡ n
 unfolding text_from
@@ -73,7 +73,7 @@ begins x t f rest h e =
     (h.others, h.is ∙ ap (λ (y : ℕ). y ∷ h.others) (sym same))
 
 -- an object stands in an object
-object_has : (d : ℕ) (t : List ℕ) (r : Read) → value_at (suc d) (123 ∷ t) ≡ given r → r.0 ≡ true
+object_has : (d : ℕ) (t : List ℕ) (r : Read) → value_at (suc d) (left_curly_bracket ∷ t) ≡ given r → r.0 ≡ true
 unfolding value_at
 object_has d t r e =
     let q = bind_some (inside_at true (value_at d) t) (λ q. Some (true, q.1)) r e in
@@ -86,31 +86,31 @@ an_object total t p = Some (value.Object (total - length t) (total - length p.1)
 abbrev an_array : Read → Option ReadValue
 an_array p = Some (value.Array p.0, p.1)
 
-object_front : (total at : ℕ) (t : List ℕ) (p : Read) (f : List ℕ) (b : Bool) → total ≡ at + length (123 ∷ t) → 123 ∷ t ≡ f ++ p.1 → IsValue inner_depth f b → b ≡ true
-    → ValueFront at (123 ∷ t) (value.Object (total - length (123 ∷ t)) (total - length p.1)) p.1
+object_front : (total at : ℕ) (t : List ℕ) (p : Read) (f : List ℕ) (b : Bool) → total ≡ at + length (left_curly_bracket ∷ t) → left_curly_bracket ∷ t ≡ f ++ p.1 → IsValue inner_depth f b → b ≡ true
+    → ValueFront at (left_curly_bracket ∷ t) (value.Object (total - length (left_curly_bracket ∷ t)) (total - length p.1)) p.1
 object_front total at t p f b is e h has =
-    let from : at ≡ total - length (123 ∷ t) = omega (arith, is) in
+    let from : at ≡ total - length (left_curly_bracket ∷ t) = omega (arith, is) in
     let to : at + length f ≡ total - length p.1 = omega (arith, is, ap length e, length-append f p.1) in
-    let k = begins 123 t f p.1 (value_head inner_depth f b h) e in
-    let v : IsValue inner_depth (123 ∷ k.0) true = subst (λ (y : List ℕ). IsValue inner_depth y true) k.1 (subst (λ (c : Bool). IsValue inner_depth f c) has h) in
+    let k = begins left_curly_bracket t f p.1 (value_head inner_depth f b h) e in
+    let v : IsValue inner_depth (left_curly_bracket ∷ k.0) true = subst (λ (y : List ℕ). IsValue inner_depth y true) k.1 (subst (λ (c : Bool). IsValue inner_depth f c) has h) in
     let m : IsMemberValue at f (value.Object at (at + length f)) = subst (λ (y : List ℕ). IsMemberValue at y (value.Object at (at + length y))) (sym k.1) (IsMemberValue.object at k.0 v) in
-    (f, e, subst (λ (n : ℕ). IsMemberValue at f (value.Object (total - length (123 ∷ t)) n)) to (subst (λ (n : ℕ). IsMemberValue at f (value.Object n (at + length f))) from m))
+    (f, e, subst (λ (n : ℕ). IsMemberValue at f (value.Object (total - length (left_curly_bracket ∷ t)) n)) to (subst (λ (n : ℕ). IsMemberValue at f (value.Object n (at + length f))) from m))
 
-object_takes : (total at : ℕ) (t : List ℕ) (r : ReadValue) → total ≡ at + length (123 ∷ t) → (value_at inner_depth (123 ∷ t) >>= an_object total (123 ∷ t)) ≡ given r → ValueFront at (123 ∷ t) r.0 r.1
+object_takes : (total at : ℕ) (t : List ℕ) (r : ReadValue) → total ≡ at + length (left_curly_bracket ∷ t) → (value_at inner_depth (left_curly_bracket ∷ t) >>= an_object total (left_curly_bracket ∷ t)) ≡ given r → ValueFront at (left_curly_bracket ∷ t) r.0 r.1
 object_takes total at t r is e =
-    let p = bind_some (value_at inner_depth (123 ∷ t)) (an_object total (123 ∷ t)) r e in
-    let f = value_takes inner_depth (123 ∷ t) p.0 p.1 in
-    let made : ReadValue = (value.Object (total - length (123 ∷ t)) (total - length p.0.1), p.0.1) in
-    subst (λ (q : ReadValue). ValueFront at (123 ∷ t) q.0 q.1) (given_is made r p.2) (object_front total at t p.0 f.0 p.0.0 is f.1 f.2 (object_has 126 t p.0 p.1))
+    let p = bind_some (value_at inner_depth (left_curly_bracket ∷ t)) (an_object total (left_curly_bracket ∷ t)) r e in
+    let f = value_takes inner_depth (left_curly_bracket ∷ t) p.0 p.1 in
+    let made : ReadValue = (value.Object (total - length (left_curly_bracket ∷ t)) (total - length p.0.1), p.0.1) in
+    subst (λ (q : ReadValue). ValueFront at (left_curly_bracket ∷ t) q.0 q.1) (given_is made r p.2) (object_front total at t p.0 f.0 p.0.0 is f.1 f.2 (object_has 126 t p.0 p.1))
 
-array_takes : (at : ℕ) (t : List ℕ) (r : ReadValue) → (value_at inner_depth (91 ∷ t) >>= an_array) ≡ given r → ValueFront at (91 ∷ t) r.0 r.1
+array_takes : (at : ℕ) (t : List ℕ) (r : ReadValue) → (value_at inner_depth (left_square_bracket ∷ t) >>= an_array) ≡ given r → ValueFront at (left_square_bracket ∷ t) r.0 r.1
 array_takes at t r e =
-    let p = bind_some (value_at inner_depth (91 ∷ t)) an_array r e in
-    let f = value_takes inner_depth (91 ∷ t) p.0 p.1 in
-    let k = begins 91 t f.0 p.0.1 (value_head inner_depth f.0 p.0.0 f.2) f.1 in
-    let v : IsValue inner_depth (91 ∷ k.0) p.0.0 = subst (λ (y : List ℕ). IsValue inner_depth y p.0.0) k.1 f.2 in
+    let p = bind_some (value_at inner_depth (left_square_bracket ∷ t)) an_array r e in
+    let f = value_takes inner_depth (left_square_bracket ∷ t) p.0 p.1 in
+    let k = begins left_square_bracket t f.0 p.0.1 (value_head inner_depth f.0 p.0.0 f.2) f.1 in
+    let v : IsValue inner_depth (left_square_bracket ∷ k.0) p.0.0 = subst (λ (y : List ℕ). IsValue inner_depth y p.0.0) k.1 f.2 in
     let made : ReadValue = (value.Array p.0.0, p.0.1) in
-    subst (λ (q : ReadValue). ValueFront at (91 ∷ t) q.0 q.1) (given_is made r p.2) (f.0, f.1, subst (λ (y : List ℕ). IsMemberValue at y (value.Array p.0.0)) (sym k.1) (IsMemberValue.array at k.0 p.0.0 v))
+    subst (λ (q : ReadValue). ValueFront at (left_square_bracket ∷ t) q.0 q.1) (given_is made r p.2) (f.0, f.1, subst (λ (y : List ℕ). IsMemberValue at y (value.Array p.0.0)) (sym k.1) (IsMemberValue.array at k.0 p.0.0 v))
 
 nested_object : (total : ℕ) (t : List ℕ) → nested_value_at total true t ≡ (value_at inner_depth t >>= an_object total t)
 unfolding nested_value_at
@@ -120,24 +120,24 @@ nested_array : (total : ℕ) (t : List ℕ) → nested_value_at total false t �
 unfolding nested_value_at
 nested_array total t = refl
 
-nested_takes : (total at x : ℕ) (t : List ℕ) (r : ReadValue) → total ≡ at + length (x ∷ t) → ((x == 123) || (x == 91)) ≡ true → nested_value_at total (x == 123) (x ∷ t) ≡ given r → ValueFront at (x ∷ t) r.0 r.1
+nested_takes : (total at x : ℕ) (t : List ℕ) (r : ReadValue) → total ≡ at + length (x ∷ t) → ((x == left_curly_bracket) || (x == left_square_bracket)) ≡ true → nested_value_at total (x == left_curly_bracket) (x ∷ t) ≡ given r → ValueFront at (x ∷ t) r.0 r.1
 nested_takes total at x t r is k e =
-    elim (or_cases (x == 123) (x == 91) k) [
-      | inl a ↦ (let same : 123 ≡ x = sym (eqb-true x 123 a) in
-          subst (λ (y : ℕ). total ≡ at + length (y ∷ t) → nested_value_at total (y == 123) (y ∷ t) ≡ given r → ValueFront at (y ∷ t) r.0 r.1) same
-          (λ i h. object_takes total at t r i (sym (nested_object total (123 ∷ t)) ∙ h)) is e)
-      | inr a ↦ (let same : 91 ≡ x = sym (eqb-true x 91 a) in
-          subst (λ (y : ℕ). nested_value_at total (y == 123) (y ∷ t) ≡ given r → ValueFront at (y ∷ t) r.0 r.1) same
-          (λ h. array_takes at t r (sym (nested_array total (91 ∷ t)) ∙ h)) e)
+    elim (or_cases (x == left_curly_bracket) (x == left_square_bracket) k) [
+      | inl a ↦ (let same : left_curly_bracket ≡ x = sym (eqb-true x left_curly_bracket a) in
+          subst (λ (y : ℕ). total ≡ at + length (y ∷ t) → nested_value_at total (y == left_curly_bracket) (y ∷ t) ≡ given r → ValueFront at (y ∷ t) r.0 r.1) same
+          (λ i h. object_takes total at t r i (sym (nested_object total (left_curly_bracket ∷ t)) ∙ h)) is e)
+      | inr a ↦ (let same : left_square_bracket ≡ x = sym (eqb-true x left_square_bracket a) in
+          subst (λ (y : ℕ). nested_value_at total (y == left_curly_bracket) (y ∷ t) ≡ given r → ValueFront at (y ∷ t) r.0 r.1) same
+          (λ h. array_takes at t r (sym (nested_array total (left_square_bracket ∷ t)) ∙ h)) e)
     ]
 
 pub value_takes_at : (total at : ℕ) (t : List ℕ) (r : ReadValue) → total ≡ at + length t → member_value_at total t ≡ given r → ValueFront at t r.0 r.1
 unfolding member_value_at
 value_takes_at total at [] r is e = absurd (none_is r e)
 value_takes_at total at (x ∷ t) r is e =
-    elim (chosen (x == quote) (text_value_at t) (cond ((x == 123) || (x == 91)) (nested_value_at total (x == 123) (x ∷ t)) (option_or (word_value_at (x ∷ t)) (number_value_at (x ∷ t)))) (given r) e) [
-      | inl w ↦ subst (λ (y : ℕ). ValueFront at (y ∷ t) r.0 r.1) (sym (eqb-true x quote w.0)) (text_takes at t r w.1)
-      | inr w ↦ (elim (chosen ((x == 123) || (x == 91)) (nested_value_at total (x == 123) (x ∷ t)) (option_or (word_value_at (x ∷ t)) (number_value_at (x ∷ t))) (given r) w.1) [
+    elim (chosen (x == quotation_mark) (text_value_at t) (cond ((x == left_curly_bracket) || (x == left_square_bracket)) (nested_value_at total (x == left_curly_bracket) (x ∷ t)) (option_or (word_value_at (x ∷ t)) (number_value_at (x ∷ t)))) (given r) e) [
+      | inl w ↦ subst (λ (y : ℕ). ValueFront at (y ∷ t) r.0 r.1) (sym (eqb-true x quotation_mark w.0)) (text_takes at t r w.1)
+      | inr w ↦ (elim (chosen ((x == left_curly_bracket) || (x == left_square_bracket)) (nested_value_at total (x == left_curly_bracket) (x ∷ t)) (option_or (word_value_at (x ∷ t)) (number_value_at (x ∷ t))) (given r) w.1) [
         | inl v ↦ nested_takes total at x t r is v.0 v.1
         | inr v ↦ (elim (either (word_value_at (x ∷ t)) (number_value_at (x ∷ t)) r v.1) [
           | inl a ↦ word_value_takes at (x ∷ t) r a
@@ -183,19 +183,19 @@ member_takes total at t r is e =
     subst (λ (q : ReadMember). MemberFront at t q.0 q.1) (given_is made r v.2) (member_from total at t k.0.0 k.0.1 v.0.1 v.0.0 is k.1 v.1)
 
 -- the byte behind a member
-after_takes : (m : Member) (t : List ℕ) (p : MemberTurn) → after_member m t ≡ given p → (t ≡ (cond p.1 125 comma) ∷ p.2) × (p.0 ≡ m)
+after_takes : (m : Member) (t : List ℕ) (p : MemberTurn) → after_member m t ≡ given p → (t ≡ (cond p.1 right_curly_bracket comma) ∷ p.2) × (p.0 ≡ m)
 after_takes m [] p e = absurd (none_is p e)
 after_takes m (x ∷ t) p e =
-    elim (chosen (x == 125) (given (m, true, t)) (cond (x == comma) (given (m, false, t)) nothing) (given p) e) [
+    elim (chosen (x == right_curly_bracket) (given (m, true, t)) (cond (x == comma) (given (m, false, t)) nothing) (given p) e) [
       | inl w ↦ (let is : MemberTurn = (m, true, t) in
-          subst (λ (q : MemberTurn). (x ∷ t ≡ (cond q.1 125 comma) ∷ q.2) × (q.0 ≡ m)) (given_is is p w.1) (ap (λ (y : ℕ). y ∷ t) (eqb-true x 125 w.0), refl))
+          subst (λ (q : MemberTurn). (x ∷ t ≡ (cond q.1 right_curly_bracket comma) ∷ q.2) × (q.0 ≡ m)) (given_is is p w.1) (ap (λ (y : ℕ). y ∷ t) (eqb-true x right_curly_bracket w.0), refl))
       | inr w ↦ (let v = tested (x == comma) (m, false, t) p w.1 in
-          subst (λ (q : MemberTurn). (x ∷ t ≡ (cond q.1 125 comma) ∷ q.2) × (q.0 ≡ m)) v.1 (ap (λ (y : ℕ). y ∷ t) (eqb-true x comma v.0), refl))
+          subst (λ (q : MemberTurn). (x ∷ t ≡ (cond q.1 right_curly_bracket comma) ∷ q.2) × (q.0 ≡ m)) v.1 (ap (λ (y : ℕ). y ∷ t) (eqb-true x comma v.0), refl))
     ]
 
 record TurnTakes (at : ℕ) (t : List ℕ) (p : MemberTurn) : Type 0 where
   text : List ℕ
-  is : t ≡ text ++ (cond p.1 125 comma ∷ p.2)
+  is : t ≡ text ++ (cond p.1 right_curly_bracket comma ∷ p.2)
   member : IsMember at text p.0
 
 turn_takes : (total at : ℕ) (t : List ℕ) (p : MemberTurn) → total ≡ at + length t → member_turn_at total t ≡ given p → TurnTakes at t p
@@ -214,7 +214,7 @@ ended : (at : ℕ) (t : List ℕ) (m : Member) (next : List ℕ) (r : ReadMember
 ended at t m next r h e =
     let is : ReadMembers = (m ∷ [], next) in
     subst (λ (q : ReadMembers). MembersFront at t q.0 q.1) (given_is is r e)
-    (h.text ++ 125 ∷ [], h.is ∙ sym (append_assoc h.text (125 ∷ []) next), AreMembers.last at h.text _ m h.member refl)
+    (h.text ++ right_curly_bracket ∷ [], h.is ∙ sym (append_assoc h.text (right_curly_bracket ∷ []) next), AreMembers.last at h.text _ m h.member refl)
 
 went_on : (at : ℕ) (t : List ℕ) (m : Member) (next : List ℕ) (q r : ReadMembers) (h : TurnTakes at t (m, false, next)) → MembersFront (at + length h.text + 1) next q.0 q.1 → given (m ∷ q.0, q.1) ≡ given r → MembersFront at t r.0 r.1
 went_on at t m next q r h more e =
@@ -243,20 +243,20 @@ members_take total (suc n) at t r is e =
 abbrev pub ObjectTaken : ℕ → List ℕ → List Member → List ℕ → Type 0
 ObjectTaken at all ms rest = (text : List ℕ) × (all ≡ text ++ rest) × IsObject at text ms
 
-from_takes : (total at : ℕ) (t u : List ℕ) (r : ReadMembers) → total ≡ at + length (123 ∷ t) → after_white_space t ≡ u → object_from total t u ≡ given r → ObjectTaken at (123 ∷ t) r.0 r.1
+from_takes : (total at : ℕ) (t u : List ℕ) (r : ReadMembers) → total ≡ at + length (left_curly_bracket ∷ t) → after_white_space t ≡ u → object_from total t u ≡ given r → ObjectTaken at (left_curly_bracket ∷ t) r.0 r.1
 from_takes total at t [] r is b e = absurd (none_is r e)
 from_takes total at t (x ∷ u) r is b e =
-    elim (chosen (x == 125) (given ([], u)) (members_at total (length t) t) (given r) e) [
+    elim (chosen (x == right_curly_bracket) (given ([], u)) (members_at total (length t) t) (given r) e) [
       | inl w ↦ (let made : ReadMembers = ([], u) in
           let k = white_space_takes t in
-          let cut : 123 ∷ t ≡ (123 ∷ (k.white_space ++ 125 ∷ [])) ++ u =
-          ap (λ (y : List ℕ). 123 ∷ y) (k.is ∙ ap (λ (y : List ℕ). k.white_space ++ y) (b ∙ ap (λ (y : ℕ). y ∷ u) (eqb-true x 125 w.0)) ∙ sym (append_assoc k.white_space (125 ∷ []) u)) in
-          subst (λ (q : ReadMembers). ObjectTaken at (123 ∷ t) q.0 q.1) (given_is made r w.1) (123 ∷ (k.white_space ++ 125 ∷ []), cut, IsObject.empty at k.white_space _ k.are refl))
+          let cut : left_curly_bracket ∷ t ≡ (left_curly_bracket ∷ (k.white_space ++ right_curly_bracket ∷ [])) ++ u =
+          ap (λ (y : List ℕ). left_curly_bracket ∷ y) (k.is ∙ ap (λ (y : List ℕ). k.white_space ++ y) (b ∙ ap (λ (y : ℕ). y ∷ u) (eqb-true x right_curly_bracket w.0)) ∙ sym (append_assoc k.white_space (right_curly_bracket ∷ []) u)) in
+          subst (λ (q : ReadMembers). ObjectTaken at (left_curly_bracket ∷ t) q.0 q.1) (given_is made r w.1) (left_curly_bracket ∷ (k.white_space ++ right_curly_bracket ∷ []), cut, IsObject.empty at k.white_space _ k.are refl))
       | inr w ↦ (let place : total ≡ at + 1 + length t = omega (arith, is) in
           let f = members_take total (length t) (at + 1) t r place w.1 in
-          (123 ∷ f.0, ap (λ (y : List ℕ). 123 ∷ y) f.1, IsObject.members at f.0 _ r.0 f.2 refl))
+          (left_curly_bracket ∷ f.0, ap (λ (y : List ℕ). left_curly_bracket ∷ y) f.1, IsObject.members at f.0 _ r.0 f.2 refl))
     ]
 
-pub object_takes_at : (total at : ℕ) (t : List ℕ) (r : ReadMembers) → total ≡ at + length (123 ∷ t) → object_at total t ≡ given r → ObjectTaken at (123 ∷ t) r.0 r.1
+pub object_takes_at : (total at : ℕ) (t : List ℕ) (r : ReadMembers) → total ≡ at + length (left_curly_bracket ∷ t) → object_at total t ≡ given r → ObjectTaken at (left_curly_bracket ∷ t) r.0 r.1
 unfolding object_at
 object_takes_at total at t r is e = from_takes total at t (after_white_space t) r is refl e

@@ -7,8 +7,9 @@ use Rattle.std.specs.Char.{encode_utf8}
 use Rattle.std.proofs.lemmas.Bool.{and_parts, and_from, cases_lt, le-leb, ne_eqb, not-true, not_from_false}
 use Rattle.std.proofs.lemmas.List.Folds.{list_all-append}
 use Rattle.std.proofs.lemmas.Str.{encode_ascii}
-use Rattle.cfg_types.specs.Text.{characters}
-use Rattle.cfg_types.proofs.TextLemmas.{encodes-chars}
+use Rattle.cfg_values.specs.Text.{characters}
+use Rattle.cfg_values.proofs.TextLemmas.{encodes-chars}
+use Rattle.cfg_json.specs.Ascii.{quotation_mark, backslash}
 use Rattle.cfg_json.specs.Characters.{is_plain}
 use Rattle.cfg_json.specs.Reads.{◌>>=◌}
 use Rattle.cfg_json.specs.Reading.{piece_at, content_of}
@@ -19,8 +20,8 @@ unfolding piece_at
 piece_plain c t p =
     let r = and_parts _ _ p in
     let low : nat_le 32 c ≡ true = r.0 in
-    let q : (c == 34) ≡ false = not-true _ (and_parts _ _ r.1).0 in
-    let b : (c == 92) ≡ false = not-true _ (and_parts _ _ r.1).1 in
+    let q : (c == quotation_mark) ≡ false = not-true _ (and_parts _ _ r.1).0 in
+    let b : (c == backslash) ≡ false = not-true _ (and_parts _ _ r.1).1 in
     rw (b, low, q) refl
 
 content_of_plain : (cs : List ℕ) → list_all is_plain cs ≡ true → content_of 0 cs ≡ Some cs
@@ -31,7 +32,7 @@ content_of_plain (c ∷ cs) e =
     one_piece c c 0 cs (piece_plain c cs p.0) ∙ ap (λ (r : Option (List ℕ)). r >>= λ s. Some (c ∷ s)) (content_of_plain cs p.1)
 
 high_plain : (c : ℕ) → 128 ≤ c → is_plain c ≡ true
-high_plain c le = and_from _ _ (le-leb 32 c (omega arith)) (and_from _ _ (not_from_false _ (ne_eqb c 34 (λ e. omega arith))) (not_from_false _ (ne_eqb c 92 (λ e. omega arith))))
+high_plain c le = and_from _ _ (le-leb 32 c (omega arith)) (and_from _ _ (not_from_false _ (ne_eqb c quotation_mark (λ e. omega arith))) (not_from_false _ (ne_eqb c backslash (λ e. omega arith))))
 
 character_plain : (c : ℕ) → list_all is_plain (encode_utf8 c) ≡ true → is_plain c ≡ true
 character_plain c e = elim (cases_lt c 128) [

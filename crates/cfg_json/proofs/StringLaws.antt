@@ -8,9 +8,10 @@ use Rattle.std.proofs.lemmas.Bool.{eqb-true, and_parts, and_from, ne_eqb, not_fr
 use Rattle.std.proofs.lemmas.List.{append-nil}
 use Rattle.std.proofs.lemmas.Str.{encode_ascii, inside_one, scalars-chars, IsUtf8-from_is_utf8}
 use Rattle.std.specs.Str.{is_utf8}
-use Rattle.cfg_types.specs.Text.{characters}
-use Rattle.cfg_types.proofs.TextLemmas.{characters-chars, characters-encodes, encodes-chars}
-use Rattle.cfg_json.specs.Characters.{quote, backslash, lower_u, is_plain, short_escape, hex_digit, code_unit}
+use Rattle.cfg_values.specs.Text.{characters}
+use Rattle.cfg_values.proofs.TextLemmas.{characters-chars, characters-encodes, encodes-chars}
+use Rattle.cfg_json.specs.Ascii.{quotation_mark, solidus, backslash, small_b, small_f, small_n, small_r, small_t, small_u}
+use Rattle.cfg_json.specs.Characters.{is_plain, short_escape, hex_digit, code_unit}
 use Rattle.cfg_json.specs.Reads.{◌>>=◌}
 use Rattle.cfg_json.specs.Strings.{IsContent, IsString}
 use Rattle.cfg_json.specs.Reading.{end_of, content_of, utf8_of, text_of, string_at}
@@ -22,7 +23,7 @@ use Rattle.cfg_json.proofs.Utf8.{utf8_of-valid}
 
 -- neither ends a string nor begins an escape
 abbrev passes : ℕ → Bool
-passes b = not (b == quote) && not (b == backslash)
+passes b = not (b == quotation_mark) && not (b == backslash)
 
 abbrev further : ℕ → Option ℕ → Option ℕ
 further k found = option_map (λ n. n + k) found
@@ -39,7 +40,7 @@ pass_one : (b : ℕ) (t : List ℕ) → passes b ≡ true → end_of false (b �
 unfolding end_of
 pass_one b t e =
     let p = and_parts _ _ e in
-    let q : (b == quote) ≡ false = not-true _ p.0 in
+    let q : (b == quotation_mark) ≡ false = not-true _ p.0 in
     let r : (b == backslash) ≡ false = not-true _ p.1 in
     rw (q, r) refl
 
@@ -51,7 +52,7 @@ pass_all (b ∷ bs) t e =
 
 -- the bytes end at the quotation mark behind them
 abbrev EndsString : List ℕ → Type 0
-EndsString bs = (rest : List ℕ) → end_of false (bs ++ quote ∷ rest) ≡ Some (length bs)
+EndsString bs = (rest : List ℕ) → end_of false (bs ++ quotation_mark ∷ rest) ≡ Some (length bs)
 
 none_before : EndsString []
 unfolding end_of
@@ -63,7 +64,7 @@ append_length (x ∷ xs) ys = omega (arith, append_length xs ys)
 
 pass_before : (bs more : List ℕ) → list_all passes bs ≡ true → EndsString more → EndsString (bs ++ more)
 pass_before bs more e ends rest =
-    ap (end_of false) (append_assoc bs more (quote ∷ rest)) ∙ pass_all bs (more ++ quote ∷ rest) e ∙ ap (further (length bs)) (ends rest)
+    ap (end_of false) (append_assoc bs more (quotation_mark ∷ rest)) ∙ pass_all bs (more ++ quotation_mark ∷ rest) e ∙ ap (further (length bs)) (ends rest)
     ∙ ap (λ (n : ℕ). Some n) (append_length bs more)
 
 escape_before : (x : ℕ) (more : List ℕ) → EndsString more → EndsString (backslash ∷ x ∷ more)
@@ -77,7 +78,7 @@ high_pass : (xs : List ℕ) → ((k : ℕ) → k < length xs → 128 ≤ get_or 
 high_pass [] h = refl
 high_pass (x ∷ xs) h =
     let high : 128 ≤ x = h 0 (omega arith) in
-    and_from _ _ (and_from _ _ (not_from_false _ (ne_eqb x quote (λ e. omega arith))) (not_from_false _ (ne_eqb x backslash (λ e. omega arith)))) (high_pass xs (λ k below. h (suc k) (omega arith)))
+    and_from _ _ (and_from _ _ (not_from_false _ (ne_eqb x quotation_mark (λ e. omega arith))) (not_from_false _ (ne_eqb x backslash (λ e. omega arith)))) (high_pass xs (λ k below. h (suc k) (omega arith)))
 
 character_passes : (c : ℕ) → passes c ≡ true → list_all passes (encode_utf8 c) ≡ true
 character_passes c e = elim (cases_lt c 128) [
@@ -98,7 +99,7 @@ hex_none : (a y d : ℕ) → hex_digit y ≡ nothing → hex_digit a ≡ given d
 hex_none a y d n e = not_from_false _ (ne_eqb a y (λ same. none_is d (sym n ∙ sym (ap hex_digit same) ∙ e)))
 
 hex_passes : (a d : ℕ) → hex_digit a ≡ given d → passes a ≡ true
-hex_passes a d e = and_from _ _ (hex_none a quote d refl e) (hex_none a backslash d refl e)
+hex_passes a d e = and_from _ _ (hex_none a quotation_mark d refl e) (hex_none a backslash d refl e)
 
 -- each digit of a code unit
 record FourPass (a b c d : ℕ) : Type 0 where
@@ -122,24 +123,24 @@ two_before x more small ends =
     subst (λ (bs : List ℕ). EndsString (bs ++ (encode_utf8 x ++ more))) (sym (encode_ascii backslash (lit< tt)))
     (subst (λ (bs : List ℕ). EndsString (backslash ∷ (bs ++ more))) (sym (encode_ascii x small)) (escape_before x more ends))
 
-four_before : (a b c d u : ℕ) (more : List ℕ) → code_unit a b c d ≡ given u → EndsString more → EndsString (encode_utf8 backslash ++ (encode_utf8 lower_u ++ (encode_utf8 a ++ (encode_utf8 b ++ (encode_utf8 c ++ (encode_utf8 d ++ more))))))
+four_before : (a b c d u : ℕ) (more : List ℕ) → code_unit a b c d ≡ given u → EndsString more → EndsString (encode_utf8 backslash ++ (encode_utf8 small_u ++ (encode_utf8 a ++ (encode_utf8 b ++ (encode_utf8 c ++ (encode_utf8 d ++ more))))))
 four_before a b c d u more e ends =
     let p = unit_passes a b c d u e in
-    two_before lower_u _ (lit< tt) (character_before a _ p.a_passes (character_before b _ p.b_passes (character_before c _ p.c_passes (character_before d more p.d_passes ends))))
+    two_before small_u _ (lit< tt) (character_before a _ p.a_passes (character_before b _ p.b_passes (character_before c _ p.c_passes (character_before d more p.d_passes ends))))
 
 pub short_small : (x c : ℕ) → short_escape x ≡ given c → x < 128
 unfolding short_escape
 short_small x c e = elim (cases_lt x 128) [
   | inl low ↦ low
   | inr high ↦
-      let a1 : (x == 34) ≡ false = ne_eqb x 34 (λ e. omega arith) in
-      let a2 : (x == 92) ≡ false = ne_eqb x 92 (λ e. omega arith) in
-      let a3 : (x == 47) ≡ false = ne_eqb x 47 (λ e. omega arith) in
-      let a4 : (x == 98) ≡ false = ne_eqb x 98 (λ e. omega arith) in
-      let a5 : (x == 102) ≡ false = ne_eqb x 102 (λ e. omega arith) in
-      let a6 : (x == 110) ≡ false = ne_eqb x 110 (λ e. omega arith) in
-      let a7 : (x == 114) ≡ false = ne_eqb x 114 (λ e. omega arith) in
-      let a8 : (x == 116) ≡ false = ne_eqb x 116 (λ e. omega arith) in
+      let a1 : (x == quotation_mark) ≡ false = ne_eqb x quotation_mark (λ e. omega arith) in
+      let a2 : (x == backslash) ≡ false = ne_eqb x backslash (λ e. omega arith) in
+      let a3 : (x == solidus) ≡ false = ne_eqb x solidus (λ e. omega arith) in
+      let a4 : (x == small_b) ≡ false = ne_eqb x small_b (λ e. omega arith) in
+      let a5 : (x == small_f) ≡ false = ne_eqb x small_f (λ e. omega arith) in
+      let a6 : (x == small_n) ≡ false = ne_eqb x small_n (λ e. omega arith) in
+      let a7 : (x == small_r) ≡ false = ne_eqb x small_r (λ e. omega arith) in
+      let a8 : (x == small_t) ≡ false = ne_eqb x small_t (λ e. omega arith) in
       absurd (none_is c (rw (a1, a2, a3, a4, a5, a6, a7, a8) at e))
 ]
 
@@ -169,47 +170,47 @@ text_again t s ok h =
     let valid : utf8_of (encode_utf8_all t) ≡ Some (encode_utf8_all t) = utf8_of-valid _ (t, (ok, refl)) in
     ap (λ (o : Option (List ℕ)). o >>= λ b. content_of 0 (characters b)) valid ∙ ap (content_of 0) (characters-encodes t ok) ∙ content_again t s h
 
-inside_again : (t s rest : List ℕ) → all_scalars t ≡ true → IsContent t s → string_at (encode_utf8_all t ++ quote ∷ rest) ≡ Some (s, rest)
+inside_again : (t s rest : List ℕ) → all_scalars t ≡ true → IsContent t s → string_at (encode_utf8_all t ++ quotation_mark ∷ rest) ≡ Some (s, rest)
 unfolding string_at
 inside_again t s rest ok h =
     let bytes : List ℕ = encode_utf8_all t in
-    let ends : end_of false (bytes ++ quote ∷ rest) ≡ Some (length bytes) = content_ends t s h rest in
-    let text : text_of (take (length bytes) (bytes ++ quote ∷ rest)) ≡ Some s = ap text_of (take_front bytes (quote ∷ rest)) ∙ text_again t s ok h in
-    ap (λ (o : Option ℕ). o >>= λ n. text_of (take n (bytes ++ quote ∷ rest)) >>= λ s. Some (s, drop (n + 1) (bytes ++ quote ∷ rest))) ends
-    ∙ ap (λ (o : Option (List ℕ)). o >>= λ s. Some (s, drop (length bytes + 1) (bytes ++ quote ∷ rest))) text
-    ∙ ap (λ (r : List ℕ). Some (s, r)) (drop_front bytes quote rest)
+    let ends : end_of false (bytes ++ quotation_mark ∷ rest) ≡ Some (length bytes) = content_ends t s h rest in
+    let text : text_of (take (length bytes) (bytes ++ quotation_mark ∷ rest)) ≡ Some s = ap text_of (take_front bytes (quotation_mark ∷ rest)) ∙ text_again t s ok h in
+    ap (λ (o : Option ℕ). o >>= λ n. text_of (take n (bytes ++ quotation_mark ∷ rest)) >>= λ s. Some (s, drop (n + 1) (bytes ++ quotation_mark ∷ rest))) ends
+    ∙ ap (λ (o : Option (List ℕ)). o >>= λ s. Some (s, drop (length bytes + 1) (bytes ++ quotation_mark ∷ rest))) text
+    ∙ ap (λ (r : List ℕ). Some (s, r)) (drop_front bytes quotation_mark rest)
 
 -- a string at the front: what stands behind its first quotation mark
 pub record StringFront (t s rest : List ℕ) : Type 0 where
   pub inside : List ℕ
-  pub is : t ++ rest ≡ quote ∷ inside
+  pub is : t ++ rest ≡ quotation_mark ∷ inside
   pub reads : string_at inside ≡ Some (s, rest)
 
 pub string_again : (t s : List ℕ) → IsString t s → (rest : List ℕ) → StringFront t s rest
 string_again t s h rest = record {
-  inside = encode_utf8_all h.written ++ quote ∷ rest;
-  is = ap (λ (x : List ℕ). x ++ rest) h.is ∙ ap (λ (x : List ℕ). quote ∷ x) (append_assoc (encode_utf8_all h.written) (quote ∷ []) rest);
+  inside = encode_utf8_all h.written ++ quotation_mark ∷ rest;
+  is = ap (λ (x : List ℕ). x ++ rest) h.is ∙ ap (λ (x : List ℕ). quotation_mark ∷ x) (append_assoc (encode_utf8_all h.written) (quotation_mark ∷ []) rest);
   reads = inside_again h.written s rest h.scalars h.content;
 }
 
 -- ---- what is read is a string
 
-end_splits : (e : Bool) (t : List ℕ) (n : ℕ) → end_of e t ≡ given n → t ≡ take n t ++ quote ∷ drop (n + 1) t
+end_splits : (e : Bool) (t : List ℕ) (n : ℕ) → end_of e t ≡ given n → t ≡ take n t ++ quotation_mark ∷ drop (n + 1) t
 unfolding end_of
 end_splits e [] n h = absurd (none_is n h)
 end_splits e (x ∷ t) n h =
-    elim (chosen (not e && x == quote) (given 0) (option_map (λ n. n + 1) (end_of (not e && x == backslash) t)) (given n) h) [
-      | inl w ↦ (let is : x ≡ quote = eqb-true x quote (and_parts _ _ w.0).1 in
-          subst (λ (m : ℕ). x ∷ t ≡ take m (x ∷ t) ++ quote ∷ drop (m + 1) (x ∷ t)) (given_is 0 n w.1) (ap (λ (y : ℕ). y ∷ t) is))
+    elim (chosen (not e && x == quotation_mark) (given 0) (option_map (λ n. n + 1) (end_of (not e && x == backslash) t)) (given n) h) [
+      | inl w ↦ (let is : x ≡ quotation_mark = eqb-true x quotation_mark (and_parts _ _ w.0).1 in
+          subst (λ (m : ℕ). x ∷ t ≡ take m (x ∷ t) ++ quotation_mark ∷ drop (m + 1) (x ∷ t)) (given_is 0 n w.1) (ap (λ (y : ℕ). y ∷ t) is))
       | inr w ↦ later x t n (end_of (not e && x == backslash) t) w.1 (λ m k. end_splits (not e && x == backslash) t m k)
     ] where
-      later : (x : ℕ) (t : List ℕ) (n : ℕ) (o : Option ℕ) → option_map (λ n. n + 1) o ≡ given n → ((m : ℕ) → o ≡ given m → t ≡ take m t ++ quote ∷ drop (m + 1) t)
-          → x ∷ t ≡ take n (x ∷ t) ++ quote ∷ drop (n + 1) (x ∷ t)
+      later : (x : ℕ) (t : List ℕ) (n : ℕ) (o : Option ℕ) → option_map (λ n. n + 1) o ≡ given n → ((m : ℕ) → o ≡ given m → t ≡ take m t ++ quotation_mark ∷ drop (m + 1) t)
+          → x ∷ t ≡ take n (x ∷ t) ++ quotation_mark ∷ drop (n + 1) (x ∷ t)
       later x t n None h more = absurd (none_is n h)
       later x t n (Some m) h more =
           let is : suc m ≡ n = omega (arith, given_is (m + 1) n h) in
-          let cut : t ≡ take m t ++ quote ∷ drop (suc m) t = rw add-one at (more m refl) in
-          subst (λ (k : ℕ). x ∷ t ≡ take k (x ∷ t) ++ quote ∷ drop (k + 1) (x ∷ t)) is (rw add-one (ap (λ (y : List ℕ). x ∷ y) cut))
+          let cut : t ≡ take m t ++ quotation_mark ∷ drop (suc m) t = rw add-one at (more m refl) in
+          subst (λ (k : ℕ). x ∷ t ≡ take k (x ∷ t) ++ quotation_mark ∷ drop (k + 1) (x ∷ t)) is (rw add-one (ap (λ (y : List ℕ). x ∷ y) cut))
 
 pub utf8_takes : (bytes b : List ℕ) → utf8_of bytes ≡ given b → (bytes ≡ b) × IsUtf8 bytes
 unfolding utf8_of
@@ -225,7 +226,7 @@ text_takes bytes s e =
 -- a string at the front
 pub record StringTaken (t s rest : List ℕ) : Type 0 where
   pub string : List ℕ
-  pub is : quote ∷ t ≡ string ++ rest
+  pub is : quotation_mark ∷ t ≡ string ++ rest
   pub is_string : IsString string s
 
 abbrev ReadString : Type 0
@@ -236,13 +237,13 @@ string_from t s n e h =
     let x = text_takes (take n t) s h in
     let bytes : encode_utf8_all (characters (take n t)) ≡ take n t = encodes-chars (take n t) x.0 in
     record {
-      string = quote ∷ (take n t ++ quote ∷ []);
-      is = ap (λ (y : List ℕ). quote ∷ y) (end_splits false t n e ∙ sym (append_assoc (take n t) (quote ∷ []) (drop (n + 1) t)));
+      string = quotation_mark ∷ (take n t ++ quotation_mark ∷ []);
+      is = ap (λ (y : List ℕ). quotation_mark ∷ y) (end_splits false t n e ∙ sym (append_assoc (take n t) (quotation_mark ∷ []) (drop (n + 1) t)));
       is_string = record {
         written = characters (take n t);
         scalars = ap all_scalars (characters-chars (take n t)) ∙ scalars-chars (take n t) x.0;
         content = x.1;
-        is = ap (λ (y : List ℕ). quote ∷ (y ++ quote ∷ [])) (sym bytes);
+        is = ap (λ (y : List ℕ). quotation_mark ∷ (y ++ quotation_mark ∷ [])) (sym bytes);
       };
     }
 

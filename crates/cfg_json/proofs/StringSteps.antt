@@ -6,9 +6,9 @@ use Rattle.std.specs.Char.{encode_utf8}
 use Rattle.std.proofs.lemmas.List.{append-nil, nil_from_length, drop_all}
 use Rattle.std.proofs.lemmas.Str.{chars-append, chars-encodes}
 use lib.Utf8.{scalar}
-use Rattle.cfg_types.specs.Text.{characters}
-use Rattle.cfg_types.proofs.TextLemmas.{characters-chars}
-use Rattle.cfg_json.specs.Characters.{quote, backslash}
+use Rattle.cfg_values.specs.Text.{characters}
+use Rattle.cfg_values.proofs.TextLemmas.{characters-chars}
+use Rattle.cfg_json.specs.Ascii.{quotation_mark, backslash}
 use Rattle.cfg_json.specs.Reads.{◌>>=◌}
 use Rattle.cfg_json.specs.Reading.{piece_at, content_of, end_of}
 
@@ -24,7 +24,7 @@ cut_at : (text : List ℕ) (i x : ℕ) → i < length text → x ≡ get_or text
 cut_at text i x lt is = let cut : drop i text ≡ get_or text i 0 ∷ drop (i + 1) text = rw add-one (drop-cons text i 0 lt) in cut ∙ ap (λ (y : ℕ). y ∷ drop (i + 1) text) (sym is)
 
 pub end_further : (text : List ℕ) (i x : ℕ) (e next : Bool) (total : Option ℕ) → i < length text → x ≡ get_or text i 0
-    → (not e && x == quote) ≡ false → next ≡ (not e && x == backslash)
+    → (not e && x == quotation_mark) ≡ false → next ≡ (not e && x == backslash)
     → from_place i (end_of e (drop i text)) ≡ total → from_place (i + 1) (end_of next (drop (i + 1) text)) ≡ total
 unfolding end_of
 end_further text i x e next total lt is open_ goes so_far =
@@ -35,7 +35,7 @@ end_further text i x e next total lt is open_ goes so_far =
     ∙ sym (ap (from_place i) one) ∙ sym (ap (λ (t : List ℕ). from_place i (end_of e t)) cut) ∙ so_far
 
 pub end_found : (text : List ℕ) (i x : ℕ) (e : Bool) (total : Option ℕ) → i < length text → x ≡ get_or text i 0
-    → (not e && x == quote) ≡ true → from_place i (end_of e (drop i text)) ≡ total → Some i ≡ total
+    → (not e && x == quotation_mark) ≡ true → from_place i (end_of e (drop i text)) ≡ total → Some i ≡ total
 unfolding end_of
 end_found text i x e total lt is closes so_far =
     let cut = cut_at text i x lt is in

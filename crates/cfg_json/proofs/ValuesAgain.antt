@@ -2,10 +2,10 @@
 use Rattle.std.proofs.Common.{◌≡◌, ℕ, zero, suc, ◌<◌, ◌≤◌, List, [], ◌∷◌, ◌++◌, length, inl, inr, Bool, true, false, Option, Some, refl, sym, ap, subst, ◌∙◌, append_assoc, arith, length-append}
 use Rattle.std.specs.Prelude.{◌||◌, ◌==◌, codes}
 use Rattle.std.proofs.lemmas.Bool.{or_cases, eqb-true}
+use Rattle.cfg_json.specs.Ascii.{quotation_mark, comma, colon, left_square_bracket, right_square_bracket, small_f, small_n, small_t, left_curly_bracket, right_curly_bracket}
 use Rattle.cfg_json.specs.WhiteSpace.{is_json_white_space, IsWhiteSpace}
-use Rattle.cfg_json.specs.Characters.{quote}
 use Rattle.cfg_json.specs.Reads.{◌>>=◌}
-use Rattle.cfg_json.specs.Values.{comma, colon, close_of, IsWord, IsKey, IsValue, IsItem, AreItems}
+use Rattle.cfg_json.specs.Values.{close_of, IsWord, IsKey, IsValue, IsItem, AreItems}
 use Rattle.cfg_json.specs.Reading.{after_white_space}
 use Rattle.cfg_json.specs.ReadingValues.{Read, or_front, leaf_at, key_at, padded_at, after_item, turn_at, items_at, item_at, inside_at, value_at}
 use Rattle.cfg_json.proofs.WhiteSpaceLaws.{NoWhiteSpace, white_space_again}
@@ -64,7 +64,7 @@ head_opens false t h = h.bracket
 pub key_starts : (key name v : List ℕ) → IsKey key name → Starts true (key ++ v)
 key_starts key name v h = record {
   white_space = h.before;
-  first = quote;
+  first = quotation_mark;
   others = _;
   is = ap (λ (y : List ℕ). y ++ v) h.is ∙ append_assoc h.before (h.string ++ (h.after ++ colon ∷ [])) v ∙ ap (λ (y : List ℕ). h.before ++ ((y ++ (h.after ++ colon ∷ [])) ++ v)) h.is_string.is;
   is_white_space = h.white_space_before;
@@ -97,33 +97,33 @@ items_start _ _ _ _ (AreItems.last k d v t b h e) = starts_then k v t (item_star
 items_start _ _ _ _ (AreItems.more k d v u t b c h hs e) = starts_then k v t (item_starts k d v b h) _ e
 
 -- a value that does not nest, at any depth
-leaf_value : (d x : ℕ) (t : List ℕ) (r : Option Read) → (x == 91) ≡ false → (x == 123) ≡ false → leaf_at (x ∷ t) ≡ r → value_at d (x ∷ t) ≡ r
+leaf_value : (d x : ℕ) (t : List ℕ) (r : Option Read) → (x == left_square_bracket) ≡ false → (x == left_curly_bracket) ≡ false → leaf_at (x ∷ t) ≡ r → value_at d (x ∷ t) ≡ r
 unfolding value_at
 leaf_value zero x t r a b e = e
 leaf_value (suc d) x t r a b e = rw (a, b) e
 
-leaf_value_at : (d : ℕ) (t : List ℕ) (x : ℕ) (u : List ℕ) (r : Option Read) → t ≡ x ∷ u → (x == 91) ≡ false → (x == 123) ≡ false → leaf_at t ≡ r → value_at d t ≡ r
+leaf_value_at : (d : ℕ) (t : List ℕ) (x : ℕ) (u : List ℕ) (r : Option Read) → t ≡ x ∷ u → (x == left_square_bracket) ≡ false → (x == left_curly_bracket) ≡ false → leaf_at t ≡ r → value_at d t ≡ r
 leaf_value_at d t x u r is a b e = ap (value_at d) is ∙ leaf_value d x u r a b (sym (ap leaf_at is) ∙ e)
 
 word_value : (d : ℕ) (t rest : List ℕ) → IsWord t → value_at d (t ++ rest) ≡ Some (false, rest)
 word_value d t rest h = let s : leaf_at (t ++ rest) ≡ Some (false, rest) = word_leaf t rest h in elim h [
-  | inl a ↦ leaf_value_at d (t ++ rest) 116 (codes "rue" ++ rest) _ (ap (λ (y : List ℕ). y ++ rest) a) refl refl s
+  | inl a ↦ leaf_value_at d (t ++ rest) small_t (codes "rue" ++ rest) _ (ap (λ (y : List ℕ). y ++ rest) a) refl refl s
   | inr b ↦ (elim b [
-    | inl a ↦ leaf_value_at d (t ++ rest) 102 (codes "alse" ++ rest) _ (ap (λ (y : List ℕ). y ++ rest) a) refl refl s
-    | inr a ↦ leaf_value_at d (t ++ rest) 110 (codes "ull" ++ rest) _ (ap (λ (y : List ℕ). y ++ rest) a) refl refl s
+    | inl a ↦ leaf_value_at d (t ++ rest) small_f (codes "alse" ++ rest) _ (ap (λ (y : List ℕ). y ++ rest) a) refl refl s
+    | inr a ↦ leaf_value_at d (t ++ rest) small_n (codes "ull" ++ rest) _ (ap (λ (y : List ℕ). y ++ rest) a) refl refl s
   ])
 ]
 
 closed_again : (k : Bool) (value : List ℕ → Option Read) (w rest : List ℕ) → IsWhiteSpace w → inside_at k value ((w ++ close_of k ∷ []) ++ rest) ≡ Some (false, rest)
 unfolding inside_at
-closed_again true value w rest h = let e : after_white_space ((w ++ 125 ∷ []) ++ rest) ≡ 125 ∷ rest = ap after_white_space (append_assoc w (125 ∷ []) rest) ∙ white_space_again w (125 ∷ rest) h refl in rw e refl
-closed_again false value w rest h = let e : after_white_space ((w ++ 93 ∷ []) ++ rest) ≡ 93 ∷ rest = ap after_white_space (append_assoc w (93 ∷ []) rest) ∙ white_space_again w (93 ∷ rest) h refl in rw e refl
+closed_again true value w rest h = let e : after_white_space ((w ++ right_curly_bracket ∷ []) ++ rest) ≡ right_curly_bracket ∷ rest = ap after_white_space (append_assoc w (right_curly_bracket ∷ []) rest) ∙ white_space_again w (right_curly_bracket ∷ rest) h refl in rw e refl
+closed_again false value w rest h = let e : after_white_space ((w ++ right_square_bracket ∷ []) ++ rest) ≡ right_square_bracket ∷ rest = ap after_white_space (append_assoc w (right_square_bracket ∷ []) rest) ∙ white_space_again w (right_square_bracket ∷ rest) h refl in rw e refl
 
-array_again : (d : ℕ) (t : List ℕ) (r : Option Read) → inside_at false (value_at d) t ≡ r → value_at (suc d) (91 ∷ t) ≡ r
+array_again : (d : ℕ) (t : List ℕ) (r : Option Read) → inside_at false (value_at d) t ≡ r → value_at (suc d) (left_square_bracket ∷ t) ≡ r
 unfolding value_at
 array_again d t r e = e
 
-object_again : (d : ℕ) (t : List ℕ) (r : Option Read) → inside_at true (value_at d) t ≡ r → value_at (suc d) (123 ∷ t) ≡ or_front true r
+object_again : (d : ℕ) (t : List ℕ) (r : Option Read) → inside_at true (value_at d) t ≡ r → value_at (suc d) (left_curly_bracket ∷ t) ≡ or_front true r
 unfolding value_at
 object_again d t r e = ap (or_front true) e
 
@@ -194,10 +194,10 @@ mutual
   pub value_again : (d : ℕ) (t : List ℕ) (b : Bool) → IsValue d t b → (rest : List ℕ) → EndsNumber rest → value_at d (t ++ rest) ≡ Some (b, rest)
   value_again _ _ _ (IsValue.string d t s h) rest ends =
       let f = string_again t s h rest in
-      leaf_value_at d (t ++ rest) quote f.inside _ f.is refl refl (string_leaf t s h rest)
+      leaf_value_at d (t ++ rest) quotation_mark f.inside _ f.is refl refl (string_leaf t s h rest)
   value_again _ _ _ (IsValue.number d t h) rest ends =
       let k = number_head t h in
-      leaf_value_at d (t ++ rest) k.first (k.others ++ rest) _ (ap (λ (y : List ℕ). y ++ rest) k.is) (not_number k.first 91 refl refl k.digit) (not_number k.first 123 refl refl k.digit) (number_leaf t rest h ends)
+      leaf_value_at d (t ++ rest) k.first (k.others ++ rest) _ (ap (λ (y : List ℕ). y ++ rest) k.is) (not_number k.first left_square_bracket refl refl k.digit) (not_number k.first left_curly_bracket refl refl k.digit) (number_leaf t rest h ends)
   value_again _ _ _ (IsValue.word d t h) rest ends = word_value d t rest h
   value_again _ _ _ (IsValue.no_items d w h) rest ends = array_again d _ _ (closed_again false (value_at d) w rest h)
   value_again _ _ _ (IsValue.items d t b h) rest ends =

@@ -2,8 +2,9 @@
 use Rattle.std.proofs.Common.{◌≡◌, ℕ, zero, suc, List, [], ◌∷◌, ◌++◌, length, ◌⊎◌, inl, inr, Bool, true, false, cond, Some, refl, sym, ap, subst, ◌∙◌, append_assoc}
 use Rattle.std.specs.Prelude.{◌||◌, ◌==◌}
 use Rattle.std.proofs.lemmas.Bool.{eqb-true}
+use Rattle.cfg_json.specs.Ascii.{comma, left_square_bracket, right_square_bracket, left_curly_bracket, right_curly_bracket}
 use Rattle.cfg_json.specs.WhiteSpace.{IsWhiteSpace}
-use Rattle.cfg_json.specs.Values.{comma, close_of, IsValue, IsItem, AreItems}
+use Rattle.cfg_json.specs.Values.{close_of, IsValue, IsItem, AreItems}
 use Rattle.cfg_json.specs.Reading.{after_white_space}
 use Rattle.cfg_json.specs.ReadingValues.{Read, Turn, or_front, leaf_at, key_at, padded_at, after_item, go_on, turn_at, items_at, item_at, inside_from, inside_at, value_at}
 use Rattle.cfg_json.proofs.Options.{given, nothing, none_is, given_is, bind_some, chosen, tested}
@@ -116,16 +117,16 @@ inside_takes : (k : Bool) (d : ℕ) → Takes d → (t : List ℕ) (r : Read) �
 unfolding inside_at
 inside_takes k d takes t r e = inside_from_takes k d takes t (after_white_space t) r refl e
 
-array_front : (d : ℕ) (t : List ℕ) (r : Read) → InsideFront false d t r.0 r.1 → Front (suc d) (91 ∷ t) r.0 r.1
+array_front : (d : ℕ) (t : List ℕ) (r : Read) → InsideFront false d t r.0 r.1 → Front (suc d) (left_square_bracket ∷ t) r.0 r.1
 array_front d t r h = elim h [
-  | inl w ↦ subst (λ (b : Bool). Front (suc d) (91 ∷ t) b r.1) (sym w.3) (91 ∷ (w.0 ++ 93 ∷ []), ap (λ (y : List ℕ). 91 ∷ y) w.2, IsValue.no_items d w.0 w.1)
-  | inr f ↦ (91 ∷ f.0, ap (λ (y : List ℕ). 91 ∷ y) f.1, IsValue.items d f.0 r.0 f.2)
+  | inl w ↦ subst (λ (b : Bool). Front (suc d) (left_square_bracket ∷ t) b r.1) (sym w.3) (left_square_bracket ∷ (w.0 ++ right_square_bracket ∷ []), ap (λ (y : List ℕ). left_square_bracket ∷ y) w.2, IsValue.no_items d w.0 w.1)
+  | inr f ↦ (left_square_bracket ∷ f.0, ap (λ (y : List ℕ). left_square_bracket ∷ y) f.1, IsValue.items d f.0 r.0 f.2)
 ]
 
-object_front : (d : ℕ) (t : List ℕ) (r : Read) → InsideFront true d t r.0 r.1 → Front (suc d) (123 ∷ t) true r.1
+object_front : (d : ℕ) (t : List ℕ) (r : Read) → InsideFront true d t r.0 r.1 → Front (suc d) (left_curly_bracket ∷ t) true r.1
 object_front d t r h = elim h [
-  | inl w ↦ (123 ∷ (w.0 ++ 125 ∷ []), ap (λ (y : List ℕ). 123 ∷ y) w.2, IsValue.no_members d w.0 w.1)
-  | inr f ↦ (123 ∷ f.0, ap (λ (y : List ℕ). 123 ∷ y) f.1, IsValue.members d f.0 r.0 f.2)
+  | inl w ↦ (left_curly_bracket ∷ (w.0 ++ right_curly_bracket ∷ []), ap (λ (y : List ℕ). left_curly_bracket ∷ y) w.2, IsValue.no_members d w.0 w.1)
+  | inr f ↦ (left_curly_bracket ∷ f.0, ap (λ (y : List ℕ). left_curly_bracket ∷ y) f.1, IsValue.members d f.0 r.0 f.2)
 ]
 
 pub value_takes : (d : ℕ) (t : List ℕ) (r : Read) → value_at d t ≡ given r → Front d t r.0 r.1
@@ -133,13 +134,13 @@ unfolding value_at
 value_takes d [] r e = absurd (none_is r e)
 value_takes zero (x ∷ t) r e = leaf_takes zero (x ∷ t) r e
 value_takes (suc d) (x ∷ t) r e =
-    elim (chosen (x == 91) (inside_at false (value_at d) t) (cond (x == 123) (or_front true (inside_at true (value_at d) t)) (leaf_at (x ∷ t))) (given r) e) [
-      | inl v ↦ subst (λ (y : ℕ). Front (suc d) (y ∷ t) r.0 r.1) (sym (eqb-true x 91 v.0)) (array_front d t r (inside_takes false d (value_takes d) t r v.1))
-      | inr v ↦ (elim (chosen (x == 123) (or_front true (inside_at true (value_at d) t)) (leaf_at (x ∷ t)) (given r) v.1) [
+    elim (chosen (x == left_square_bracket) (inside_at false (value_at d) t) (cond (x == left_curly_bracket) (or_front true (inside_at true (value_at d) t)) (leaf_at (x ∷ t))) (given r) e) [
+      | inl v ↦ subst (λ (y : ℕ). Front (suc d) (y ∷ t) r.0 r.1) (sym (eqb-true x left_square_bracket v.0)) (array_front d t r (inside_takes false d (value_takes d) t r v.1))
+      | inr v ↦ (elim (chosen (x == left_curly_bracket) (or_front true (inside_at true (value_at d) t)) (leaf_at (x ∷ t)) (given r) v.1) [
         | inl u ↦ (let q = bind_some (inside_at true (value_at d) t) (λ q. Some (true, q.1)) r u.1 in
             let made : Read = (true, q.0.1) in
             let f = object_front d t q.0 (inside_takes true d (value_takes d) t q.0 q.1) in
-            subst (λ (y : ℕ). Front (suc d) (y ∷ t) r.0 r.1) (sym (eqb-true x 123 u.0)) (subst (λ (y : Read). Front (suc d) (123 ∷ t) y.0 y.1) (given_is made r q.2) f))
+            subst (λ (y : ℕ). Front (suc d) (y ∷ t) r.0 r.1) (sym (eqb-true x left_curly_bracket u.0)) (subst (λ (y : Read). Front (suc d) (left_curly_bracket ∷ t) y.0 y.1) (given_is made r q.2) f))
         | inr u ↦ leaf_takes (suc d) (x ∷ t) r u.1
       ])
     ]

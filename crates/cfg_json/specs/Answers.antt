@@ -1,8 +1,9 @@
 -- What the readers of whole objects answer.
 use Rattle.std.specs.Prelude.{◌≡◌, ◌≢◌, ℕ, ◌-◌, length, ◌⊎◌, List, [], ◌∷◌, ◌++◌, false, drop, Result, Ok, Err}
-use Rattle.cfg_types.specs.Gives.{Gives, IsSaid}
+use Rattle.cfg_values.specs.Gives.{Gives, IsSaid}
 use Rattle.cfg_types.specs.declared.document.JsonError.{JsonError}
 use Rattle.cfg_types.specs.declared.document.JsonError.TheVariants as json
+use Rattle.cfg_json.specs.Ascii.{left_curly_bracket}
 use Rattle.cfg_json.specs.WhiteSpace.{is_json_white_space, IsWhiteSpace}
 use Rattle.cfg_json.specs.Objects.{HasObject}
 use Rattle.cfg_json.specs.Reading.{after_white_space}
@@ -23,11 +24,11 @@ member_list m = (m.list, m.end)
 
 -- the first byte that is no white space opens an object
 abbrev pub OpensObject : List ℕ → Type 0
-OpensObject bytes = (white_space : List ℕ) × (rest : List ℕ) × IsWhiteSpace white_space × (bytes ≡ white_space ++ 123 ∷ rest)
+OpensObject bytes = (white_space : List ℕ) × (rest : List ℕ) × IsWhiteSpace white_space × (bytes ≡ white_space ++ left_curly_bracket ∷ rest)
 
 -- it is another byte, or there is none
 abbrev pub OpensOther : List ℕ → Type 0
-OpensOther bytes = IsWhiteSpace bytes ⊎ ((white_space : List ℕ) × (x : ℕ) × (rest : List ℕ) × IsWhiteSpace white_space × (is_json_white_space x ≡ false) × (x ≢ 123) × (bytes ≡ white_space ++ x ∷ rest))
+OpensOther bytes = IsWhiteSpace bytes ⊎ ((white_space : List ℕ) × (x : ℕ) × (rest : List ℕ) × IsWhiteSpace white_space × (is_json_white_space x ≡ false) × (x ≢ left_curly_bracket) × (bytes ≡ white_space ++ x ∷ rest))
 
 -- no prefix of the bytes is an object
 abbrev pub HasNoObject : List ℕ → Type 0

@@ -1,26 +1,18 @@
 -- The characters of a JSON string (RFC 8259, section 7).
 use Rattle.std.specs.Prelude.{ℕ, ◌+◌, ◌-◌, ◌*◌, Bool, not, ◌&&◌, ◌==◌, nat_lt, nat_le, Option, Some, None, if◌then◌else◌}
 use Rattle.std.specs.Char.{digit_value}
+use Rattle.cfg_json.specs.Ascii.{backspace, tab, line_feed, form_feed, carriage_return, space, quotation_mark, solidus, backslash, small_b, small_f, small_n, small_r, small_t}
 use Rattle.cfg_json.specs.Reads.{◌>>=◌}
-
-abbrev pub quote : ℕ
-quote = 34
-
-abbrev pub backslash : ℕ
-backslash = 92
-
-abbrev pub lower_u : ℕ
-lower_u = 117
 
 -- may stand for itself: no control character, no quotation mark, no backslash
 abbrev pub is_plain : ℕ → Bool
-is_plain c = nat_le 32 c && (not (c == 34) && not (c == 92))
+is_plain c = nat_le space c && (not (c == quotation_mark) && not (c == backslash))
 
 -- what a backslash and the character x stand for, other than `\u`
 unfoldable pub short_escape : ℕ → Option ℕ
 short_escape x =
-    if x == 34 then Some 34 else (if x == 92 then Some 92 else (if x == 47 then Some 47 else (if x == 98 then Some 8 else (if x == 102 then Some 12 else
-    (if x == 110 then Some 10 else (if x == 114 then Some 13 else (if x == 116 then Some 9 else None)))))))
+    if x == quotation_mark then Some quotation_mark else (if x == backslash then Some backslash else (if x == solidus then Some solidus else (if x == small_b then Some backspace else (if x == small_f then Some form_feed else
+    (if x == small_n then Some line_feed else (if x == small_r then Some carriage_return else (if x == small_t then Some tab else None)))))))
 
 abbrev pub hex_digit : ℕ → Option ℕ
 hex_digit c = if nat_lt (digit_value c) 16 then Some (digit_value c) else None

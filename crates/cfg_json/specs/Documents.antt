@@ -5,8 +5,8 @@ use Rattle.std.specs.Int.{w32}
 use Rattle.std.specs.Ordering.{int_eq}
 use Rattle.std.specs.Str.{encode_utf8_all, bytes_eq}
 use Rattle.std.specs.Str.Parse.{IsNumeral, without_leading_sign, signed_digits_value}
-use Rattle.cfg_types.specs.Gives.{Gives, IsSaid, ◌>>=◌}
-use Rattle.cfg_types.specs.Moment.{Moment}
+use Rattle.cfg_values.specs.Gives.{Gives, IsSaid, ◌>>=◌}
+use Rattle.cfg_values.specs.Moment.{Moment}
 use Rattle.cfg_types.specs.Keys.{Keys}
 use Rattle.cfg_types.specs.Field.{field_name}
 use Rattle.cfg_types.specs.declared.document.JsonError.{JsonError}

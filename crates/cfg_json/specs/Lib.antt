@@ -1,4 +1,5 @@
 pub mod Reads
+pub mod Ascii
 pub mod Characters
 pub mod WhiteSpace
 pub mod Strings

@@ -4,9 +4,10 @@ use Rattle.std.specs.Prelude.{ℕ, zero, suc, ◌+◌, List, [], ◌∷◌, Bool
 use Rattle.std.specs.Char.{is_ascii_digit}
 use Rattle.std.specs.List.{starts_with}
 use Rattle.std.specs.Str.{is_utf8}
-use Rattle.cfg_types.specs.Text.{characters}
+use Rattle.cfg_values.specs.Text.{characters}
+use Rattle.cfg_json.specs.Ascii.{quotation_mark, plus_sign, hyphen_minus, full_stop, digit_zero, capital_e, backslash, small_e, small_u}
 use Rattle.cfg_json.specs.Reads.{◌>>=◌}
-use Rattle.cfg_json.specs.Characters.{quote, backslash, lower_u, is_plain, short_escape, code_unit, is_high, is_low, pair_char}
+use Rattle.cfg_json.specs.Characters.{is_plain, short_escape, code_unit, is_high, is_low, pair_char}
 use Rattle.cfg_json.specs.WhiteSpace.{is_json_white_space}
 
 -- what follows the white space at the front
@@ -31,23 +32,23 @@ digits_at (x ∷ t) = if is_ascii_digit x then Some (after_digits t) else None
 
 unfoldable pub after_minus : List ℕ → List ℕ
 after_minus [] = []
-after_minus (x ∷ t) = if x == 45 then t else x ∷ t
+after_minus (x ∷ t) = if x == hyphen_minus then t else x ∷ t
 
 unfoldable pub after_sign : List ℕ → List ℕ
 after_sign [] = []
-after_sign (x ∷ t) = if (x == 43) || (x == 45) then t else x ∷ t
+after_sign (x ∷ t) = if (x == plus_sign) || (x == hyphen_minus) then t else x ∷ t
 
 unfoldable pub whole_at : List ℕ → Option (List ℕ)
 whole_at [] = None
-whole_at (x ∷ t) = if x == 48 then Some t else digits_at (x ∷ t)
+whole_at (x ∷ t) = if x == digit_zero then Some t else digits_at (x ∷ t)
 
 unfoldable pub fraction_at : List ℕ → Option (List ℕ)
 fraction_at [] = Some []
-fraction_at (x ∷ t) = if x == 46 then digits_at t else Some (x ∷ t)
+fraction_at (x ∷ t) = if x == full_stop then digits_at t else Some (x ∷ t)
 
 unfoldable pub exponent_at : List ℕ → Option (List ℕ)
 exponent_at [] = Some []
-exponent_at (x ∷ t) = if (x == 101) || (x == 69) then digits_at (after_sign t) else Some (x ∷ t)
+exponent_at (x ∷ t) = if (x == small_e) || (x == capital_e) then digits_at (after_sign t) else Some (x ∷ t)
 
 -- what follows the number at the front
 unfoldable pub number_at : List ℕ → Option (List ℕ)
@@ -73,7 +74,7 @@ hex_at (a ∷ b ∷ c ∷ d ∷ t) = code_unit a b c d
 unfoldable pub low_at : List ℕ → Option ℕ
 low_at [] = None
 low_at (x ∷ []) = None
-low_at (x ∷ y ∷ t) = if x == backslash && y == lower_u then (hex_at t >>= λ l. if is_low l then Some l else None) else None
+low_at (x ∷ y ∷ t) = if x == backslash && y == small_u then (hex_at t >>= λ l. if is_low l then Some l else None) else None
 
 -- the character that is spelled at the front, behind `\u`, and how many characters spell it beside the first
 unfoldable pub unit_at : List ℕ → Option (ℕ × ℕ)
@@ -81,7 +82,7 @@ unit_at t = hex_at t >>= λ u. if is_high u then (low_at (drop 4 t) >>= λ l. So
 
 unfoldable pub escape_at : List ℕ → Option (ℕ × ℕ)
 escape_at [] = None
-escape_at (x ∷ t) = if x == lower_u then unit_at t else short_escape x >>= λ c. Some (c, 1)
+escape_at (x ∷ t) = if x == small_u then unit_at t else short_escape x >>= λ c. Some (c, 1)
 
 unfoldable pub piece_at : List ℕ → Option (ℕ × ℕ)
 piece_at [] = None
@@ -96,7 +97,7 @@ content_of zero (x ∷ t) = piece_at (x ∷ t) >>= λ p. content_of p.1 t >>= λ
 -- the place of the quotation mark that ends a string, whose first byte may stand behind a backslash
 unfoldable pub end_of : Bool → List ℕ → Option ℕ
 end_of escaped [] = None
-end_of escaped (x ∷ t) = if not escaped && x == quote then Some 0 else option_map (λ n. n + 1) (end_of (not escaped && x == backslash) t)
+end_of escaped (x ∷ t) = if not escaped && x == quotation_mark then Some 0 else option_map (λ n. n + 1) (end_of (not escaped && x == backslash) t)
 
 -- the bytes, if they are UTF-8
 unfoldable pub utf8_of : List ℕ → Option (List ℕ)

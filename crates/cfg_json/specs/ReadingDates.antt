@@ -1,14 +1,15 @@
 -- Reading a date from left to right.
 use Rattle.std.specs.Prelude.{ℕ, ◌+◌, ◌-◌, ◌*◌, ◌/◌, List, [], ◌∷◌, Bool, ◌&&◌, ◌||◌, nat_lt, nat_le, ◌==◌, Option, Some, None, if◌then◌else◌, ℤ, pos, neg_ℤ, ◌-ℤ◌}
 use Rattle.jiff_core.specs.Calendar.{days_in_month}
-use Rattle.cfg_types.specs.Moment.{Moment}
+use Rattle.cfg_values.specs.Moment.{Moment}
+use Rattle.cfg_json.specs.Ascii.{plus_sign, hyphen_minus, full_stop, digit_zero, digit_nine, colon, capital_t, capital_z, small_t, small_z}
 use Rattle.cfg_json.specs.Reads.{◌>>=◌}
 use Rattle.cfg_json.specs.Reading.{mark_at}
 use Rattle.cfg_json.specs.Dates.{seconds_of, first_weight}
 use Rattle.cfg_json.specs.declared.dates.local.LocalTime.{LocalTime}
 
 abbrev pub digit : ℕ → Option ℕ
-digit c = if nat_le 48 c && nat_le c 57 then Some (c - 48) else None
+digit c = if nat_le digit_zero c && nat_le c digit_nine then Some (c - digit_zero) else None
 
 unfoldable pub two_at : List ℕ → Option (ℕ × List ℕ)
 two_at [] = None
@@ -35,15 +36,15 @@ three_read a b c t = Some ((a, b, c), t)
 
 -- year, month and day
 unfoldable pub day_at : List ℕ → Option ReadThree
-day_at t = four_at t >>= λ y. next_at 45 y.1 >>= λ m. next_at 45 m.1 >>= λ d. three_read y.0 m.0 d.0 d.1
+day_at t = four_at t >>= λ y. next_at hyphen_minus y.1 >>= λ m. next_at hyphen_minus m.1 >>= λ d. three_read y.0 m.0 d.0 d.1
 
 -- hour, minute and second
 unfoldable pub clock_at : List ℕ → Option ReadThree
-clock_at t = two_at t >>= λ h. next_at 58 h.1 >>= λ m. next_at 58 m.1 >>= λ s. three_read h.0 m.0 s.0 s.1
+clock_at t = two_at t >>= λ h. next_at colon h.1 >>= λ m. next_at colon m.1 >>= λ s. three_read h.0 m.0 s.0 s.1
 
 unfoldable pub local_at : List ℕ → Option (LocalTime × List ℕ)
 local_at t =
-    day_at t >>= λ d. either_at 84 116 d.1 >>= λ r. clock_at r >>= λ c.
+    day_at t >>= λ d. either_at capital_t small_t d.1 >>= λ r. clock_at r >>= λ c.
     Some (record { year = d.0.0; month = d.0.1; day = d.0.2; hour = c.0.0; minute = c.0.1; second = c.0.2 }, c.1)
 
 abbrev pub ReadNumber : Type 0
@@ -71,7 +72,7 @@ nanos_at (x ∷ t) = digit x >>= λ d. nanos_from first_weight (x ∷ t)
 
 unfoldable pub second_fraction_at : List ℕ → Option ReadNumber
 second_fraction_at [] = Some (0, [])
-second_fraction_at (x ∷ t) = if x == 46 then nanos_at t else Some (0, x ∷ t)
+second_fraction_at (x ∷ t) = if x == full_stop then nanos_at t else Some (0, x ∷ t)
 
 abbrev pub is_civil : ℕ → ℕ → ℕ → Bool
 is_civil y m d = nat_le 1 y && (nat_le y 9999 && (nat_le 1 m && (nat_le m 12 && (nat_le 1 d && nat_le d (days_in_month (pos y) m)))))
@@ -86,14 +87,14 @@ if_last x (c ∷ t) = None
 
 -- hours and minutes, in seconds
 unfoldable pub offset_at : List ℕ → Option ℕ
-offset_at t = two_at t >>= λ h. next_at 58 h.1 >>= λ m. if_last m.0 m.1 >>= λ n. if nat_lt h.0 24 && nat_lt n 60 then Some (h.0 * 3600 + n * 60) else None
+offset_at t = two_at t >>= λ h. next_at colon h.1 >>= λ m. if_last m.0 m.1 >>= λ n. if nat_lt h.0 24 && nat_lt n 60 then Some (h.0 * 3600 + n * 60) else None
 
 -- how far the zone is ahead of UTC
 unfoldable pub zone_of : Bool → List ℕ → Option ℤ
 zone_of offsets [] = None
 zone_of offsets (x ∷ t) =
-    if (x == 90) || (x == 122) then if_last (pos 0) t
-    else (if offsets && (x == 43) then (offset_at t >>= λ n. Some (pos n)) else (if offsets && (x == 45) then (offset_at t >>= λ n. Some (neg_ℤ (pos n))) else None))
+    if (x == capital_z) || (x == small_z) then if_last (pos 0) t
+    else (if offsets && (x == plus_sign) then (offset_at t >>= λ n. Some (pos n)) else (if offsets && (x == hyphen_minus) then (offset_at t >>= λ n. Some (neg_ℤ (pos n))) else None))
 
 unfoldable pub moment_at : Bool → List ℕ → Option Moment
 moment_at offsets t =

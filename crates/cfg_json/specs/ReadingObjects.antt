@@ -1,12 +1,11 @@
 -- Reading the outer object from left to right. Places are told by how many bytes are left, of the total.
 use Rattle.std.specs.Option.{option_or}
 use Rattle.std.specs.Prelude.{ℕ, zero, suc, ◌-◌, List, [], ◌∷◌, ◌++◌, length, take, Bool, true, false, ◌||◌, ◌==◌, Option, Some, None, Result, Ok, Err, if◌then◌else◌}
-use Rattle.cfg_types.specs.Text.{characters}
+use Rattle.cfg_values.specs.Text.{characters}
 use Rattle.cfg_types.specs.declared.document.JsonError.{JsonError}
 use Rattle.cfg_types.specs.declared.document.JsonError.TheVariants as json
+use Rattle.cfg_json.specs.Ascii.{quotation_mark, comma, left_square_bracket, left_curly_bracket, right_curly_bracket}
 use Rattle.cfg_json.specs.Reads.{◌>>=◌}
-use Rattle.cfg_json.specs.Characters.{quote}
-use Rattle.cfg_json.specs.Values.{comma}
 use Rattle.cfg_json.specs.Objects.{inner_depth}
 use Rattle.cfg_json.specs.Reading.{after_white_space, number_at, word_at, string_at, utf8_of}
 use Rattle.cfg_json.specs.ReadingValues.{key_at, value_at}
@@ -36,7 +35,7 @@ word_value_at t = word_at t >>= λ r. Some (value.Other, r)
 
 unfoldable pub member_value_at : ℕ → List ℕ → Option ReadValue
 member_value_at total [] = None
-member_value_at total (x ∷ t) = if x == quote then text_value_at t else (if (x == 123) || (x == 91) then nested_value_at total (x == 123) (x ∷ t) else option_or (word_value_at (x ∷ t)) (number_value_at (x ∷ t)))
+member_value_at total (x ∷ t) = if x == quotation_mark then text_value_at t else (if (x == left_curly_bracket) || (x == left_square_bracket) then nested_value_at total (x == left_curly_bracket) (x ∷ t) else option_or (word_value_at (x ∷ t)) (number_value_at (x ∷ t)))
 
 unfoldable pub member_at : ℕ → List ℕ → Option (Member × List ℕ)
 member_at total t = key_at t >>= λ k. member_value_at total (after_white_space k.1) >>= λ v. Some (record { key = k.0; value = v.0 }, after_white_space v.1)
@@ -47,7 +46,7 @@ MemberTurn = Member × Bool × List ℕ
 
 abbrev pub after_member : Member → List ℕ → Option MemberTurn
 after_member m [] = None
-after_member m (x ∷ t) = if x == 125 then Some (m, true, t) else (if x == comma then Some (m, false, t) else None)
+after_member m (x ∷ t) = if x == right_curly_bracket then Some (m, true, t) else (if x == comma then Some (m, false, t) else None)
 
 unfoldable pub member_turn_at : ℕ → List ℕ → Option MemberTurn
 member_turn_at total t = member_at total t >>= λ p. after_member p.0 p.1
@@ -69,7 +68,7 @@ members_at total (suc n) t = member_turn_at total t >>= λ p. go_on_members p.0 
 
 abbrev pub object_from : ℕ → List ℕ → List ℕ → Option ReadMembers
 object_from total t [] = None
-object_from total t (x ∷ u) = if x == 125 then Some ([], u) else members_at total (length t) t
+object_from total t (x ∷ u) = if x == right_curly_bracket then Some ([], u) else members_at total (length t) t
 
 -- behind the opening brace
 unfoldable pub object_at : ℕ → List ℕ → Option ReadMembers
@@ -85,7 +84,7 @@ answer_of (Some r) = Ok r
 
 abbrev pub opened : ℕ → List ℕ → Answer
 opened total [] = Err json.NotObject
-opened total (x ∷ t) = if x == 123 then answer_of (object_at total t) else Err json.NotObject
+opened total (x ∷ t) = if x == left_curly_bracket then answer_of (object_at total t) else Err json.NotObject
 
 unfoldable pub object_answer : List ℕ → Answer
 object_answer bytes = opened (length bytes) (after_white_space bytes)

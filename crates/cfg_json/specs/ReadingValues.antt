@@ -1,9 +1,9 @@
 -- Reading a value from left to right: whether an object stands in it, and what follows it.
 use Rattle.std.specs.Option.{option_or}
 use Rattle.std.specs.Prelude.{ℕ, zero, suc, List, [], ◌∷◌, length, Bool, true, false, ◌||◌, ◌==◌, Option, Some, None, if◌then◌else◌}
+use Rattle.cfg_json.specs.Ascii.{quotation_mark, comma, colon, left_square_bracket, left_curly_bracket}
 use Rattle.cfg_json.specs.Reads.{◌>>=◌}
-use Rattle.cfg_json.specs.Characters.{quote}
-use Rattle.cfg_json.specs.Values.{comma, colon, close_of}
+use Rattle.cfg_json.specs.Values.{close_of}
 use Rattle.cfg_json.specs.Reading.{after_white_space, mark_at, number_at, word_at, string_at}
 
 abbrev pub Read : Type 0
@@ -19,11 +19,11 @@ scalar_at t = option_or (word_at t) (number_at t)
 -- a value that does not nest
 unfoldable pub leaf_at : List ℕ → Option Read
 leaf_at [] = None
-leaf_at (x ∷ t) = if x == quote then (string_at t >>= λ p. Some (false, p.1)) else (scalar_at (x ∷ t) >>= λ r. Some (false, r))
+leaf_at (x ∷ t) = if x == quotation_mark then (string_at t >>= λ p. Some (false, p.1)) else (scalar_at (x ∷ t) >>= λ r. Some (false, r))
 
 -- a key and its colon: the key's characters, and what follows
 unfoldable pub key_at : List ℕ → Option (List ℕ × List ℕ)
-key_at t = mark_at quote (after_white_space t) >>= λ r. string_at r >>= λ k. mark_at colon (after_white_space k.1) >>= λ v. Some (k.0, v)
+key_at t = mark_at quotation_mark (after_white_space t) >>= λ r. string_at r >>= λ k. mark_at colon (after_white_space k.1) >>= λ v. Some (k.0, v)
 
 -- a value with the white space round it
 unfoldable pub padded_at : (List ℕ → Option Read) → List ℕ → Option Read
@@ -64,4 +64,4 @@ inside_at keyed value t = inside_from keyed value t (after_white_space t)
 unfoldable pub value_at : ℕ → List ℕ → Option Read
 value_at d [] = None
 value_at zero (x ∷ t) = leaf_at (x ∷ t)
-value_at (suc d) (x ∷ t) = if x == 91 then inside_at false (value_at d) t else (if x == 123 then or_front true (inside_at true (value_at d) t) else leaf_at (x ∷ t))
+value_at (suc d) (x ∷ t) = if x == left_square_bracket then inside_at false (value_at d) t else (if x == left_curly_bracket then or_front true (inside_at true (value_at d) t) else leaf_at (x ∷ t))

@@ -1,18 +1,13 @@
 -- Values that nest (RFC 8259, sections 3 to 5), down to a depth.
 use Rattle.std.specs.Prelude.{◌≡◌, ℕ, suc, List, [], ◌∷◌, ◌++◌, Bool, true, false, ◌||◌, ◌⊎◌, codes, if◌then◌else◌}
+use Rattle.cfg_json.specs.Ascii.{comma, colon, left_square_bracket, right_square_bracket, left_curly_bracket, right_curly_bracket}
 use Rattle.cfg_json.specs.WhiteSpace.{IsWhiteSpace}
 use Rattle.cfg_json.specs.Strings.{IsString}
 use Rattle.cfg_json.specs.Numbers.{IsNumber}
 
-abbrev pub comma : ℕ
-comma = 44
-
-abbrev pub colon : ℕ
-colon = 58
-
 -- what ends an array, and an object
 abbrev pub close_of : Bool → ℕ
-close_of keyed = if keyed then 125 else 93
+close_of keyed = if keyed then right_curly_bracket else right_square_bracket
 
 -- one of the three words that are values
 abbrev pub IsWord : List ℕ → Type 0
@@ -34,10 +29,10 @@ mutual
     string : (d : ℕ) (t s : List ℕ) → IsString t s → IsValue d t false
     number : (d : ℕ) (t : List ℕ) → IsNumber t → IsValue d t false
     word : (d : ℕ) (t : List ℕ) → IsWord t → IsValue d t false
-    no_items : (d : ℕ) (w : List ℕ) → IsWhiteSpace w → IsValue (suc d) (91 ∷ (w ++ 93 ∷ [])) false
-    items : (d : ℕ) (t : List ℕ) (b : Bool) → AreItems false d t b → IsValue (suc d) (91 ∷ t) b
-    no_members : (d : ℕ) (w : List ℕ) → IsWhiteSpace w → IsValue (suc d) (123 ∷ (w ++ 125 ∷ [])) true
-    members : (d : ℕ) (t : List ℕ) (b : Bool) → AreItems true d t b → IsValue (suc d) (123 ∷ t) true
+    no_items : (d : ℕ) (w : List ℕ) → IsWhiteSpace w → IsValue (suc d) (left_square_bracket ∷ (w ++ right_square_bracket ∷ [])) false
+    items : (d : ℕ) (t : List ℕ) (b : Bool) → AreItems false d t b → IsValue (suc d) (left_square_bracket ∷ t) b
+    no_members : (d : ℕ) (w : List ℕ) → IsWhiteSpace w → IsValue (suc d) (left_curly_bracket ∷ (w ++ right_curly_bracket ∷ [])) true
+    members : (d : ℕ) (t : List ℕ) (b : Bool) → AreItems true d t b → IsValue (suc d) (left_curly_bracket ∷ t) true
 
   -- a value with the white space round it; in an object a key stands before it
   pub data IsItem : Bool → ℕ → List ℕ → Bool → Type 0 where

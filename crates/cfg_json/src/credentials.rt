@@ -1,7 +1,7 @@
 //! Documents of credentials, as instance metadata, containers and endpoints answer them.
 ghost use Rattle.std.specs.Prelude.{◌≡◌, IfOk, option_map, Ok, unwrap_or, codes};
 ghost use Rattle.cfg_json.specs.declared.credentials.JsonCredentials.TheVariants as document;
-ghost use Rattle.cfg_types.specs.Gives.{IsSaid};
+ghost use Rattle.cfg_values.specs.Gives.{IsSaid};
 ghost use Rattle.cfg_json.specs.Documents.{UnlessMemory, AnswersDocument, field_text, required as required_text, dated as dated_at, refreshable as refreshable_of, refused as refused_of, document_of, IsTable, ReadsDocument, fault_of};
 
 use crate::dates::reading::parse_date;
@@ -9,7 +9,8 @@ use crate::lookup::last_text;
 use crate::member::{Member, Members};
 use crate::reading::only_members;
 use cfg_types::{
-    Field, FieldFault, Instant, InvalidJsonCredentials, JsonError, OutOfMemory, Text, TryCopy,
+    Field, FieldFault, Instant, InvalidJsonCredentials, JsonError, OutOfMemory, ShownAccount, Text,
+    TryCopy,
 };
 use std::alloc::Global;
 use std::fmt;
@@ -227,7 +228,7 @@ impl fmt::Debug for JsonCredentials {
                 expiration,
             } => {
                 let id = access_key_id.as_str();
-                let account = ShownAccount(account_id);
+                let account = ShownAccount(account_id.as_ref());
                 let seconds = expiration.seconds();
                 let nanos = expiration.nanos();
                 write!(
@@ -239,26 +240,6 @@ impl fmt::Debug for JsonCredentials {
                 let code = code.as_str();
                 let message = message.as_str();
                 write!(f, "Error {{ code: \"{code}\", message: \"{message}\" }}")
-            }
-        }
-    }
-}
-
-#[derive(Drop)]
-struct ShownAccount<'a>(&'a Option<Text>);
-
-impl fmt::Display for ShownAccount<'_> {
-    ghost use Rattle.std.specs.Prelude.{Some};
-    ghost use Rattle.cfg_types.specs.Shown.{shown_account};
-
-    ghost output = { λ a. Some (shown_account a.0.now) };
-
-    fn fmt<W: fmt::Write>(&self, f: &mut fmt::Formatter<W>) -> fmt::Result {
-        match self.0 {
-            None => Ok(()),
-            Some(account) => {
-                let id = account.as_str();
-                write!(f, ", account_id: \"{id}\"")
             }
         }
     }

@@ -2,7 +2,7 @@
 ghost use Rattle.std.specs.Prelude.{◌≡◌, ◌↔◌, ℕ, ◌-◌, List, Some, ◌∷◌, ◌++◌, map, length, true, None, All};
 ghost use Rattle.std.specs.Str.{encode_utf8_all, all_scalars};
 ghost use Rattle.cfg_json.specs.declared.member.Member.{Member};
-ghost use Rattle.cfg_types.specs.Moment.{Moment};
+ghost use Rattle.cfg_values.specs.Moment.{Moment};
 ghost use Rattle.cfg_json.specs.Dates.{IsDateText, IsOffsetDateText, IsWrittenDate};
 ghost use Rattle.cfg_json.specs.Documents.{date_in, offset_date_in};
 ghost use Rattle.cfg_json.specs.Strings.{IsString};

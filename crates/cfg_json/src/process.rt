@@ -3,7 +3,7 @@ ghost use Rattle.std.specs.Option.{option_or};
 ghost use Rattle.std.specs.Prelude.{◌≡◌, IfOk, option_map, codes, []};
 ghost use Rattle.cfg_types.specs.Field.{field_name};
 ghost use Rattle.cfg_json.specs.Lookups.{last_number as last_number_of};
-ghost use Rattle.cfg_types.specs.Gives.{IsSaid};
+ghost use Rattle.cfg_values.specs.Gives.{IsSaid};
 ghost use Rattle.cfg_json.specs.Documents.{UnlessMemory, AnswersDocument, ReadsWhole, ReadsVersion, field_text, known_version, optional_end as end_of, process_of, IsProcessTable};
 
 use crate::credentials::{dated, document_members, find_text, optional, required};

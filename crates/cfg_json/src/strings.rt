@@ -2,9 +2,10 @@ ghost use Rattle.std.specs.Prelude.{◌≡◌, ◌<◌, ◌++◌, ◌==◌, ◌&
 ghost use Rattle.std.specs.List.{list_all};
 ghost use Rattle.std.specs.Char.{encode_utf8};
 ghost use lib.Utf8.{scalar};
-ghost use Rattle.cfg_types.specs.Text.{characters};
+ghost use Rattle.cfg_values.specs.Text.{characters};
+ghost use Rattle.cfg_json.specs.Ascii.{quotation_mark, backslash};
 ghost use Rattle.cfg_json.specs.Reads.{Reads};
-ghost use Rattle.cfg_json.specs.Characters.{quote, backslash, is_plain as is_plain_character};
+ghost use Rattle.cfg_json.specs.Characters.{is_plain as is_plain_character};
 ghost use Rattle.cfg_json.specs.Reading.{end_of, content_of, utf8_of, text_of, string_at};
 
 use crate::escapes::piece;
@@ -12,7 +13,7 @@ use cfg_types::{JsonError, OutOfMemory, Text};
 use std::alloc::{AllocError, Global};
 
 fn ends(escaped: bool, byte: u8) -> bool
-    ensures { result ≡ (not escaped && byte == quote) }
+    ensures { result ≡ (not escaped && byte == quotation_mark) }
 {
     !escaped && byte == b'"'
 }

@@ -2,7 +2,8 @@
 ghost use Rattle.std.specs.Prelude.{◌≡◌, ◌++◌, ◌∷◌, [], ◌<◌, ◌/◌, ◌%◌, true, false, OnOk, IfOk};
 ghost use Rattle.std.specs.List.{flat_map};
 ghost use Rattle.std.specs.Char.{digit_char, encode_utf8};
-ghost use Rattle.cfg_types.specs.Text.{characters};
+ghost use Rattle.cfg_values.specs.Text.{characters};
+ghost use Rattle.cfg_json.specs.Ascii.{comma, digit_zero, colon, backslash, small_u};
 ghost use Rattle.cfg_json.specs.Writing.{escape_letter, escape, quoted, braced, before_next, with_member};
 
 use crate::strings::{characters_of, push_character};
@@ -19,7 +20,7 @@ struct Written {
 impl Model for Written {
     ghost use Rattle.std.specs.Prelude.{List, ℕ};
     ghost use Rattle.std.specs.String.{string_bytes};
-    ghost use Rattle.cfg_types.specs.Text.{characters};
+    ghost use Rattle.cfg_values.specs.Text.{characters};
 
     ghost Value = { List ℕ };
 
@@ -37,7 +38,7 @@ impl Written {
 
     fn is_empty(&self) -> bool
         ensures empty { result ≡ true → before_next self.now ≡ self.now }
-        ensures other { result ≡ false → before_next self.now ≡ self.now ++ 44 ∷ [] }
+        ensures other { result ≡ false → before_next self.now ≡ self.now ++ comma ∷ [] }
     {
         self.inner.as_bytes().is_empty()
     }
@@ -97,7 +98,7 @@ fn hex_digit(n: u32) -> char
 #[tactic(auto, using(std::proofs::lemmas::Grind::common_steps))]
 fn push_code(out: &mut Written, code: u32) -> Result<(), OutOfMemory>
     requires { code < 32 }
-    ensures { OnOk result (out.new ≡ out.old ++ 92 ∷ 117 ∷ 48 ∷ 48 ∷ digit_char (code / 16) ∷ digit_char (code % 16) ∷ []) }
+    ensures { OnOk result (out.new ≡ out.old ++ backslash ∷ small_u ∷ digit_zero ∷ digit_zero ∷ digit_char (code / 16) ∷ digit_char (code % 16) ∷ []) }
 {
     out.push_text("\\u00")?;
     out.push(hex_digit(code / 16))?;
@@ -149,7 +150,7 @@ fn push_comma(out: &mut Written) -> Result<(), OutOfMemory>
 
 #[tactic(auto, using(std::proofs::lemmas::Grind::common_steps))]
 fn push_key(alloc: Global, out: &mut Written, key: &str) -> Result<(), OutOfMemory>
-    ensures { OnOk result (out.new ≡ before_next out.old ++ (quoted (characters key.now) ++ 58 ∷ [])) }
+    ensures { OnOk result (out.new ≡ before_next out.old ++ (quoted (characters key.now) ++ colon ∷ [])) }
 {
     push_comma(out)?;
     push_quoted(alloc, out, key)?;

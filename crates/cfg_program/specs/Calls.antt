@@ -1,9 +1,8 @@
 -- What a call of a script answers.
 use Rattle.std.specs.Prelude.{◌≡◌, ℕ, List, [], Bool, true, Option, None, map, option_map, is_ok, Result, codes}
-use Rattle.std.specs.FinMap.{empty}
-use Rattle.cfg_types.specs.Text.{characters}
+use Rattle.cfg_values.specs.Text.{characters}
 use Rattle.cfg_types.specs.Keys.{Keys}
-use Rattle.cfg_types.specs.Entries.{each_set}
+use Rattle.cfg_values.specs.Entries.{each_set}
 use Rattle.cfg_types.specs.declared.environment.EnvText.{EnvText}
 use Rattle.cfg_types.specs.declared.errors.CredentialsError.{CredentialsError}
 use Rattle.cfg_world.specs.declared.script.DeviceLists.{DeviceLists}
@@ -11,14 +10,15 @@ use Rattle.cfg_world.specs.Fits.{Pair}
 use Rattle.cfg_world.specs.Held.{Held}
 use Rattle.cfg_world.specs.Script as devices
 use Rattle.cfg_world.specs.Script.{Given, start, no_faults}
-use Rattle.cfg_chain.specs.declared.profile.sections.ProfileSource.TheVariants.{Sections}
-use Rattle.cfg_chain.specs.SectionParts.{SectionParts}
-use Rattle.cfg_chain.specs.SectionSets.{sections_by_name}
+use Rattle.cfg_chain.specs.declared.profile.sections.ProfileSource.{ProfileSource}
+use Rattle.cfg_chain.specs.declared.profile.sections.ProfileSource.TheVariants as source
+use Rattle.cfg_chain.specs.profile.SectionParts.{SectionParts}
+use Rattle.cfg_chain.specs.profile.SectionSets.{sections_by_name}
 use Rattle.cfg_chain.specs.Configuration.{Configuration}
 use Rattle.cfg_chain.specs.Resolves.{Resolves}
 use Rattle.cfg_chain.specs.Causes.{HasCause}
 use Rattle.cfg_chain.specs.Valid.{IsValid}
-use Rattle.cfg_script.specs.Script.{Plain, Section}
+use Rattle.cfg_script.specs.Script.{Plain, PlainProfiles, Sections, RefusedSections, Section}
 use Rattle.cfg_script.specs.Devices.{lists_of}
 use Rattle.cfg_program.specs.Lines.{shown}
 
@@ -26,23 +26,37 @@ use Rattle.cfg_program.specs.Lines.{shown}
 abbrev pub section_parts : Section → SectionParts
 section_parts s = record { name = s.0; properties = s.1 }
 
--- these variables, sections and selected name
-abbrev pub configured_by : List (List ℕ × EnvText) → List SectionParts → Option (List ℕ) → Configuration
-configured_by variables sections selected = record {
+-- the profiles that a script says, none where they are refused
+abbrev pub profiles_of : PlainProfiles → List Section
+profiles_of (Sections profiles sessions) = profiles
+profiles_of (RefusedSections reason) = []
+
+-- the sections that a script says, or their refusal
+abbrev pub source_of : PlainProfiles → ProfileSource
+source_of (Sections profiles sessions) = source.Sections (record {
+  profiles = sections_by_name (map section_parts profiles);
+  sessions = sections_by_name (map section_parts sessions);
+  selected = codes "default";
+})
+source_of (RefusedSections reason) = source.Refused reason
+
+-- these variables, sections, selected name and leave to sleep
+abbrev pub configured_by : List (List ℕ × EnvText) → ProfileSource → Option (List ℕ) → Bool → Configuration
+configured_by variables profiles selected sleep = record {
   environment = each_set variables;
-  profiles = Sections (record { profiles = sections_by_name sections; sessions = empty; selected = codes "default" });
+  profiles = profiles;
   profile_name = selected;
   region = None;
-  sleep = true;
+  sleep = sleep;
 }
 
--- these variables, sections as the script says them, and selected name
-abbrev pub configured : List (List ℕ × EnvText) → List Section → Option (List ℕ) → Configuration
-configured variables profiles selected = configured_by variables (map section_parts profiles) selected
+-- what a script configures, but for its region
+abbrev pub configured : Plain → Configuration
+configured p = configured_by p.variables (source_of p.profiles) p.selected p.sleep
 
 -- what a script configures
 abbrev pub configuration_of : Plain → Configuration
-configuration_of p = record (configured p.variables p.profiles p.selected) { region = option_map characters p.region }
+configuration_of p = record (configured p) { region = option_map characters p.region }
 
 -- scripted devices that nothing was asked of yet
 pub record IsFresh (w : Held devices.Script) : Type 0 where

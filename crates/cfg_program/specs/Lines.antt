@@ -3,15 +3,16 @@ use Rattle.std.specs.Prelude.{ℕ, ◌+◌, ◌/◌, ◌%◌, List, [], ◌∷�
 use Rattle.std.specs.List.{flat_map}
 use Rattle.std.specs.Str.{encode_utf8_all}
 use Rattle.std.specs.Fmt.{signed_decimal}
-use Rattle.cfg_types.specs.Moment.{Moment}
+use Rattle.cfg_values.specs.Moment.{Moment}
 use Rattle.cfg_types.specs.Keys.{Keys}
 use Rattle.cfg_types.specs.Classes.{class_of, class_name}
 use Rattle.cfg_types.specs.declared.errors.CredentialsError.{CredentialsError}
-use Rattle.cfg_types.specs.declared.request.Request.TheVariants.{AssumeRole}
+use Rattle.cfg_types.specs.declared.request.Request.{Request}
+use Rattle.cfg_types.specs.declared.request.Request.TheVariants as request
 use Rattle.cfg_world.specs.declared.ask.Question.{Question}
-use Rattle.cfg_world.specs.declared.ask.Question.TheVariants.{Now, Send}
+use Rattle.cfg_world.specs.declared.ask.Question.TheVariants as question
 use Rattle.cfg_world.specs.declared.ask.Answer.{Answer}
-use Rattle.cfg_world.specs.declared.ask.Answer.TheVariants.{Moment as MomentRead, Replied, Failed}
+use Rattle.cfg_world.specs.declared.ask.Answer.TheVariants.{Failed}
 use Rattle.cfg_world.specs.Fits.{Pair}
 use Rattle.percent_encoding.specs.Percent.{percent_encode}
 use Rattle.cfg_program.specs.declared.lines.TheConstants.{ESCAPED}
@@ -33,16 +34,31 @@ abbrev pub shown_expiry : Option Moment → List ℕ
 shown_expiry None = codes "none"
 shown_expiry (Some m) = signed_decimal m.seconds ++ (codes "." ++ nine_digits m.nanos)
 
--- the name of a question: `now` or `assume-role`
+-- the name of a request, under which a script has its replies
+abbrev pub name_of_request : Request → List ℕ
+name_of_request (request.Http call) = codes "http"
+name_of_request (request.MetadataToken call) = codes "imds-token"
+name_of_request (request.MetadataGet call) = codes "imds-get"
+name_of_request (request.AssumeRole call) = codes "assume-role"
+name_of_request (request.AssumeRoleWithWebIdentity call) = codes "web-identity"
+name_of_request (request.GetRoleCredentials call) = codes "role-credentials"
+name_of_request (request.CreateToken call) = codes "create-token"
+name_of_request (request.CreateOAuth2Token call) = codes "sign-in"
+
+-- the name of a question
 abbrev pub name_of_question : Question → List ℕ
-name_of_question Now = codes "now"
-name_of_question (Send (AssumeRole call)) = codes "assume-role"
+name_of_question question.Now = codes "now"
+name_of_question question.Jitter = codes "jitter"
+name_of_question (question.Read path) = codes "read"
+name_of_question (question.Write path bytes) = codes "write"
+name_of_question (question.Run command) = codes "run"
+name_of_question (question.LookUp host) = codes "lookup"
+name_of_question (question.Send request) = name_of_request request
 
 -- `!` behind a question that failed
 abbrev pub mark : Answer → List ℕ
-mark (MomentRead m) = []
-mark (Replied reply) = []
 mark (Failed kind) = codes "!"
+mark _ = []
 
 -- the kind of a question, with `!` where it failed
 abbrev pub kind : Pair → List ℕ

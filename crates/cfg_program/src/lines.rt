@@ -1,7 +1,7 @@
 ghost use Rattle.std.specs.Prelude.{◌≡◌, ◌<◌, ◌++◌, OnOk, IfOk};
 ghost use Rattle.std.specs.List.{flat_map};
 ghost use Rattle.std.specs.Fmt.{signed_decimal};
-ghost use Rattle.cfg_program.specs.Lines.{shown_text, three_digits as three_digits_of, nine_digits as nine_digits_of, shown_expiry, name_of_question, kind as kind_of, later_kind, kinds as kinds_of, shown_credentials, shown_outcome, shown};
+ghost use Rattle.cfg_program.specs.Lines.{shown_text, three_digits as three_digits_of, nine_digits as nine_digits_of, shown_expiry, name_of_question, name_of_request, kind as kind_of, later_kind, kinds as kinds_of, shown_credentials, shown_outcome, shown};
 
 use cfg_types::{Credentials, CredentialsError, Instant, Request};
 use cfg_world::{Answer, Entry, Question};
@@ -96,7 +96,27 @@ fn question_name(question: &Question) -> &'static [u8]
 {
     match question {
         Question::Now => b"now",
-        Question::Send(Request::AssumeRole(_)) => b"assume-role",
+        Question::Jitter => b"jitter",
+        Question::Read { .. } => b"read",
+        Question::Write { .. } => b"write",
+        Question::Run { .. } => b"run",
+        Question::LookUp { .. } => b"lookup",
+        Question::Send(request) => request_name(request),
+    }
+}
+
+fn request_name(request: &Request) -> &'static [u8]
+    ensures { result.now ≡ name_of_request request.now }
+{
+    match request {
+        Request::Http(_) => b"http",
+        Request::MetadataToken(_) => b"imds-token",
+        Request::MetadataGet(_) => b"imds-get",
+        Request::AssumeRole(_) => b"assume-role",
+        Request::AssumeRoleWithWebIdentity(_) => b"web-identity",
+        Request::GetRoleCredentials(_) => b"role-credentials",
+        Request::CreateToken(_) => b"create-token",
+        Request::CreateOAuth2Token(_) => b"sign-in",
     }
 }
 

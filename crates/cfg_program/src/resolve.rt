@@ -1,14 +1,15 @@
-ghost use Rattle.std.specs.Prelude.{◌≡◌, ◌&&◌, not, true, false, IfOk, Err, map, option_map, string_bytes};
+ghost use Rattle.std.specs.Prelude.{◌≡◌, ◌&&◌, not, true, false, is_ok, IfOk, Err, map, option_map, string_bytes};
+ghost use Rattle.cfg_program.specs.Lines.{shown};
 ghost use Rattle.std.specs.List.{list_any};
-ghost use Rattle.cfg_types.specs.Text.{characters};
-ghost use Rattle.cfg_types.specs.TextMap.{named};
-ghost use Rattle.cfg_types.specs.Entries.{each_set};
+ghost use Rattle.cfg_values.specs.Text.{characters};
+ghost use Rattle.cfg_values.specs.TextMap.{named};
+ghost use Rattle.cfg_values.specs.Entries.{each_set};
 ghost use Rattle.cfg_world.specs.Script.{AllFit};
 ghost use Rattle.cfg_chain.specs.Causes.{is_memory};
-ghost use Rattle.cfg_script.specs.Script.{plain, section_bytes};
+ghost use Rattle.cfg_script.specs.Script.{plain, plain_profiles, section_bytes};
 ghost use Rattle.cfg_script.specs.Devices.{lists_of};
-ghost use Rattle.cfg_chain.specs.Plans.{has_other_source as has_other_source_of, is_built as is_built_of};
-ghost use Rattle.cfg_program.specs.Calls.{section_parts, configured_by, configured, IsFresh, AnswersOver, Answers};
+ghost use Rattle.cfg_chain.specs.profile.Plans.{has_other_source as has_other_source_of, is_built as is_built_of};
+ghost use Rattle.cfg_program.specs.Calls.{section_parts, profiles_of, source_of, configured_by, IsFresh, AnswersOver, Answers};
 ghost use Rattle.cfg_program.specs.Plans.{names_other_source, plan_is_built};
 
 use crate::lines::line_of;
@@ -16,9 +17,9 @@ use cfg_chain::{
     DefaultCredentialsChain, ProfileSet, ProfileSource, ProviderConfig, RegionSource, Section,
     has_other_source, is_built,
 };
-use cfg_script::Script;
-use cfg_types::{Credentials, CredentialsError, Env, EnvText, OutOfMemory, Region, Seq};
-use cfg_world::{DeviceLists, ScriptDevices, World};
+use cfg_script::{Script, ScriptProfiles};
+use cfg_types::{Credentials, CredentialsError, Env, EnvText, OutOfMemory, Region};
+use cfg_world::{DeviceLists, Entry, ScriptDevices, World};
 use std::alloc::Global;
 
 /// What a call answered, and its line.
@@ -60,42 +61,84 @@ pub fn resolve(alloc: Global, script: Script) -> Result<Answered, Unresolved>
         profiles,
         selected,
         region,
-        clock,
-        assume_role,
+        sleep,
+        devices,
     } = script;
-    let config = configuration(alloc, variables, profiles, selected)?;
+    let config = configuration(alloc, variables, profiles, selected, sleep)?;
+    match answer_over(alloc, config, region, devices) {
+        Ok(answered) => Ok(answered),
+        Err(OutOfMemory) => Err(Unresolved::OutOfMemory),
+    }
+}
+
+// The call with this configuration and region, over devices that answer from these lists.
+fn answer_over(
+    alloc: Global,
+    config: ProviderConfig,
+    region: Option<String>,
+    lists: DeviceLists,
+) -> Result<Answered, OutOfMemory>
+    requires { AllFit lists }
+    ensures { IfOk result (λ a. AnswersOver (record config { region = option_map characters (option_map (λ t. string_bytes t) region) }) lists a.is_ok a.line.items) }
+{
     let region = region_named(alloc, region)?;
-    let lists = DeviceLists {
-        clock: Seq::of(clock),
-        assume_role: Seq::of(assume_role),
-    };
-    let mut world = World::new(alloc, ScriptDevices::new(alloc, lists));
-    let chain = chain_of(alloc, config, region, &mut world)?;
-    let answered = call(alloc, &chain, &mut world)?;
-    Ok(answered)
+    let devices = ScriptDevices::new(alloc, lists)?;
+    let mut world = World::new(alloc, devices);
+    answer(alloc, config, region, &mut world)
+}
+
+// The call with this configuration and region, over this world.
+fn answer(
+    alloc: Global,
+    config: ProviderConfig,
+    region: Option<Region>,
+    world: &mut World<ScriptDevices>,
+) -> Result<Answered, OutOfMemory>
+    requires { IsFresh world.old }
+    ensures { IfOk result (λ a. AnswersOver (record config { region = region }) world.old.devices.lists a.is_ok a.line.items) }
+{
+    let chain = chain_of(alloc, config, region, world)?;
+    call(alloc, &chain, world)
 }
 
 // What the script configures, where its plan is built.
 fn configuration(
     alloc: Global,
     variables: Vec<(String, EnvText)>,
-    profiles: Vec<(String, Vec<(String, String)>)>,
+    profiles: ScriptProfiles,
     selected: Option<String>,
+    sleep: bool,
 ) -> Result<ProviderConfig, Unresolved>
-    ensures other { IfOk result (λ c. names_other_source (map section_bytes profiles.items) ≡ false) }
+    ensures other { IfOk result (λ c. names_other_source (profiles_of (plain_profiles profiles)) ≡ false) }
     ensures built { IfOk result (λ c. is_built_of c ≡ true) }
-    ensures value { IfOk result (λ c. c ≡ configured (map named variables.items) (map section_bytes profiles.items) (option_map (λ t. string_bytes t) selected)) }
-    ensures not_built { result ≡ Err Unresolved.NotBuilt → (not (names_other_source (map section_bytes profiles.items)) && is_built_of (configured (map named variables.items) (map section_bytes profiles.items) (option_map (λ t. string_bytes t) selected))) ≡ false }
+    ensures value { IfOk result (λ c. c ≡ configured_by (map named variables.items) (source_of (plain_profiles profiles)) (option_map (λ t. string_bytes t) selected) sleep) }
+    ensures not_built { result ≡ Err Unresolved.NotBuilt → (not (names_other_source (profiles_of (plain_profiles profiles))) && is_built_of (configured_by (map named variables.items) (source_of (plain_profiles profiles)) (option_map (λ t. string_bytes t) selected) sleep)) ≡ false }
 {
-    let sections = sections(alloc, profiles)?;
-    if names_other(sections.as_slice()) {
-        return Err(Unresolved::NotBuilt);
-    }
-    let config = configured_with(alloc, variables, sections, selected)?;
+    let source = source(alloc, profiles)?;
+    let config = configured_with(alloc, variables, source, selected, sleep)?;
     if !is_built(alloc, &config)? {
         return Err(Unresolved::NotBuilt);
     }
     Ok(config)
+}
+
+// The sections that the script says, or their refusal, where no section names another source.
+fn source(alloc: Global, profiles: ScriptProfiles) -> Result<ProfileSource, Unresolved>
+    ensures other { IfOk result (λ s. names_other_source (profiles_of (plain_profiles profiles)) ≡ false) }
+    ensures value { IfOk result (λ s. s ≡ source_of (plain_profiles profiles)) }
+    ensures not_built { result ≡ Err Unresolved.NotBuilt → names_other_source (profiles_of (plain_profiles profiles)) ≡ true }
+{
+    let (profiles, sessions) = match profiles {
+        ScriptProfiles::Refused(reason) => return Ok(ProfileSource::Refused(reason)),
+        ScriptProfiles::Sections { profiles, sessions } => (profiles, sessions),
+    };
+    let profiles = sections(alloc, profiles)?;
+    if names_other(profiles.as_slice()) {
+        return Err(Unresolved::NotBuilt);
+    }
+    let sessions = sections(alloc, sessions)?;
+    let set = ProfileSet::new(alloc, profiles, sessions, "default")?;
+    Ok(ProfileSource::Sections(set))
 }
 
 // Whether one of the sections names a provider that is not built.
@@ -110,20 +153,22 @@ fn names_other(sections: &[Section]) -> bool
     false
 }
 
-// These variables, sections and selected name. The region comes to the chain as an override.
+// These variables, sections, selected name and leave to sleep. The region comes to the chain as an
+// override.
 fn configured_with(
     alloc: Global,
     variables: Vec<(String, EnvText)>,
-    sections: Vec<Section>,
+    source: ProfileSource,
     selected: Option<String>,
+    sleep: bool,
 ) -> Result<ProviderConfig, OutOfMemory>
-    ensures { IfOk result (λ c. c ≡ configured_by (map named variables.items) sections.items (option_map (λ t. string_bytes t) selected)) }
+    ensures { IfOk result (λ c. c ≡ configured_by (map named variables.items) source (option_map (λ t. string_bytes t) selected) sleep) }
 {
     let env = Env::new(alloc, variables)?;
-    let set = ProfileSet::new(alloc, sections, Vec::new(alloc), "default")?;
     let config = ProviderConfig::without_region(alloc)?;
     let config = config.with_env(env);
-    let config = config.with_profiles(ProfileSource::Sections(set));
+    let config = config.with_profiles(source);
+    let config = config.with_sleep_impl(sleep);
     match selected {
         None => Ok(config),
         Some(name) => config.with_profile_name(alloc, name.as_str()),
@@ -177,11 +222,37 @@ fn call(
     ensures { IfOk result (λ a. AnswersOver chain.now world.old.devices.lists a.is_ok a.line.items) }
 {
     let mut kept = chain.new_kept()?;
-    let outcome = chain.provide_credentials(&mut kept, world);
-    if is_out_of_memory(&outcome) {
+    let outcome = Outcome {
+        answer: chain.provide_credentials(&mut kept, world),
+    };
+    told(alloc, &outcome.answer, world.journal())
+}
+
+// What a call answered. A caller that lets it go drops it by one call.
+struct Outcome {
+    answer: Result<Credentials, CredentialsError>,
+}
+
+impl Drop for Outcome {
+    fn drop(self) {
+        let Outcome { answer: _ } = self;
+    }
+}
+
+// What a call came to, and its line.
+fn told(
+    alloc: Global,
+    outcome: &Result<Credentials, CredentialsError>,
+    journal: &[Entry],
+) -> Result<Answered, OutOfMemory>
+    ensures memory { IfOk result (λ a. is_memory outcome.now ≡ false) }
+    ensures credentials { IfOk result (λ a. a.is_ok ≡ is_ok outcome.now) }
+    ensures line { IfOk result (λ a. a.line.items ≡ shown outcome.now journal.now) }
+{
+    if is_out_of_memory(outcome) {
         return Err(OutOfMemory);
     }
-    let line = line_of(alloc, &outcome, world.journal())?;
+    let line = line_of(alloc, outcome, journal)?;
     let is_ok = outcome.is_ok();
     Ok(Answered { is_ok, line })
 }

@@ -2,5 +2,8 @@ pub mod Bytes
 pub mod Loop
 pub mod Members
 pub mod Pairs
+pub mod Exactly
+pub mod AddressText
+pub mod HeaderNames
 pub mod Fitting
-pub mod OneOf
+pub mod Placing

@@ -2,6 +2,5 @@
 use Rattle.cfg_world.specs.declared.script.DeviceLists.{DeviceLists}
 use Rattle.cfg_script.specs.Script.{Plain}
 
--- the clock and the replies, as the script says them
 abbrev pub lists_of : Plain → DeviceLists
-lists_of p = record { clock = p.clock; assume_role = p.assume_role }
+lists_of p = p.devices

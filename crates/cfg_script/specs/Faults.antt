@@ -1,9 +1,9 @@
 -- Where a value is of another form than is wanted: the first place, in the order of the forms.
-use Rattle.std.specs.Prelude.{ℕ, ◌+◌, List, [], ◌∷◌, Bool, not, Option, Some, None, option_map, if◌then◌else◌}
+use Rattle.std.specs.Prelude.{◌≡◌, ℕ, ◌+◌, List, [], ◌∷◌, Bool, not, Option, Some, None, option_map, is_none, is_some, if◌then◌else◌}
 use Rattle.std.specs.Option.{option_or}
 use Rattle.serde_json.specs.Data.{Data, Items, no_items, item, Members, no_members, member}
-use Rattle.serde_json.specs.Find.{as_array, as_str}
-use Rattle.cfg_types.specs.Text.{characters}
+use Rattle.serde_json.specs.Find.{as_array}
+use Rattle.cfg_values.specs.Text.{characters}
 use Rattle.cfg_script.specs.declared.fault.Fault.{Fault}
 use Rattle.cfg_script.specs.declared.fault.Step.{Step}
 use Rattle.cfg_script.specs.declared.fault.Step.TheVariants.{Member, Item}
@@ -13,6 +13,10 @@ use Rattle.cfg_script.specs.declared.fault.Wanted.TheVariants as wanted
 -- a fault, where there is one
 abbrev pub Found : Type 0
 Found = Option Fault
+
+-- there is a fault, or something was read, and not both
+abbrev pub OneOf : {A : Type 0} → Found → Option A → Type 0
+OneOf found o = is_none found ≡ is_some o
 
 -- a fault of the value itself
 abbrev pub here : Wanted → Fault
@@ -45,6 +49,11 @@ abbrev pub when_read : {A : Type 0} → Wanted → Option A → (A → Found) �
 when_read w None next = Some (here w)
 when_read w (Some a) next = next a
 
+-- the fault of a text that is none of the words, or else what is wrong with another value
+abbrev pub text_fault_or : {A : Type 0} → Wanted → (List ℕ → Option A) → Option (List ℕ) → Found → Found
+text_fault_or w word None other = other
+text_fault_or w word (Some text) other = unless_read w (word text)
+
 -- the fault of a member that may be missing
 abbrev pub optional : (Data → Found) → Option Data → Found
 optional fault None = None
@@ -55,18 +64,14 @@ abbrev pub required : (Data → Found) → Option Data → Found
 required fault None = Some (here wanted.Present)
 required fault (Some d) = fault d
 
--- a text
-abbrev pub text_fault : Data → Found
-text_fault d = unless_read wanted.Text (as_str d)
-
 -- the first item of another form, where the first one stands at this place
 abbrev pub items_fault : (Data → Found) → ℕ → Items → Found
 items_fault fault place no_items = None
 items_fault fault place (item d ds) = under_place place (fault d) <|> items_fault fault (place + 1) ds
 
--- a list, and each item in its form
-abbrev pub list_fault : (Data → Found) → Data → Found
-list_fault fault d = when_read wanted.List (as_array d) (items_fault fault 0)
+-- a list, of which this is wanted, and each item in its form
+abbrev pub list_fault : Wanted → (Data → Found) → Data → Found
+list_fault w fault d = when_read w (as_array d) (items_fault fault 0)
 
 -- the first name that passes the test, in the order of names
 abbrev pub first_name : (List ℕ → Bool) → Members → Option (List ℕ)

@@ -1,34 +1,20 @@
--- What the program holds of an object, as the values that the script has there.
-use Rattle.std.specs.Prelude.{Option, Some, None, option_map, Result, Ok, Err}
+-- What a call that reads bytes answers, and what it holds of them.
+use Rattle.std.specs.Prelude.{◌≡◌, Option, Some, None, Result, Ok, Err}
 use Rattle.serde_json.specs.Data.{Data}
 use Rattle.serde_json.specs.View.{view}
 use Rattle.serde_json.specs.declared.value.Value.{Value}
 use Rattle.cfg_script.specs.declared.fault.Position.{Position}
-use Rattle.cfg_script.specs.declared.reading.ScriptMembers.{ScriptMembers}
-use Rattle.cfg_script.specs.declared.replies.CredentialMembers.{CredentialMembers}
-use Rattle.cfg_script.specs.Reading.{ScriptParts}
-use Rattle.cfg_script.specs.Replies.{CredentialParts}
+use Rattle.cfg_script.specs.declared.script.Script.{Script}
+use Rattle.cfg_script.specs.declared.script.ScriptError.{ScriptError}
+use Rattle.cfg_script.specs.declared.script.ScriptError.TheVariants as error
+use Rattle.cfg_script.specs.Script.{Plain, Refused, NoScript, NotBuilt, plain}
 
--- under the names of a script
-abbrev pub script_parts : ScriptMembers → ScriptParts
-script_parts members = record {
-  variables = option_map view members.variables;
-  profiles = option_map view members.profiles;
-  selected = option_map view members.selected;
-  region = option_map view members.region;
-  clock = option_map view members.clock;
-  replies = option_map view members.replies;
-}
-
--- under the names of credentials
-abbrev pub credential_parts : CredentialMembers → CredentialParts
-credential_parts members = record {
-  id = option_map view members.id;
-  secret = option_map view members.secret;
-  token = option_map view members.token;
-  expires = option_map view members.expires;
-  arn = option_map view members.arn;
-}
+-- the whole: a script, or why there is none, unless memory ran out
+abbrev pub GivesScript : Result Script ScriptError → Result Plain Refused → Type 0
+GivesScript (Ok s) said = said ≡ Ok (plain s)
+GivesScript (Err error.NoScript) said = said ≡ Err NoScript
+GivesScript (Err error.NotBuilt) said = said ≡ Err NotBuilt
+GivesScript (Err error.OutOfMemory) said = Unit {0}
 
 -- the value that was read, if one was
 abbrev pub parsed_value : Result Value Position → Option Data

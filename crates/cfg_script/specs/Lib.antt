@@ -2,9 +2,14 @@ pub mod Script
 pub mod Forms
 pub mod Faults
 pub mod Names
+pub mod OneOf
+pub mod Table
+pub mod Values
 pub mod Moments
-pub mod Variables
+pub mod Sections
+pub mod Addresses
 pub mod Replies
+pub mod Settings
 pub mod Reading
 pub mod Telling
 pub mod Gives

@@ -1,57 +1,46 @@
 -- What bytes say as a script.
-use Rattle.std.specs.Prelude.{ℕ, List, codes, Option, Some, None, ok_or, Result, Err, if◌then◌else◌}
+use Rattle.std.specs.Prelude.{ℕ, List, Bool, false, ◌&&◌, ◌||◌, codes, Option, Some, None, option_and_then, is_some, nat_lt, ok_or, Result, Err, if◌then◌else◌}
 use Rattle.std.specs.Str.{is_utf8}
 use Rattle.serde_json.specs.Data.{Data, Members}
 use Rattle.serde_json.specs.Find.{as_object, get_member}
 use Rattle.serde_json.specs.Read.{read}
-use Rattle.cfg_script.specs.Forms.{◌>>=◌, list_from, text_from}
-use Rattle.cfg_script.specs.Names.{every_name, is_built_name, names_unbuilt}
-use Rattle.cfg_script.specs.Moments.{clock_from}
-use Rattle.cfg_script.specs.Variables.{variable_from, section_from}
-use Rattle.cfg_script.specs.Replies.{replies_from}
+use Rattle.cfg_script.specs.Forms.{◌>>=◌}
+use Rattle.cfg_script.specs.Names.{every_name}
 use Rattle.cfg_script.specs.Script.{Plain, Refused, NoScript, NotBuilt}
+use Rattle.cfg_script.specs.Values.{natural_of}
+use Rattle.cfg_script.specs.Settings.{SettingRows, DeviceRows, lists_in, plain_with, script_rows}
 
--- what stands under the names that are built
-pub record ScriptParts : Type 0 where
-  pub variables : Option Data
-  pub profiles : Option Data
-  pub selected : Option Data
-  pub region : Option Data
-  pub clock : Option Data
-  pub replies : Option Data
+-- the sections are refused, and some are there
+abbrev pub refused_beside : Members → Bool
+refused_beside ms = is_some (get_member (codes "refused") ms)
+    && (is_some (get_member (codes "profiles") ms) || is_some (get_member (codes "sessions") ms))
 
--- what an object has under them
-abbrev pub script_parts_in : Members → ScriptParts
-script_parts_in ms = record {
-  variables = get_member (codes "variables") ms;
-  profiles = get_member (codes "profiles") ms;
-  selected = get_member (codes "selected") ms;
-  region = get_member (codes "region") ms;
-  clock = get_member (codes "clock") ms;
-  replies = get_member (codes "replies") ms;
-}
+-- each member in its place
+unfoldable pub plain_in : SettingRows × DeviceRows → Plain
+plain_in rows = plain_with rows.0 (lists_in rows.1)
 
--- each part in its form
-unfoldable pub plain_of : ScriptParts → Option Plain
-plain_of parts = do
-  variables ← list_from variable_from parts.variables
-  profiles ← list_from section_from parts.profiles
-  selected ← text_from parts.selected
-  region ← text_from parts.region
-  clock ← list_from clock_from parts.clock
-  replies ← replies_from parts.replies
-  Some (record {
-    variables = variables;
-    profiles = profiles;
-    selected = selected;
-    region = region;
-    clock = clock;
-    assume_role = replies;
-  })
+-- each member in its form
+unfoldable pub rows_from : Members → Option (SettingRows × DeviceRows)
+rows_from ms = script_rows.read ms
 
--- no other names, and each part in its form
+-- what the members say
+unfoldable pub placed_from : Members → Option Plain
+placed_from ms = rows_from ms >>= λ rows. Some (plain_in rows)
+
+-- no other names, no sections beside their refusal, and each member in its form
 unfoldable pub plain_from : Members → Option Plain
-plain_from ms = if every_name is_built_name ms then plain_of (script_parts_in ms) else None
+plain_from ms =
+    if every_name script_rows.has ms then (if refused_beside ms then None else placed_from ms)
+    else None
+
+-- two calls to a hundred
+abbrev pub many : Option ℕ → Bool
+many None = false
+many (Some n) = nat_lt 1 n && nat_lt n 101
+
+-- more than one call
+abbrev pub names_unbuilt : Members → Bool
+names_unbuilt ms = many (option_and_then natural_of (get_member (codes "calls") ms))
 
 -- a name that is not built is told before any other fault
 unfoldable pub script_of_members : Members → Result Plain Refused

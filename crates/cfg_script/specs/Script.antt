@@ -1,12 +1,12 @@
 -- What a script says, without where it lies in memory.
-use Rattle.std.specs.Prelude.{ℕ, List, Option, option_map, map, Result, string_bytes, String, Vec}
+use Rattle.std.specs.Prelude.{ℕ, List, Bool, Option, option_map, map, string_bytes, String, Vec}
 use Rattle.std.specs.declared.alloc.Global.{Global}
-use Rattle.cfg_types.specs.Moment.{Moment}
-use Rattle.cfg_types.specs.TextMap.{named}
+use Rattle.cfg_values.specs.TextMap.{named}
 use Rattle.cfg_types.specs.declared.environment.EnvText.{EnvText}
-use Rattle.cfg_types.specs.declared.reply.Reply.{Reply}
-use Rattle.cfg_types.specs.declared.reply.FailKind.{FailKind}
+use Rattle.cfg_world.specs.declared.script.DeviceLists.{DeviceLists}
 use Rattle.cfg_script.specs.declared.script.Script.{Script}
+use Rattle.cfg_script.specs.declared.script.ScriptProfiles.{ScriptProfiles}
+use Rattle.cfg_script.specs.declared.script.ScriptProfiles.TheVariants as held
 
 -- a key and its value, as bytes
 abbrev pub Property : Type 0
@@ -16,14 +16,19 @@ Property = List ℕ × List ℕ
 abbrev pub Section : Type 0
 Section = List ℕ × List Property
 
--- names and texts as their bytes, moments and replies as values
+-- the sections of profile files, or the message that they are refused with, as characters
+pub data PlainProfiles : Type 0 where
+  Sections : List Section → List Section → PlainProfiles
+  RefusedSections : List ℕ → PlainProfiles
+
+-- names and texts as their bytes, devices as values
 pub record Plain : Type 0 where
   pub variables : List (List ℕ × EnvText)
-  pub profiles : List Section
+  pub profiles : PlainProfiles
   pub selected : Option (List ℕ)
   pub region : Option (List ℕ)
-  pub clock : List Moment
-  pub assume_role : List (Result Reply FailKind)
+  pub sleep : Bool
+  pub devices : DeviceLists
 
 -- why bytes say nothing
 pub data Refused : Type 0 where
@@ -38,13 +43,18 @@ property_bytes p = (string_bytes p.0, string_bytes p.1)
 abbrev pub section_bytes : String Global × Vec (String Global × String Global) Global → Section
 section_bytes s = (string_bytes s.0, map property_bytes s.1.items)
 
+-- the profiles that the program holds
+abbrev pub plain_profiles : ScriptProfiles → PlainProfiles
+plain_profiles (held.Sections profiles sessions) = Sections (map section_bytes profiles.items) (map section_bytes sessions.items)
+plain_profiles (held.Refused message) = RefusedSections message
+
 -- what a script says
 abbrev pub plain : Script → Plain
 plain s = record {
   variables = map named s.variables.items;
-  profiles = map section_bytes s.profiles.items;
+  profiles = plain_profiles s.profiles;
   selected = option_map (λ t. string_bytes t) s.selected;
   region = option_map (λ t. string_bytes t) s.region;
-  clock = s.clock.items;
-  assume_role = s.assume_role.items;
+  sleep = s.sleep;
+  devices = s.devices;
 }

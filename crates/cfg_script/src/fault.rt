@@ -1,6 +1,6 @@
 //! Where bytes are no script, and what is wanted there.
 ghost use Rattle.std.specs.Prelude.{◌≡◌, IfOk, option_map};
-ghost use Rattle.cfg_script.specs.Faults.{here as here_wanting, within as within_step, under_name as under_name_of, under_place as under_place_of, name_fault as name_fault_of};
+ghost use Rattle.cfg_script.specs.Faults.{here as here_wanting, within as within_step, under_name as under_name_of, under_place as under_place_of, name_fault as name_fault_of, unless_read as unless_read_of};
 
 use cfg_types::{OutOfMemory, Seq, Text};
 use std::alloc::Global;
@@ -28,16 +28,37 @@ pub enum Wanted {
     Present,
     List,
     Text,
+    /// True or false.
+    Truth,
     TextOrNull,
     Variable,
     Section,
     Property,
+    /// No sections beside the refusal of all.
+    RefusedAlone,
+    Calls,
+    File,
+    Content,
+    /// Two hexadecimal digits for each byte.
+    HexDigits,
     /// A moment of any sign.
     Moment,
     /// A moment from 0 on.
     ClockMoment,
+    /// A whole number of 64 bits without sign.
+    Natural,
+    /// A whole number of 64 bits with sign.
+    Whole,
+    Command,
+    CommandStatus,
+    LookUp,
+    Address,
     /// An object of lists of replies.
     Replies,
+    HttpReply,
+    HttpStatus,
+    Header,
+    HeaderName,
     Reply,
     RefusalKind,
 }
@@ -85,6 +106,16 @@ fn within(step: Step, fault: Fault) -> Result<Fault, OutOfMemory>
         path: Seq::of(steps),
         wanted,
     })
+}
+
+/// A fault where nothing was read.
+pub(crate) fn unless_read<T: Drop>(alloc: Global, wanted: Wanted, read: Option<T>) -> Option<Fault>
+    ensures { result ≡ unless_read_of wanted read }
+{
+    match read {
+        Some(_) => None,
+        None => Some(here(alloc, wanted)),
+    }
 }
 
 /// What was found in the member of this name, seen from its object.
@@ -137,17 +168,35 @@ impl fmt::Display for Wanted {
             Wanted::Present => "this member has to be there",
             Wanted::List => "a list is wanted",
             Wanted::Text => "a text is wanted",
+            Wanted::Truth => "true or false is wanted",
             Wanted::TextOrNull => "a text or null is wanted",
             Wanted::Variable => "a variable is [name, text] or [name, null]",
             Wanted::Section => "a section is [name, list of properties]",
             Wanted::Property => "a property is [key, value]",
+            Wanted::RefusedAlone => "no profiles and no sessions stand beside refused",
+            Wanted::Calls => "calls are a whole number from 1 to 100",
+            Wanted::File => "a file is [path, content] or [path, null]",
+            Wanted::Content => "a content is a text or {\"hex\": digits}",
+            Wanted::HexDigits => "two hexadecimal digits for each byte are wanted",
             Wanted::Moment => "a moment is whole seconds or [seconds, nanos]",
             Wanted::ClockMoment => {
                 "a moment of the clock is whole seconds or [seconds, nanos], from 0 on"
             }
+            Wanted::Natural => "a whole number of 64 bits without sign is wanted",
+            Wanted::Whole => "a whole number of 64 bits with sign is wanted",
+            Wanted::Command => "a command is [status, output, errors] or \"fail\"",
+            Wanted::CommandStatus => "a status is a whole number of 32 bits with sign",
+            Wanted::LookUp => "a look-up is a list of addresses or \"fail\"",
+            Wanted::Address => "an address is wanted",
             Wanted::Replies => "replies are an object of lists",
+            Wanted::HttpReply => {
+                "a reply of HTTP is [status, headers, content], \"dispatch\", \"timeout\" or \"broken\""
+            }
+            Wanted::HttpStatus => "a status of HTTP is a whole number from 100 to 599",
+            Wanted::Header => "a header is [name, value]",
+            Wanted::HeaderName => "a header name is wanted",
             Wanted::Reply => {
-                "a reply is credentials, a refusal, null, \"dispatch\", \"timeout\" or \"broken\""
+                "a reply is what the service grants, a refusal, null where it may be, \"dispatch\", \"timeout\" or \"broken\""
             }
             Wanted::RefusalKind => {
                 "a refusal is RegionDisabled, MalformedPolicyDocument, InsufficientPermissions, TokenExpired, UserCredentialsChanged or Other"

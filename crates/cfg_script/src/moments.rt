@@ -1,9 +1,9 @@
-ghost use Rattle.std.specs.Prelude.{◌≡◌, option_map};
+//! Moments.
+ghost use Rattle.std.specs.Prelude.{◌≡◌};
 ghost use Rattle.serde_json.specs.View.{view};
-ghost use Rattle.cfg_script.specs.Moments.{pair_moment, moment_from, moment_fault, clock_from, clock_fault};
-ghost use Rattle.cfg_script.specs.Faults.{required};
+ghost use Rattle.cfg_script.specs.Moments.{pair_moment, moment_from, clock_from};
 
-use crate::fault::{Fault, Wanted, here};
+use crate::fault::{Fault, Wanted, unless_read};
 use crate::part::Part;
 use crate::script::ScriptError;
 use crate::value::pair_of;
@@ -20,9 +20,8 @@ fn read_moment_with_nanos(seconds: &Value, nanos: &Value) -> Option<Instant>
     Instant::new(seconds, nanos)
 }
 
-/// A moment of any sign.
 #[tactic(auto, unfolding(crate::specs::Moments::moment_from))]
-pub(crate) fn read_moment(value: Value) -> Option<Instant>
+fn read_moment(value: Value) -> Option<Instant>
     ensures { result ≡ moment_from (view value) }
 {
     if let Some(seconds) = value.as_i64() {
@@ -32,9 +31,8 @@ pub(crate) fn read_moment(value: Value) -> Option<Instant>
     read_moment_with_nanos(&seconds, &nanos)
 }
 
-/// A moment from 0 on.
 #[tactic(auto, unfolding(crate::specs::Moments::clock_from))]
-pub(crate) fn read_clock_moment(value: Value) -> Option<Instant>
+fn read_clock_moment(value: Value) -> Option<Instant>
     ensures { result ≡ clock_from (view value) }
 {
     let moment = read_moment(value)?;
@@ -45,45 +43,50 @@ pub(crate) fn read_clock_moment(value: Value) -> Option<Instant>
     }
 }
 
-/// What is wrong with a member that has to be a moment.
-pub(crate) fn required_moment_fault(alloc: Global, member: Option<Value>) -> Option<Fault>
-    ensures { result ≡ required moment_fault (option_map view member) }
-{
-    let Some(value) = member else {
-        return Some(here(alloc, Wanted::Present));
-    };
-    match read_moment(value) {
-        Some(_) => None,
-        None => Some(here(alloc, Wanted::Moment)),
-    }
-}
+/// A moment of any sign.
+pub(crate) struct Moment;
 
-fn clock_moment_fault(alloc: Global, value: Value) -> Option<Fault>
-    ensures { result ≡ clock_fault (view value) }
-{
-    match read_clock_moment(value) {
-        Some(_) => None,
-        None => Some(here(alloc, Wanted::ClockMoment)),
-    }
-}
+impl Part for Moment {
+    ghost use Rattle.cfg_values.specs.Moment.{Moment};
+    ghost use Rattle.cfg_script.specs.Moments.{moment};
 
-impl Part for Instant {
-    ghost use Rattle.cfg_types.specs.Moment.{Moment};
-    ghost use Rattle.cfg_script.specs.Moments.{clock_from, clock_fault};
+    type Read = Instant;
 
     ghost Plain = { Moment };
 
     ghost seen = { λ m. m };
 
-    ghost form = { clock_from };
+    ghost form = { moment };
 
-    ghost fault = { clock_fault };
+    fn read(_: Global, value: Value) -> Result<Instant, ScriptError> {
+        read_moment(value).ok_or(ScriptError::NoScript)
+    }
+
+    fn find_fault(alloc: Global, value: Value) -> Result<Option<Fault>, OutOfMemory> {
+        Ok(unless_read(alloc, Wanted::Moment, read_moment(value)))
+    }
+}
+
+/// A moment from 0 on.
+pub(crate) struct ClockMoment;
+
+impl Part for ClockMoment {
+    ghost use Rattle.cfg_values.specs.Moment.{Moment};
+    ghost use Rattle.cfg_script.specs.Moments.{clock_moment};
+
+    type Read = Instant;
+
+    ghost Plain = { Moment };
+
+    ghost seen = { λ m. m };
+
+    ghost form = { clock_moment };
 
     fn read(_: Global, value: Value) -> Result<Instant, ScriptError> {
         read_clock_moment(value).ok_or(ScriptError::NoScript)
     }
 
     fn find_fault(alloc: Global, value: Value) -> Result<Option<Fault>, OutOfMemory> {
-        Ok(clock_moment_fault(alloc, value))
+        Ok(unless_read(alloc, Wanted::ClockMoment, read_clock_moment(value)))
     }
 }

@@ -1,208 +1,344 @@
-//! The names of members: each list of names stands here once.
-ghost use Rattle.std.specs.Prelude.{◌≡◌, ℕ, List, Bool, not, IfOk, string_bytes, codes, option_map};
-ghost use Rattle.std.specs.List.{list_all, list_any, find};
-ghost use Rattle.std.specs.BTreeMap.{keys};
-ghost use Rattle.serde_json.specs.View.{view, members_view};
-ghost use Rattle.cfg_script.specs.Names.{some_name, every_name, is_built_name, is_unbuilt_name, is_built_reply_name, is_unbuilt_reply_name, is_refusal_name, is_credentials_name, names_unbuilt_reply, names_unbuilt};
-ghost use Rattle.cfg_script.specs.Faults.{first_name, other_name as other_name_of};
-ghost use Rattle.cfg_script.specs.Telling.{first_unbuilt_reply as first_unbuilt_reply_of, unbuilt_in as unbuilt_in_of};
+//! The names of members, each a type.
+ghost use Rattle.std.specs.Prelude.{codes};
 
-use crate::fault::{Fault, Wanted, name_fault, under_name};
-use crate::value::member;
-use cfg_types::OutOfMemory;
-use serde_json::{Map, Value};
-use std::alloc::Global;
+use crate::table::Name;
 
-/// A list of names.
-pub(crate) trait Names {
-    ghost has: { List ℕ → Bool };
+pub(crate) struct Variables;
 
-    fn has(name: &str) -> bool
-        ensures { result ≡ has name.now };
-}
+impl Name for Variables {
+    ghost name = { codes "variables" };
 
-/// What is built of a script.
-pub(crate) struct Built;
-
-impl Names for Built {
-    ghost has = { is_built_name };
-
-    fn has(name: &str) -> bool {
-        name == "variables"
-            || name == "profiles"
-            || name == "selected"
-            || name == "region"
-            || name == "clock"
-            || name == "replies"
+    fn name() -> &'static str {
+        "variables"
     }
 }
 
-/// What belongs to a script and is not built.
-pub(crate) struct Unbuilt;
+pub(crate) struct Profiles;
 
-impl Names for Unbuilt {
-    ghost has = { is_unbuilt_name };
+impl Name for Profiles {
+    ghost name = { codes "profiles" };
 
-    fn has(name: &str) -> bool {
-        name == "calls"
-            || name == "sessions"
-            || name == "refused"
-            || name == "sleep"
-            || name == "files"
-            || name == "unwritable"
-            || name == "jitter"
-            || name == "commands"
-            || name == "lookups"
+    fn name() -> &'static str {
+        "profiles"
     }
 }
 
-/// What is built of the replies.
-pub(crate) struct BuiltReplies;
+pub(crate) struct Sessions;
 
-impl Names for BuiltReplies {
-    ghost has = { is_built_reply_name };
+impl Name for Sessions {
+    ghost name = { codes "sessions" };
 
-    fn has(name: &str) -> bool {
-        name == "assume-role"
+    fn name() -> &'static str {
+        "sessions"
     }
 }
 
-/// What belongs to the replies and is not built.
-pub(crate) struct UnbuiltReplies;
+pub(crate) struct Refused;
 
-impl Names for UnbuiltReplies {
-    ghost has = { is_unbuilt_reply_name };
+impl Name for Refused {
+    ghost name = { codes "refused" };
 
-    fn has(name: &str) -> bool {
-        name == "http"
-            || name == "imds-token"
-            || name == "imds-get"
-            || name == "web-identity"
-            || name == "role-credentials"
-            || name == "create-token"
-            || name == "sign-in"
+    fn name() -> &'static str {
+        "refused"
     }
 }
 
-/// The members of a refusal.
-pub(crate) struct OfRefusal;
+pub(crate) struct Selected;
 
-impl Names for OfRefusal {
-    ghost has = { is_refusal_name };
+impl Name for Selected {
+    ghost name = { codes "selected" };
 
-    fn has(name: &str) -> bool {
-        name == "refused" || name == "message"
+    fn name() -> &'static str {
+        "selected"
     }
 }
 
-/// The members of credentials.
-pub(crate) struct OfCredentials;
+pub(crate) struct Region;
 
-impl Names for OfCredentials {
-    ghost has = { is_credentials_name };
+impl Name for Region {
+    ghost name = { codes "region" };
 
-    fn has(name: &str) -> bool {
-        name == "id" || name == "secret" || name == "token" || name == "expires" || name == "arn"
+    fn name() -> &'static str {
+        "region"
     }
 }
 
-fn some_key<N: Names>(members: &Map<String, Value>) -> bool
-    ensures { result ≡ list_any (λ k. N.has (string_bytes k)) (keys members.now) }
-{
-    members.keys().any(|name| N::has(name.as_str()))
-}
+pub(crate) struct Sleep;
 
-fn every_key<N: Names>(members: &Map<String, Value>) -> bool
-    ensures { result ≡ list_all (λ k. N.has (string_bytes k)) (keys members.now) }
-{
-    members.keys().all(|name| N::has(name.as_str()))
-}
+impl Name for Sleep {
+    ghost name = { codes "sleep" };
 
-/// Whether some member has one of these names.
-pub(crate) fn some_named<N: Names>(members: &Map<String, Value>) -> bool
-    ensures { result ≡ some_name N.has (members_view members.now.entries) }
-{
-    some_key::<N>(members)
-}
-
-/// Whether every member has one of these names.
-pub(crate) fn every_named<N: Names>(members: &Map<String, Value>) -> bool
-    ensures { result ≡ every_name N.has (members_view members.now.entries) }
-{
-    every_key::<N>(members)
-}
-
-fn reply_unbuilt(replies: Option<&Value>) -> bool
-    ensures { result ≡ names_unbuilt_reply (option_map (λ v. view v.now) replies.entry) }
-{
-    match replies {
-        Some(Value::Object(members)) => some_named::<UnbuiltReplies>(members),
-        _ => false,
+    fn name() -> &'static str {
+        "sleep"
     }
 }
 
-/// Whether a name that is not built stands at the top or in the replies.
-pub(crate) fn any_unbuilt(members: &Map<String, Value>) -> bool
-    ensures { result ≡ names_unbuilt (members_view members.now.entries) }
-{
-    some_named::<Unbuilt>(members) || reply_unbuilt(member(members, "replies"))
-}
+pub(crate) struct Calls;
 
-fn first_key<N: Names>(members: &Map<String, Value>) -> Option<&str>
-    ensures { option_map (λ n. n.now) result ≡ option_map (λ k. string_bytes k) (find (λ k. N.has (string_bytes k)) (keys members.now)) }
-{
-    let name = members.keys().find(|name| N::has(name.as_str()))?;
-    Some(name.as_str())
-}
+impl Name for Calls {
+    ghost name = { codes "calls" };
 
-fn first_other_key<N: Names>(members: &Map<String, Value>) -> Option<&str>
-    ensures { option_map (λ n. n.now) result ≡ option_map (λ k. string_bytes k) (find (λ k. not (N.has (string_bytes k))) (keys members.now)) }
-{
-    let name = members.keys().find(|name| !N::has(name.as_str()))?;
-    Some(name.as_str())
-}
-
-fn first_named<N: Names>(members: &Map<String, Value>) -> Option<&str>
-    ensures { option_map (λ n. n.now) result ≡ first_name N.has (members_view members.now.entries) }
-{
-    first_key::<N>(members)
-}
-
-fn first_other<N: Names>(members: &Map<String, Value>) -> Option<&str>
-    ensures { option_map (λ n. n.now) result ≡ first_name (λ n. not (N.has n)) (members_view members.now.entries) }
-{
-    first_other_key::<N>(members)
-}
-
-/// The fault of the first member that has none of these names.
-pub(crate) fn other_name<N: Names>(
-    alloc: Global,
-    members: &Map<String, Value>,
-) -> Result<Option<Fault>, OutOfMemory>
-    ensures { IfOk result (λ o. o ≡ other_name_of N.has (members_view members.now.entries)) }
-{
-    name_fault(alloc, first_other::<N>(members), Wanted::KnownName)
-}
-
-fn first_unbuilt_reply<'v>(replies: Option<&'v Value>) -> Option<&'v str>
-    ensures { option_map (λ n. n.now) result ≡ first_unbuilt_reply_of (option_map (λ v. view v.now) replies.entry) }
-{
-    match replies {
-        Some(Value::Object(members)) => first_named::<UnbuiltReplies>(members),
-        _ => None,
+    fn name() -> &'static str {
+        "calls"
     }
 }
 
-/// The first name that is not built, at the top or in the replies.
-#[tactic(auto, unfolding(crate::specs::Telling::unbuilt_in))]
-pub(crate) fn unbuilt_in(
-    alloc: Global,
-    members: &Map<String, Value>,
-) -> Result<Option<Fault>, OutOfMemory>
-    ensures { IfOk result (λ o. o ≡ unbuilt_in_of (members_view members.now.entries)) }
-{
-    let top = name_fault(alloc, first_named::<Unbuilt>(members), Wanted::BuiltName)?;
-    let inner = first_unbuilt_reply(member(members, "replies"));
-    let inner = name_fault(alloc, inner, Wanted::BuiltName)?;
-    Ok(top.or(under_name(alloc, "replies", inner)?))
+pub(crate) struct Files;
+
+impl Name for Files {
+    ghost name = { codes "files" };
+
+    fn name() -> &'static str {
+        "files"
+    }
+}
+
+pub(crate) struct Unwritable;
+
+impl Name for Unwritable {
+    ghost name = { codes "unwritable" };
+
+    fn name() -> &'static str {
+        "unwritable"
+    }
+}
+
+pub(crate) struct Clock;
+
+impl Name for Clock {
+    ghost name = { codes "clock" };
+
+    fn name() -> &'static str {
+        "clock"
+    }
+}
+
+pub(crate) struct Jitter;
+
+impl Name for Jitter {
+    ghost name = { codes "jitter" };
+
+    fn name() -> &'static str {
+        "jitter"
+    }
+}
+
+pub(crate) struct Commands;
+
+impl Name for Commands {
+    ghost name = { codes "commands" };
+
+    fn name() -> &'static str {
+        "commands"
+    }
+}
+
+pub(crate) struct Lookups;
+
+impl Name for Lookups {
+    ghost name = { codes "lookups" };
+
+    fn name() -> &'static str {
+        "lookups"
+    }
+}
+
+pub(crate) struct Replies;
+
+impl Name for Replies {
+    ghost name = { codes "replies" };
+
+    fn name() -> &'static str {
+        "replies"
+    }
+}
+
+pub(crate) struct Http;
+
+impl Name for Http {
+    ghost name = { codes "http" };
+
+    fn name() -> &'static str {
+        "http"
+    }
+}
+
+pub(crate) struct ImdsToken;
+
+impl Name for ImdsToken {
+    ghost name = { codes "imds-token" };
+
+    fn name() -> &'static str {
+        "imds-token"
+    }
+}
+
+pub(crate) struct ImdsGet;
+
+impl Name for ImdsGet {
+    ghost name = { codes "imds-get" };
+
+    fn name() -> &'static str {
+        "imds-get"
+    }
+}
+
+pub(crate) struct AssumeRole;
+
+impl Name for AssumeRole {
+    ghost name = { codes "assume-role" };
+
+    fn name() -> &'static str {
+        "assume-role"
+    }
+}
+
+pub(crate) struct WebIdentity;
+
+impl Name for WebIdentity {
+    ghost name = { codes "web-identity" };
+
+    fn name() -> &'static str {
+        "web-identity"
+    }
+}
+
+pub(crate) struct RoleCredentials;
+
+impl Name for RoleCredentials {
+    ghost name = { codes "role-credentials" };
+
+    fn name() -> &'static str {
+        "role-credentials"
+    }
+}
+
+pub(crate) struct CreateToken;
+
+impl Name for CreateToken {
+    ghost name = { codes "create-token" };
+
+    fn name() -> &'static str {
+        "create-token"
+    }
+}
+
+pub(crate) struct SignIn;
+
+impl Name for SignIn {
+    ghost name = { codes "sign-in" };
+
+    fn name() -> &'static str {
+        "sign-in"
+    }
+}
+
+pub(crate) struct Id;
+
+impl Name for Id {
+    ghost name = { codes "id" };
+
+    fn name() -> &'static str {
+        "id"
+    }
+}
+
+pub(crate) struct Secret;
+
+impl Name for Secret {
+    ghost name = { codes "secret" };
+
+    fn name() -> &'static str {
+        "secret"
+    }
+}
+
+pub(crate) struct Token;
+
+impl Name for Token {
+    ghost name = { codes "token" };
+
+    fn name() -> &'static str {
+        "token"
+    }
+}
+
+pub(crate) struct Expires;
+
+impl Name for Expires {
+    ghost name = { codes "expires" };
+
+    fn name() -> &'static str {
+        "expires"
+    }
+}
+
+pub(crate) struct Arn;
+
+impl Name for Arn {
+    ghost name = { codes "arn" };
+
+    fn name() -> &'static str {
+        "arn"
+    }
+}
+
+pub(crate) struct ExpiresMs;
+
+impl Name for ExpiresMs {
+    ghost name = { codes "expires_ms" };
+
+    fn name() -> &'static str {
+        "expires_ms"
+    }
+}
+
+pub(crate) struct Access;
+
+impl Name for Access {
+    ghost name = { codes "access" };
+
+    fn name() -> &'static str {
+        "access"
+    }
+}
+
+pub(crate) struct Refresh;
+
+impl Name for Refresh {
+    ghost name = { codes "refresh" };
+
+    fn name() -> &'static str {
+        "refresh"
+    }
+}
+
+pub(crate) struct ExpiresIn;
+
+impl Name for ExpiresIn {
+    ghost name = { codes "expires_in" };
+
+    fn name() -> &'static str {
+        "expires_in"
+    }
+}
+
+pub(crate) struct Message;
+
+impl Name for Message {
+    ghost name = { codes "message" };
+
+    fn name() -> &'static str {
+        "message"
+    }
+}
+
+pub(crate) struct Hex;
+
+impl Name for Hex {
+    ghost name = { codes "hex" };
+
+    fn name() -> &'static str {
+        "hex"
+    }
 }

@@ -1,18 +1,20 @@
 //! From bytes to a script.
-ghost use Rattle.std.specs.Prelude.{◌≡◌, IfOk, Ok, Err};
+ghost use Rattle.std.specs.Prelude.{◌≡◌, IfOk, Ok, Err, codes, option_and_then};
+ghost use Rattle.serde_json.specs.Find.{get_member};
 ghost use Rattle.serde_json.specs.View.{view, members_view};
-ghost use Rattle.cfg_script.specs.Gives.{GivesPart, GivesScript};
-ghost use Rattle.cfg_script.specs.Held.{script_parts};
-ghost use Rattle.cfg_script.specs.Reading.{script_parts_in, plain_of, plain_from, json_value, script_of_members, script_of};
+ghost use Rattle.cfg_script.specs.Gives.{GivesPart};
+ghost use Rattle.cfg_script.specs.Held.{GivesScript};
+ghost use Rattle.cfg_script.specs.Values.{natural_of};
+ghost use Rattle.cfg_script.specs.Reading.{refused_beside, names_unbuilt, rows_from, placed_from, plain_from, json_value, script_of_members, script_of};
 ghost use Rattle.cfg_script.specs.Script.{plain, NoScript, NotBuilt};
 ghost use Rattle.cfg_script.specs.Devices.{lists_of};
 ghost use Rattle.cfg_world.specs.Script.{AllFit};
 
-use crate::names::{Built, any_unbuilt, every_named};
-use crate::part::parts_under;
-use crate::replies::replies_under;
+use crate::object::every_named;
 use crate::script::{Script, ScriptError};
-use crate::value::{members_of, taken, text_under};
+use crate::settings::{ScriptRows, script_by};
+use crate::table::Group;
+use crate::value::{member, members_of};
 use serde_json::{Map, Value};
 use std::alloc::Global;
 
@@ -30,72 +32,58 @@ fn value_of(alloc: Global, bytes: &[u8]) -> Result<Value, ScriptError>
     }
 }
 
-// What stands under the names that are built.
-#[derive(Drop)]
-pub(crate) struct ScriptMembers {
-    pub(crate) variables: Option<Value>,
-    pub(crate) profiles: Option<Value>,
-    pub(crate) selected: Option<Value>,
-    pub(crate) region: Option<Value>,
-    pub(crate) clock: Option<Value>,
-    pub(crate) replies: Option<Value>,
+/// Whether the sections are refused, and some are there.
+pub(crate) fn is_refused_beside(members: &Map<String, Value>) -> bool
+    ensures { result ≡ refused_beside (members_view members.now.entries) }
+{
+    member(members, "refused").is_some()
+        && (member(members, "profiles").is_some() || member(members, "sessions").is_some())
 }
 
-pub(crate) fn script_members(mut members: Map<String, Value>) -> ScriptMembers
-    ensures { script_parts result ≡ script_parts_in (members_view members.entries) }
+fn calls_of(members: &Map<String, Value>) -> Option<u64>
+    ensures { result ≡ option_and_then natural_of (get_member (codes "calls") (members_view members.now.entries)) }
 {
-    let variables = taken(&mut members, "variables");
-    let profiles = taken(&mut members, "profiles");
-    let selected = taken(&mut members, "selected");
-    let region = taken(&mut members, "region");
-    let clock = taken(&mut members, "clock");
-    let replies = taken(&mut members, "replies");
-    ScriptMembers {
-        variables,
-        profiles,
-        selected,
-        region,
-        clock,
-        replies,
+    member(members, "calls")?.as_u64()
+}
+
+/// Whether more than one call is to be made, which is not built.
+pub(crate) fn any_unbuilt(members: &Map<String, Value>) -> bool
+    ensures { result ≡ names_unbuilt (members_view members.now.entries) }
+{
+    match calls_of(members) {
+        Some(calls) => 1 < calls && calls < 101,
+        None => false,
     }
 }
 
-#[tactic(auto, unfolding(crate::specs::Reading::plain_of))]
-fn script_by(alloc: Global, members: ScriptMembers) -> Result<Script, ScriptError>
-    ensures { GivesPart plain result (plain_of (script_parts members)) }
+#[tactic(auto, unfolding(crate::specs::Reading::rows_from))]
+fn read_rows(
+    alloc: Global,
+    mut members: Map<String, Value>,
+) -> Result<<ScriptRows as Group>::Read, ScriptError>
+    ensures { GivesPart ⟦<ScriptRows as Group>⟧.seen result (rows_from (members_view members.entries)) }
 {
-    let ScriptMembers {
-        variables,
-        profiles,
-        selected,
-        region,
-        clock,
-        replies,
-    } = members;
-    let variables = parts_under(alloc, variables)?;
-    let profiles = parts_under(alloc, profiles)?;
-    let selected = text_under(selected).ok_or(ScriptError::NoScript)?;
-    let region = text_under(region).ok_or(ScriptError::NoScript)?;
-    let clock = parts_under(alloc, clock)?;
-    let assume_role = replies_under(alloc, replies)?;
-    Ok(Script {
-        variables,
-        profiles,
-        selected,
-        region,
-        clock,
-        assume_role,
-    })
+    ScriptRows::read(alloc, &mut members)
+}
+
+fn read_placed(alloc: Global, members: Map<String, Value>) -> Result<Script, ScriptError>
+    ensures { GivesPart plain result (placed_from (members_view members.entries)) }
+{
+    let rows = match read_rows(alloc, members) {
+        Ok(rows) => rows,
+        Err(e) => return Err(e),
+    };
+    Ok(script_by(rows))
 }
 
 #[tactic(auto, unfolding(crate::specs::Reading::plain_from))]
 fn script_in(alloc: Global, members: Map<String, Value>) -> Result<Script, ScriptError>
     ensures { GivesPart plain result (plain_from (members_view members.entries)) }
 {
-    if !every_named::<Built>(&members) {
+    if !every_named::<ScriptRows>(&members) || is_refused_beside(&members) {
         return Err(ScriptError::NoScript);
     }
-    script_by(alloc, script_members(members))
+    read_placed(alloc, members)
 }
 
 #[tactic(auto, unfolding(crate::specs::Reading::script_of_members))]

@@ -1,23 +1,33 @@
-//! Replies of the Security Token Service.
-ghost use Rattle.std.specs.Prelude.{◌≡◌, IfOk, option_map, map};
-ghost use Rattle.serde_json.specs.View.{view, members_view};
+//! Replies to requests, commands and look-ups.
+ghost use Rattle.std.specs.Prelude.{◌≡◌, IfOk, codes};
+ghost use Rattle.serde_json.specs.View.{view};
+ghost use Rattle.cfg_script.specs.Replies.{fail_kind, failed_send, failed, refusal_kind, refusal_kind_of, refusal};
+ghost use Rattle.cfg_script.specs.Table.{Form, by_member};
 ghost use Rattle.cfg_script.specs.Gives.{GivesPart};
-ghost use Rattle.cfg_script.specs.Held.{credential_parts};
-ghost use Rattle.cfg_script.specs.Replies.{fail_kind, refusal_kind, required_text as required, optional_text as optional, required_moment as moment_at, refusal_of, refusal_from, credential_parts_in, credentials_of, credentials_from, object_reply, reply_from, replies_in, replies_from, kind_fault as kind_fault_of, refusal_fault as refusal_fault_of, credential_parts_fault as credential_parts_fault_of, credentials_fault as credentials_fault_of, object_fault as object_fault_of, reply_fault as reply_fault_of, replies_in_fault as replies_in_fault_of, replies_fault as replies_fault_of};
-ghost use Rattle.cfg_script.specs.Faults.{unless_read, optional as optional_fault, required as required_fault};
-ghost use Rattle.cfg_script.specs.declared.fault.Wanted.TheVariants as wanted;
+ghost use Rattle.cfg_types.specs.declared.reply.Reply.{Reply};
+ghost use Rattle.cfg_script.specs.Addresses.{address_from, address_of};
 
-use crate::fault::{Fault, Wanted, here, under_name};
-use crate::moments::{read_moment, required_moment_fault};
-use crate::names::{BuiltReplies, OfCredentials, OfRefusal, every_named, other_name};
-use crate::part::{Part, list_fault_under, parts_under};
-use crate::script::ScriptError;
-use crate::value::{member, members_of, optional_text_fault, required_text_fault, taken, text_of};
-use cfg_types::{
-    FailKind, Instant, OutOfMemory, Refusal, RefusalKind, Reply, StsCredentials, StsReply, Text,
+use crate::fault::{Fault, Wanted, unless_read};
+use crate::moments::Moment;
+use crate::names::{
+    Access, Arn, Expires, ExpiresIn, ExpiresMs, Id, Message, Refresh, Refused, Secret, Token,
 };
-use serde_json::{Map, Value};
+use crate::object::{object_fault, read_object};
+use crate::part::{
+    Items, Part, list_fault, pair_fault, read_list, read_pair, read_triple, triple_fault,
+};
+use crate::script::ScriptError;
+use crate::table::{Optional, Required};
+use crate::value::text_or_other;
+use crate::values::{CommandStatus, Content, HeaderText, HttpStatus, Whole, Words};
+use cfg_types::{
+    Address, FailKind, Finished, Header, HttpReply, OutOfMemory, Refusal, RefusalKind, Reply,
+    RoleCredentials, RoleReply, Seq, SignInReply, SignInToken, StsCredentials, StsReply,
+    TokenReply,
+};
+use serde_json::Value;
 use std::alloc::Global;
+use std::marker::PhantomData;
 
 fn fail_kind_named(name: &str) -> Option<FailKind>
     ensures { result ≡ fail_kind name.now }
@@ -27,6 +37,214 @@ fn fail_kind_named(name: &str) -> Option<FailKind>
         "timeout" => Some(FailKind::Timeout),
         "broken" => Some(FailKind::Broken),
         _ => None,
+    }
+}
+
+fn send_failed(name: &str) -> Option<Result<Reply, FailKind>>
+    ensures { result ≡ failed_send name.now }
+{
+    Some(Err(fail_kind_named(name)?))
+}
+
+fn failure<T: Drop>(name: &str) -> Option<Result<T, FailKind>>
+    ensures { result ≡ failed name.now }
+{
+    if name == "fail" {
+        Some(Err(FailKind::Io))
+    } else {
+        None
+    }
+}
+
+/// What a command left behind, or that it failed.
+pub(crate) struct Command;
+
+impl Part for Command {
+    ghost use Rattle.std.specs.Prelude.{Result};
+    ghost use Rattle.cfg_types.specs.declared.command.Finished.{Finished};
+    ghost use Rattle.cfg_types.specs.declared.reply.FailKind.{FailKind};
+    ghost use Rattle.cfg_script.specs.Replies.{command};
+
+    type Read = Result<Finished, FailKind>;
+
+    ghost Plain = { Result Finished FailKind };
+
+    ghost seen = { λ r. r };
+
+    ghost form = { command };
+
+    fn read(alloc: Global, value: Value) -> Result<Result<Finished, FailKind>, ScriptError> {
+        let other = match text_or_other(value) {
+            Ok(name) => return failure(name.as_str()).ok_or(ScriptError::NoScript),
+            Err(other) => other,
+        };
+        let (status, output, errors) = read_triple::<CommandStatus, Content, Content>(
+            alloc, other,
+        )?;
+        Ok(Ok(Finished {
+            status,
+            output,
+            errors,
+        }))
+    }
+
+    fn find_fault(alloc: Global, value: Value) -> Result<Option<Fault>, OutOfMemory> {
+        match text_or_other(value) {
+            Ok(name) => {
+                let failed = failure::<Finished>(name.as_str());
+                Ok(unless_read(alloc, Wanted::Command, failed))
+            }
+            Err(other) => {
+                triple_fault::<CommandStatus, Content, Content>(alloc, Wanted::Command, other)
+            }
+        }
+    }
+}
+
+fn address_named(text: &str) -> Option<Address>
+    ensures { result ≡ address_from text.now }
+{
+    Address::parse(text)
+}
+
+#[tactic(auto, unfolding(crate::specs::Addresses::address_of))]
+fn read_address(value: &Value) -> Option<Address>
+    ensures { result ≡ address_of (view value.now) }
+{
+    address_named(value.as_str()?)
+}
+
+/// An address by its text.
+pub(crate) struct AddressText;
+
+impl Part for AddressText {
+    ghost use Rattle.cfg_values.specs.declared.address.Address.{Address};
+    ghost use Rattle.cfg_script.specs.Addresses.{address};
+
+    type Read = Address;
+
+    ghost Plain = { Address };
+
+    ghost seen = { λ a. a };
+
+    ghost form = { address };
+
+    fn read(_: Global, value: Value) -> Result<Address, ScriptError> {
+        read_address(&value).ok_or(ScriptError::NoScript)
+    }
+
+    fn find_fault(alloc: Global, value: Value) -> Result<Option<Fault>, OutOfMemory> {
+        Ok(unless_read(alloc, Wanted::Address, read_address(&value)))
+    }
+}
+
+/// The addresses of a host, or that the look-up failed.
+pub(crate) struct LookUp;
+
+impl Part for LookUp {
+    ghost use Rattle.std.specs.Prelude.{Result, List};
+    ghost use Rattle.cfg_values.specs.declared.address.Address.{Address};
+    ghost use Rattle.cfg_types.specs.declared.reply.FailKind.{FailKind};
+    ghost use Rattle.cfg_script.specs.Replies.{look_up};
+
+    type Read = Result<Seq<Address>, FailKind>;
+
+    ghost Plain = { Result (List Address) FailKind };
+
+    ghost seen = { λ r. r };
+
+    ghost form = { look_up };
+
+    fn read(alloc: Global, value: Value) -> Result<Result<Seq<Address>, FailKind>, ScriptError> {
+        let other = match text_or_other(value) {
+            Ok(name) => return failure(name.as_str()).ok_or(ScriptError::NoScript),
+            Err(other) => other,
+        };
+        let addresses = read_list::<AddressText>(alloc, other)?;
+        Ok(Ok(Seq::of(addresses)))
+    }
+
+    fn find_fault(alloc: Global, value: Value) -> Result<Option<Fault>, OutOfMemory> {
+        match text_or_other(value) {
+            Ok(name) => {
+                let failed = failure::<Seq<Address>>(name.as_str());
+                Ok(unless_read(alloc, Wanted::LookUp, failed))
+            }
+            Err(other) => list_fault::<AddressText>(alloc, Wanted::LookUp, other),
+        }
+    }
+}
+
+/// A header of a reply.
+pub(crate) struct HeaderPair;
+
+impl Part for HeaderPair {
+    ghost use Rattle.cfg_types.specs.declared.reply.http.Header.{Header};
+    ghost use Rattle.cfg_script.specs.Replies.{header};
+
+    type Read = Header;
+
+    ghost Plain = { Header };
+
+    ghost seen = { λ h. h };
+
+    ghost form = { header };
+
+    fn read(alloc: Global, value: Value) -> Result<Header, ScriptError> {
+        let (name, value) = read_pair::<HeaderText, Words>(alloc, value)?;
+        Ok(Header { name, value })
+    }
+
+    fn find_fault(alloc: Global, value: Value) -> Result<Option<Fault>, OutOfMemory> {
+        pair_fault::<HeaderText, Words>(alloc, Wanted::Header, value)
+    }
+}
+
+/// A reply of HTTP, or a send that failed.
+pub(crate) struct HttpSent;
+
+impl Part for HttpSent {
+    ghost use Rattle.std.specs.Prelude.{Result};
+    ghost use Rattle.cfg_types.specs.declared.reply.Reply.{Reply};
+    ghost use Rattle.cfg_types.specs.declared.reply.FailKind.{FailKind};
+    ghost use Rattle.cfg_script.specs.Replies.{http_reply};
+
+    type Read = Result<Reply, FailKind>;
+
+    ghost Plain = { Result Reply FailKind };
+
+    ghost seen = { λ r. r };
+
+    ghost form = { http_reply };
+
+    fn read(alloc: Global, value: Value) -> Result<Result<Reply, FailKind>, ScriptError> {
+        let other = match text_or_other(value) {
+            Ok(name) => return send_failed(name.as_str()).ok_or(ScriptError::NoScript),
+            Err(other) => other,
+        };
+        let (status, headers, body) = read_triple::<HttpStatus, Items<HeaderPair>, Content>(
+            alloc, other,
+        )?;
+        let headers = Seq::of(headers);
+        Ok(Ok(Reply::Http(HttpReply {
+            status,
+            headers,
+            body,
+        })))
+    }
+
+    fn find_fault(alloc: Global, value: Value) -> Result<Option<Fault>, OutOfMemory> {
+        match text_or_other(value) {
+            Ok(name) => {
+                let failed = send_failed(name.as_str());
+                Ok(unless_read(alloc, Wanted::HttpReply, failed))
+            }
+            Err(other) => triple_fault::<HttpStatus, Items<HeaderPair>, Content>(
+                alloc,
+                Wanted::HttpReply,
+                other,
+            ),
+        }
     }
 }
 
@@ -44,308 +262,371 @@ fn refusal_kind_named(name: &str) -> Option<RefusalKind>
     }
 }
 
-fn required_text(member: Option<Value>) -> Option<Text>
-    ensures { result ≡ required (option_map view member) }
+#[tactic(auto, unfolding(crate::specs::Replies::refusal_kind_of))]
+fn read_refusal_kind(value: &Value) -> Option<RefusalKind>
+    ensures { result ≡ refusal_kind_of (view value.now) }
 {
-    let text = text_of(member?)?;
-    Some(Text::from_string(text))
+    refusal_kind_named(value.as_str()?)
 }
 
-fn optional_text(member: Option<Value>) -> Option<Option<Text>>
-    ensures { result ≡ optional (option_map view member) }
-{
-    let Some(value) = member else {
-        return Some(None);
-    };
-    let text = text_of(value)?;
-    Some(Some(Text::from_string(text)))
-}
+/// What a call was refused for.
+pub(crate) struct KindName;
 
-fn required_moment(member: Option<Value>) -> Option<Instant>
-    ensures { result ≡ moment_at (option_map view member) }
-{
-    read_moment(member?)
-}
+impl Part for KindName {
+    ghost use Rattle.cfg_types.specs.declared.reply.RefusalKind.{RefusalKind};
+    ghost use Rattle.cfg_script.specs.Replies.{kind_name};
 
-#[tactic(auto, unfolding(crate::specs::Replies::refusal_of))]
-fn refused(mut members: Map<String, Value>) -> Option<Reply>
-    ensures { result ≡ refusal_of (members_view members.entries) }
-{
-    let name = member(&members, "refused")?.as_str()?;
-    let kind = refusal_kind_named(name)?;
-    let message = required_text(taken(&mut members, "message"))?;
-    Some(Reply::Refused(Refusal { kind, message }))
-}
+    type Read = RefusalKind;
 
-#[tactic(auto, unfolding(crate::specs::Replies::refusal_from))]
-fn refusal_in(members: Map<String, Value>) -> Option<Reply>
-    ensures { result ≡ refusal_from (members_view members.entries) }
-{
-    if every_named::<OfRefusal>(&members) {
-        refused(members)
-    } else {
-        None
+    ghost Plain = { RefusalKind };
+
+    ghost seen = { λ k. k };
+
+    ghost form = { kind_name };
+
+    fn read(_: Global, value: Value) -> Result<RefusalKind, ScriptError> {
+        read_refusal_kind(&value).ok_or(ScriptError::NoScript)
+    }
+
+    fn find_fault(alloc: Global, value: Value) -> Result<Option<Fault>, OutOfMemory> {
+        let kind = read_refusal_kind(&value);
+        Ok(unless_read(alloc, Wanted::RefusalKind, kind))
     }
 }
 
-// What stands under the names of credentials.
-#[derive(Drop)]
-struct CredentialMembers {
-    id: Option<Value>,
-    secret: Option<Value>,
-    token: Option<Value>,
-    expires: Option<Value>,
-    arn: Option<Value>,
-}
+type OfRefusal = (Required<Refused, KindName>, (Required<Message, Words>, ()));
 
-fn credential_members(mut members: Map<String, Value>) -> CredentialMembers
-    ensures { credential_parts result ≡ credential_parts_in (members_view members.entries) }
-{
-    let id = taken(&mut members, "id");
-    let secret = taken(&mut members, "secret");
-    let token = taken(&mut members, "token");
-    let expires = taken(&mut members, "expires");
-    let arn = taken(&mut members, "arn");
-    CredentialMembers {
-        id,
-        secret,
-        token,
-        expires,
-        arn,
+/// A service's refusal.
+pub(crate) struct Refuses;
+
+impl Part for Refuses {
+    ghost use Rattle.cfg_types.specs.declared.reply.Reply.{Reply};
+    ghost use Rattle.cfg_script.specs.Replies.{refusal};
+
+    type Read = Reply;
+
+    ghost Plain = { Reply };
+
+    ghost seen = { λ r. r };
+
+    ghost form = { refusal };
+
+    fn read(alloc: Global, value: Value) -> Result<Reply, ScriptError> {
+        let (kind, (message, ())) = read_object::<OfRefusal>(alloc, value)?;
+        Ok(Reply::Refused(Refusal { kind, message }))
+    }
+
+    fn find_fault(alloc: Global, value: Value) -> Result<Option<Fault>, OutOfMemory> {
+        object_fault::<OfRefusal>(alloc, Wanted::Reply, value)
     }
 }
 
-#[tactic(auto, unfolding(crate::specs::Replies::credentials_of))]
-fn granted(members: CredentialMembers) -> Option<Reply>
-    ensures { result ≡ credentials_of (credential_parts members) }
-{
-    let CredentialMembers {
-        id,
-        secret,
-        token,
-        expires,
-        arn,
-    } = members;
-    let access_key_id = required_text(id)?;
-    let secret_access_key = required_text(secret)?;
-    let session_token = required_text(token)?;
-    let expiration = required_moment(expires)?;
-    let arn = optional_text(arn)?;
-    Some(Reply::Sts(StsReply {
-        credentials: Some(StsCredentials {
+/// What a service grants.
+pub(crate) trait Service {
+    ghost grant: { Form Reply };
+
+    fn read(alloc: Global, value: Value) -> Result<Reply, ScriptError>
+        ensures { GivesPart (λ r. r) result (grant.read (view value)) };
+
+    fn find_fault(alloc: Global, value: Value) -> Result<Option<Fault>, OutOfMemory>
+        ensures { IfOk result (λ o. o ≡ grant.fault (view value)) };
+}
+
+type OfSts = (
+    Required<Id, Words>,
+    (
+        Required<Secret, Words>,
+        (
+            Required<Token, Words>,
+            (Required<Expires, Moment>, (Optional<Arn, Words>, ())),
+        ),
+    ),
+);
+
+/// The Security Token Service.
+pub(crate) struct Sts;
+
+impl Service for Sts {
+    ghost use Rattle.cfg_script.specs.Replies.{sts_grant};
+
+    ghost grant = { sts_grant };
+
+    fn read(alloc: Global, value: Value) -> Result<Reply, ScriptError> {
+        let (access_key_id, (secret_access_key, (session_token, (expiration, (arn, ()))))) =
+            read_object::<OfSts>(alloc, value)?;
+        Ok(Reply::Sts(StsReply {
+            credentials: Some(StsCredentials {
+                access_key_id,
+                secret_access_key,
+                session_token,
+                expiration,
+            }),
+            arn,
+        }))
+    }
+
+    fn find_fault(alloc: Global, value: Value) -> Result<Option<Fault>, OutOfMemory> {
+        object_fault::<OfSts>(alloc, Wanted::Reply, value)
+    }
+}
+
+type OfRole = (
+    Optional<Id, Words>,
+    (
+        Optional<Secret, Words>,
+        (Optional<Token, Words>, (Required<ExpiresMs, Whole>, ())),
+    ),
+);
+
+/// `GetRoleCredentials`.
+pub(crate) struct Role;
+
+impl Service for Role {
+    ghost use Rattle.cfg_script.specs.Replies.{role_grant};
+
+    ghost grant = { role_grant };
+
+    fn read(alloc: Global, value: Value) -> Result<Reply, ScriptError> {
+        let (access_key_id, (secret_access_key, (session_token, (expiration_ms, ())))) =
+            read_object::<OfRole>(alloc, value)?;
+        Ok(Reply::Role(RoleReply {
+            credentials: Some(RoleCredentials {
+                access_key_id,
+                secret_access_key,
+                session_token,
+                expiration_ms,
+            }),
+        }))
+    }
+
+    fn find_fault(alloc: Global, value: Value) -> Result<Option<Fault>, OutOfMemory> {
+        object_fault::<OfRole>(alloc, Wanted::Reply, value)
+    }
+}
+
+type OfToken = (
+    Optional<Access, Words>,
+    (Optional<Refresh, Words>, (Required<ExpiresIn, Whole>, ())),
+);
+
+/// `CreateToken`.
+pub(crate) struct Tokens;
+
+impl Service for Tokens {
+    ghost use Rattle.cfg_script.specs.Replies.{token_grant};
+
+    ghost grant = { token_grant };
+
+    fn read(alloc: Global, value: Value) -> Result<Reply, ScriptError> {
+        let (access_token, (refresh_token, (expires_in, ()))) = read_object::<OfToken>(
+            alloc, value,
+        )?;
+        Ok(Reply::Token(TokenReply {
+            access_token,
+            refresh_token,
+            expires_in,
+        }))
+    }
+
+    fn find_fault(alloc: Global, value: Value) -> Result<Option<Fault>, OutOfMemory> {
+        object_fault::<OfToken>(alloc, Wanted::Reply, value)
+    }
+}
+
+type OfSignIn = (
+    Required<Id, Words>,
+    (
+        Required<Secret, Words>,
+        (
+            Required<Token, Words>,
+            (Required<Refresh, Words>, (Required<ExpiresIn, Whole>, ())),
+        ),
+    ),
+);
+
+/// `CreateOAuth2Token`.
+pub(crate) struct SignsIn;
+
+impl Service for SignsIn {
+    ghost use Rattle.cfg_script.specs.Replies.{sign_in_grant};
+
+    ghost grant = { sign_in_grant };
+
+    fn read(alloc: Global, value: Value) -> Result<Reply, ScriptError> {
+        let (
             access_key_id,
-            secret_access_key,
-            session_token,
-            expiration,
-        }),
-        arn,
-    }))
+            (secret_access_key, (session_token, (refresh_token, (expires_in, ())))),
+        ) = read_object::<OfSignIn>(alloc, value)?;
+        Ok(Reply::SignIn(SignInReply {
+            token: Some(SignInToken {
+                access_key_id,
+                secret_access_key,
+                session_token,
+                refresh_token,
+                expires_in,
+            }),
+        }))
+    }
+
+    fn find_fault(alloc: Global, value: Value) -> Result<Option<Fault>, OutOfMemory> {
+        object_fault::<OfSignIn>(alloc, Wanted::Reply, value)
+    }
 }
 
-#[tactic(auto, unfolding(crate::specs::Replies::credentials_from))]
-fn credentials_in(members: Map<String, Value>) -> Option<Reply>
-    ensures { result ≡ credentials_from (members_view members.entries) }
+fn read_answer<S: Service>(alloc: Global, value: Value) -> Result<Reply, ScriptError>
+    ensures { GivesPart (λ r. r) result ((by_member (codes "refused") refusal S.grant).read (view value)) }
 {
-    if every_named::<OfCredentials>(&members) {
-        granted(credential_members(members))
+    if value.get("refused").is_some() {
+        Refuses::read(alloc, value)
     } else {
-        None
+        S::read(alloc, value)
     }
 }
 
-fn read_object_reply(members: Map<String, Value>) -> Option<Reply>
-    ensures { result ≡ object_reply (members_view members.entries) }
+fn answer_fault<S: Service>(alloc: Global, value: Value) -> Result<Option<Fault>, OutOfMemory>
+    ensures { IfOk result (λ o. o ≡ (by_member (codes "refused") refusal S.grant).fault (view value)) }
 {
-    if member(&members, "refused").is_some() {
-        refusal_in(members)
+    if value.get("refused").is_some() {
+        Refuses::find_fault(alloc, value)
     } else {
-        credentials_in(members)
+        S::find_fault(alloc, value)
     }
 }
 
-fn read_reply(value: Value) -> Option<Result<Reply, FailKind>>
-    ensures { result ≡ reply_from (view value) }
-{
-    match value {
-        Value::Null => Some(Ok(Reply::Sts(StsReply {
-            credentials: None,
-            arn: None,
-        }))),
-        Value::String(name) => Some(Err(fail_kind_named(name.as_str())?)),
-        Value::Object(members) => Some(Ok(read_object_reply(members)?)),
-        _ => None,
-    }
+/// A send that failed, a refusal, or what a service grants.
+pub(crate) struct Sent<S> {
+    by: PhantomData<S>,
 }
 
-fn kind_fault(alloc: Global, member: Option<&Value>) -> Option<Fault>
-    ensures { result ≡ required_fault kind_fault_of (option_map (λ v. view v.now) member.entry) }
-{
-    let Some(value) = member else {
-        return Some(here(alloc, Wanted::Present));
-    };
-    let Some(name) = value.as_str() else {
-        return Some(here(alloc, Wanted::RefusalKind));
-    };
-    match refusal_kind_named(name) {
-        Some(_) => None,
-        None => Some(here(alloc, Wanted::RefusalKind)),
-    }
-}
-
-#[tactic(auto, unfolding(crate::specs::Replies::refusal_fault))]
-fn refusal_fault(
-    alloc: Global,
-    mut members: Map<String, Value>,
-) -> Result<Option<Fault>, OutOfMemory>
-    ensures { IfOk result (λ o. o ≡ refusal_fault_of (members_view members.entries)) }
-{
-    let other = other_name::<OfRefusal>(alloc, &members)?;
-    let kind = kind_fault(alloc, member(&members, "refused"));
-    let kind = under_name(alloc, "refused", kind)?;
-    let message = required_text_fault(alloc, taken(&mut members, "message"));
-    let message = under_name(alloc, "message", message)?;
-    Ok(other.or(kind.or(message)))
-}
-
-#[tactic(auto, unfolding(crate::specs::Replies::credential_parts_fault))]
-fn credential_parts_fault(
-    alloc: Global,
-    members: CredentialMembers,
-) -> Result<Option<Fault>, OutOfMemory>
-    ensures { IfOk result (λ o. o ≡ credential_parts_fault_of (credential_parts members)) }
-{
-    let CredentialMembers {
-        id,
-        secret,
-        token,
-        expires,
-        arn,
-    } = members;
-    let id = under_name(alloc, "id", required_text_fault(alloc, id))?;
-    let secret = under_name(alloc, "secret", required_text_fault(alloc, secret))?;
-    let token = under_name(alloc, "token", required_text_fault(alloc, token))?;
-    let expires = under_name(alloc, "expires", required_moment_fault(alloc, expires))?;
-    let arn = under_name(alloc, "arn", optional_text_fault(alloc, arn))?;
-    Ok(id.or(secret.or(token.or(expires.or(arn)))))
-}
-
-#[tactic(auto, unfolding(crate::specs::Replies::credentials_fault))]
-fn credentials_fault(
-    alloc: Global,
-    members: Map<String, Value>,
-) -> Result<Option<Fault>, OutOfMemory>
-    ensures { IfOk result (λ o. o ≡ credentials_fault_of (members_view members.entries)) }
-{
-    let other = other_name::<OfCredentials>(alloc, &members)?;
-    let part = credential_parts_fault(alloc, credential_members(members))?;
-    Ok(other.or(part))
-}
-
-fn object_fault(alloc: Global, members: Map<String, Value>) -> Result<Option<Fault>, OutOfMemory>
-    ensures { IfOk result (λ o. o ≡ object_fault_of (members_view members.entries)) }
-{
-    if member(&members, "refused").is_some() {
-        refusal_fault(alloc, members)
-    } else {
-        credentials_fault(alloc, members)
-    }
-}
-
-fn fail_kind_fault(alloc: Global, name: &str) -> Option<Fault>
-    ensures { result ≡ unless_read wanted.Reply (fail_kind name.now) }
-{
-    match fail_kind_named(name) {
-        Some(_) => None,
-        None => Some(here(alloc, Wanted::Reply)),
-    }
-}
-
-fn reply_fault(alloc: Global, value: Value) -> Result<Option<Fault>, OutOfMemory>
-    ensures { IfOk result (λ o. o ≡ reply_fault_of (view value)) }
-{
-    match value {
-        Value::Null => Ok(None),
-        Value::String(name) => Ok(fail_kind_fault(alloc, name.as_str())),
-        Value::Object(members) => object_fault(alloc, members),
-        _ => Ok(Some(here(alloc, Wanted::Reply))),
-    }
-}
-
-impl Part for Result<Reply, FailKind> {
+impl<S: Service> Part for Sent<S> {
     ghost use Rattle.std.specs.Prelude.{Result};
     ghost use Rattle.cfg_types.specs.declared.reply.Reply.{Reply};
     ghost use Rattle.cfg_types.specs.declared.reply.FailKind.{FailKind};
-    ghost use Rattle.cfg_script.specs.Replies.{reply_from, reply_fault};
+    ghost use Rattle.cfg_script.specs.Replies.{granted_or_not};
+
+    type Read = Result<Reply, FailKind>;
 
     ghost Plain = { Result Reply FailKind };
 
     ghost seen = { λ r. r };
 
-    ghost form = { reply_from };
+    ghost form = { granted_or_not S.grant };
 
-    ghost fault = { reply_fault };
-
-    fn read(_: Global, value: Value) -> Result<Result<Reply, FailKind>, ScriptError> {
-        read_reply(value).ok_or(ScriptError::NoScript)
+    fn read(alloc: Global, value: Value) -> Result<Result<Reply, FailKind>, ScriptError> {
+        let other = match text_or_other(value) {
+            Ok(name) => return send_failed(name.as_str()).ok_or(ScriptError::NoScript),
+            Err(other) => other,
+        };
+        let reply = read_answer::<S>(alloc, other)?;
+        Ok(Ok(reply))
     }
 
     fn find_fault(alloc: Global, value: Value) -> Result<Option<Fault>, OutOfMemory> {
-        reply_fault(alloc, value)
+        match text_or_other(value) {
+            Ok(name) => {
+                let failed = send_failed(name.as_str());
+                Ok(unless_read(alloc, Wanted::Reply, failed))
+            }
+            Err(other) => answer_fault::<S>(alloc, other),
+        }
     }
 }
 
-fn read_replies(
-    alloc: Global,
-    mut members: Map<String, Value>,
-) -> Result<Vec<Result<Reply, FailKind>>, ScriptError>
-    ensures { GivesPart (λ v. v.items) result (replies_in (members_view members.entries)) }
-{
-    if !every_named::<BuiltReplies>(&members) {
-        return Err(ScriptError::NoScript);
+/// The same, or null for a reply of the Security Token Service without credentials.
+pub(crate) struct StsSent;
+
+impl Part for StsSent {
+    ghost use Rattle.std.specs.Prelude.{Result};
+    ghost use Rattle.cfg_types.specs.declared.reply.Reply.{Reply};
+    ghost use Rattle.cfg_types.specs.declared.reply.FailKind.{FailKind};
+    ghost use Rattle.cfg_script.specs.Replies.{sts_reply};
+
+    type Read = Result<Reply, FailKind>;
+
+    ghost Plain = { Result Reply FailKind };
+
+    ghost seen = { λ r. r };
+
+    ghost form = { sts_reply };
+
+    fn read(alloc: Global, value: Value) -> Result<Result<Reply, FailKind>, ScriptError> {
+        if value.is_null() {
+            return Ok(Ok(Reply::Sts(StsReply {
+                credentials: None,
+                arn: None,
+            })));
+        }
+        Sent::<Sts>::read(alloc, value)
     }
-    parts_under(alloc, taken(&mut members, "assume-role"))
-}
 
-/// The replies to `AssumeRole`.
-pub(crate) fn replies_under(
-    alloc: Global,
-    member: Option<Value>,
-) -> Result<Vec<Result<Reply, FailKind>>, ScriptError>
-    ensures { GivesPart (λ v. v.items) result (replies_from (option_map view member)) }
-{
-    let Some(value) = member else {
-        return Ok(Vec::new(alloc));
-    };
-    match members_of(value) {
-        Some(members) => read_replies(alloc, members),
-        None => Err(ScriptError::NoScript),
+    fn find_fault(alloc: Global, value: Value) -> Result<Option<Fault>, OutOfMemory> {
+        if value.is_null() {
+            return Ok(None);
+        }
+        Sent::<Sts>::find_fault(alloc, value)
     }
 }
 
-fn replies_in_fault(
-    alloc: Global,
-    mut members: Map<String, Value>,
-) -> Result<Option<Fault>, OutOfMemory>
-    ensures { IfOk result (λ o. o ≡ replies_in_fault_of (members_view members.entries)) }
-{
-    let other = other_name::<BuiltReplies>(alloc, &members)?;
-    let list = taken(&mut members, "assume-role");
-    let list = list_fault_under::<Result<Reply, FailKind>>(alloc, list)?;
-    Ok(other.or(under_name(alloc, "assume-role", list)?))
+/// The same of `GetRoleCredentials`.
+pub(crate) struct RoleSent;
+
+impl Part for RoleSent {
+    ghost use Rattle.std.specs.Prelude.{Result};
+    ghost use Rattle.cfg_types.specs.declared.reply.Reply.{Reply};
+    ghost use Rattle.cfg_types.specs.declared.reply.FailKind.{FailKind};
+    ghost use Rattle.cfg_script.specs.Replies.{role_reply};
+
+    type Read = Result<Reply, FailKind>;
+
+    ghost Plain = { Result Reply FailKind };
+
+    ghost seen = { λ r. r };
+
+    ghost form = { role_reply };
+
+    fn read(alloc: Global, value: Value) -> Result<Result<Reply, FailKind>, ScriptError> {
+        if value.is_null() {
+            return Ok(Ok(Reply::Role(RoleReply { credentials: None })));
+        }
+        Sent::<Role>::read(alloc, value)
+    }
+
+    fn find_fault(alloc: Global, value: Value) -> Result<Option<Fault>, OutOfMemory> {
+        if value.is_null() {
+            return Ok(None);
+        }
+        Sent::<Role>::find_fault(alloc, value)
+    }
 }
 
-/// What is wrong with replies that may be missing.
-pub(crate) fn replies_fault_under(
-    alloc: Global,
-    member: Option<Value>,
-) -> Result<Option<Fault>, OutOfMemory>
-    ensures { IfOk result (λ o. o ≡ optional_fault replies_fault_of (option_map view member)) }
-{
-    let Some(value) = member else {
-        return Ok(None);
-    };
-    match members_of(value) {
-        Some(members) => replies_in_fault(alloc, members),
-        None => Ok(Some(here(alloc, Wanted::Replies))),
+/// The same of `CreateOAuth2Token`.
+pub(crate) struct SignInSent;
+
+impl Part for SignInSent {
+    ghost use Rattle.std.specs.Prelude.{Result};
+    ghost use Rattle.cfg_types.specs.declared.reply.Reply.{Reply};
+    ghost use Rattle.cfg_types.specs.declared.reply.FailKind.{FailKind};
+    ghost use Rattle.cfg_script.specs.Replies.{sign_in_reply};
+
+    type Read = Result<Reply, FailKind>;
+
+    ghost Plain = { Result Reply FailKind };
+
+    ghost seen = { λ r. r };
+
+    ghost form = { sign_in_reply };
+
+    fn read(alloc: Global, value: Value) -> Result<Result<Reply, FailKind>, ScriptError> {
+        if value.is_null() {
+            return Ok(Ok(Reply::SignIn(SignInReply { token: None })));
+        }
+        Sent::<SignsIn>::read(alloc, value)
+    }
+
+    fn find_fault(alloc: Global, value: Value) -> Result<Option<Fault>, OutOfMemory> {
+        if value.is_null() {
+            return Ok(None);
+        }
+        Sent::<SignsIn>::find_fault(alloc, value)
     }
 }

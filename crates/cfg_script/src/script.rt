@@ -2,24 +2,36 @@
 ghost use Rattle.std.specs.Prelude.{◌≡◌};
 ghost use Rattle.cfg_script.specs.declared.script.ScriptError.TheVariants as error;
 
-use cfg_types::{EnvText, FailKind, Instant, Reply};
+use cfg_types::{EnvText, OutOfMemory, Text};
+use cfg_world::DeviceLists;
 use std::alloc::{AllocError, AllocFailed};
 
-/// What a script says. Members that are missing are empty lists, or none.
+/// The sections of profile files, or the message that they are refused with.
+#[derive(Drop)]
+pub enum ScriptProfiles {
+    Sections {
+        /// Profile sections, each with its properties.
+        profiles: Vec<(String, Vec<(String, String)>)>,
+        /// Sections of sessions.
+        sessions: Vec<(String, Vec<(String, String)>)>,
+    },
+    Refused(Text),
+}
+
+/// What a script says. Members that are missing are empty lists, or none; `sleep` is true without one.
 #[derive(Drop)]
 pub struct Script {
     /// Environment variables, in the script's order.
     pub variables: Vec<(String, EnvText)>,
-    /// Profile sections, each with its properties.
-    pub profiles: Vec<(String, Vec<(String, String)>)>,
+    pub profiles: ScriptProfiles,
     /// The profile's name, where it is overridden.
     pub selected: Option<String>,
     /// The region's name, where it is overridden.
     pub region: Option<String>,
-    /// What the clock reads, one moment a reading.
-    pub clock: Vec<Instant>,
-    /// What is answered to `AssumeRole`: a reply, or why the send failed.
-    pub assume_role: Vec<Result<Reply, FailKind>>,
+    /// Whether the program sleeps between attempts.
+    pub sleep: bool,
+    /// What the devices answer.
+    pub devices: DeviceLists,
 }
 
 /// Why bytes were not read.
@@ -44,6 +56,14 @@ impl<T: Drop> From<AllocFailed<T>> for ScriptError {
     ghost from_gives = { λ _ e. e ≡ error.OutOfMemory };
 
     fn from(_: AllocFailed<T>) -> ScriptError {
+        ScriptError::OutOfMemory
+    }
+}
+
+impl From<OutOfMemory> for ScriptError {
+    ghost from_gives = { λ _ e. e ≡ error.OutOfMemory };
+
+    fn from(_: OutOfMemory) -> ScriptError {
         ScriptError::OutOfMemory
     }
 }

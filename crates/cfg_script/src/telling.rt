@@ -1,17 +1,17 @@
-//! From bytes that are no script to the fault.
+//! Why bytes are no script, for one who looks for it.
 ghost use Rattle.std.specs.Prelude.{◌≡◌, IfOk, option_map};
 ghost use Rattle.serde_json.specs.View.{view, members_view};
-ghost use Rattle.cfg_script.specs.Held.{script_parts, parsed_value};
+ghost use Rattle.cfg_script.specs.Held.{parsed_value};
 ghost use Rattle.cfg_script.specs.Reading.{json_value};
-ghost use Rattle.cfg_script.specs.Telling.{parts_fault as parts_fault_of, script_fault as script_fault_of, members_fault as members_fault_of, value_fault as value_fault_of, told, fault_of, unbuilt_of};
+ghost use Rattle.cfg_script.specs.Telling.{beside_fault as beside_fault_of, script_fault as script_fault_of, members_fault as members_fault_of, value_fault as value_fault_of, unbuilt_in as unbuilt_in_of, told, fault_of, unbuilt_of};
 
 use crate::fault::{Fault, Position, ScriptFault, Wanted, here, under_name};
-use crate::names::{Built, any_unbuilt, other_name, unbuilt_in};
-use crate::part::list_fault_under;
-use crate::reading::{ScriptMembers, script_members};
-use crate::replies::replies_fault_under;
-use crate::value::{members_of, optional_text_fault};
-use cfg_types::{EnvText, Instant, OutOfMemory};
+use crate::object::other_name;
+use crate::reading::{any_unbuilt, is_refused_beside};
+use crate::settings::ScriptRows;
+use crate::table::Group;
+use crate::value::members_of;
+use cfg_types::OutOfMemory;
 use serde_json::{Map, Value};
 use std::alloc::Global;
 
@@ -33,36 +33,38 @@ fn parsed(alloc: Global, bytes: &[u8]) -> Result<Result<Value, Position>, OutOfM
     }
 }
 
-#[tactic(auto, unfolding(crate::specs::Telling::parts_fault))]
-fn parts_fault(alloc: Global, members: ScriptMembers) -> Result<Option<Fault>, OutOfMemory>
-    ensures { IfOk result (λ o. o ≡ parts_fault_of (script_parts members)) }
+fn beside_fault(alloc: Global, members: &Map<String, Value>) -> Result<Option<Fault>, OutOfMemory>
+    ensures { IfOk result (λ o. o ≡ beside_fault_of (members_view members.now.entries)) }
 {
-    let ScriptMembers {
-        variables,
-        profiles,
-        selected,
-        region,
-        clock,
-        replies,
-    } = members;
-    let variables = list_fault_under::<(String, EnvText)>(alloc, variables)?;
-    let variables = under_name(alloc, "variables", variables)?;
-    let profiles = list_fault_under::<(String, Vec<(String, String)>)>(alloc, profiles)?;
-    let profiles = under_name(alloc, "profiles", profiles)?;
-    let selected = under_name(alloc, "selected", optional_text_fault(alloc, selected))?;
-    let region = under_name(alloc, "region", optional_text_fault(alloc, region))?;
-    let clock = under_name(alloc, "clock", list_fault_under::<Instant>(alloc, clock)?)?;
-    let replies = under_name(alloc, "replies", replies_fault_under(alloc, replies)?)?;
-    Ok(variables.or(profiles.or(selected.or(region.or(clock.or(replies))))))
+    if is_refused_beside(members) {
+        under_name(alloc, "refused", Some(here(alloc, Wanted::RefusedAlone)))
+    } else {
+        Ok(None)
+    }
 }
 
 #[tactic(auto, unfolding(crate::specs::Telling::script_fault))]
-fn script_fault(alloc: Global, members: Map<String, Value>) -> Result<Option<Fault>, OutOfMemory>
+fn script_fault(
+    alloc: Global,
+    mut members: Map<String, Value>,
+) -> Result<Option<Fault>, OutOfMemory>
     ensures { IfOk result (λ o. o ≡ script_fault_of (members_view members.entries)) }
 {
-    let other = other_name::<Built>(alloc, &members)?;
-    let part = parts_fault(alloc, script_members(members))?;
-    Ok(other.or(part))
+    let other = other_name::<ScriptRows>(alloc, &members)?;
+    let beside = beside_fault(alloc, &members)?;
+    let part = ScriptRows::find_fault(alloc, &mut members)?;
+    Ok(other.or(beside.or(part)))
+}
+
+#[tactic(auto, unfolding(crate::specs::Telling::unbuilt_in))]
+fn unbuilt_in(alloc: Global, members: &Map<String, Value>) -> Result<Option<Fault>, OutOfMemory>
+    ensures { IfOk result (λ o. o ≡ unbuilt_in_of (members_view members.now.entries)) }
+{
+    if any_unbuilt(members) {
+        under_name(alloc, "calls", Some(here(alloc, Wanted::BuiltName)))
+    } else {
+        Ok(None)
+    }
 }
 
 #[tactic(auto, unfolding(crate::specs::Telling::members_fault))]

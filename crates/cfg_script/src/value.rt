@@ -1,13 +1,10 @@
 //! JSON values, taken apart without a copy.
-ghost use Rattle.std.specs.Prelude.{◌≡◌, ℕ, List, false, option_map, bytes_eq, string_bytes};
+ghost use Rattle.std.specs.Prelude.{◌≡◌, Some, None, option_map, string_bytes, IfOk, IfErr};
 ghost use Rattle.serde_json.specs.Find.{as_array, as_object, as_str, get_member};
 ghost use Rattle.serde_json.specs.View.{view, items_view, members_view};
-ghost use Rattle.cfg_script.specs.Forms.{two, pair_from, text_from};
-ghost use Rattle.cfg_script.specs.Faults.{text_fault as text_fault_of, optional, required};
+ghost use Rattle.cfg_script.specs.Forms.{two, three, pair_from, triple_from, without};
 
-use crate::fault::{Fault, Wanted, here};
 use serde_json::{Map, Value};
-use std::alloc::Global;
 
 /// The text itself, where the value is one.
 pub(crate) fn text_of(value: Value) -> Option<String>
@@ -16,6 +13,17 @@ pub(crate) fn text_of(value: Value) -> Option<String>
     match value {
         Value::String(text) => Some(text),
         _ => None,
+    }
+}
+
+/// The text itself, or the value where it is none.
+pub(crate) fn text_or_other(value: Value) -> Result<String, Value>
+    ensures text { IfOk result (λ t. as_str (view value) ≡ Some (string_bytes t)) }
+    ensures other { IfErr result (λ v. (v ≡ value) × (as_str (view value) ≡ None)) }
+{
+    match value {
+        Value::String(text) => Ok(text),
+        other => Err(other),
     }
 }
 
@@ -57,11 +65,29 @@ pub(crate) fn pair_of(value: Value) -> Option<(Value, Value)>
     two_of(items_of(value)?)
 }
 
+fn three_of(mut items: Vec<Value>) -> Option<(Value, Value, Value)>
+    ensures { option_map (λ t. (view t.0, view t.1, view t.2)) result ≡ three (items_view items.items) }
+{
+    if items.len() != 3 {
+        return None;
+    }
+    let third = items.pop()?;
+    let second = items.pop()?;
+    let first = items.pop()?;
+    Some((first, second, third))
+}
+
+/// The items of a list of three.
+pub(crate) fn triple_of(value: Value) -> Option<(Value, Value, Value)>
+    ensures { option_map (λ t. (view t.0, view t.1, view t.2)) result ≡ triple_from (view value) }
+{
+    three_of(items_of(value)?)
+}
+
 /// The member of this name, which leaves the object.
 pub(crate) fn taken(members: &mut Map<String, Value>, name: &str) -> Option<Value>
     ensures value { option_map view result ≡ get_member name.now (members_view members.old.entries) }
-    ensures others { (other : List ℕ) → bytes_eq name.now other ≡ false
-        → get_member other (members_view members.new.entries) ≡ get_member other (members_view members.old.entries) }
+    ensures left { members_view members.new.entries ≡ without name.now (members_view members.old.entries) }
 {
     members.remove(name)
 }
@@ -71,45 +97,4 @@ pub(crate) fn member<'v>(members: &'v Map<String, Value>, name: &str) -> Option<
     ensures { option_map (λ v. view v.now) result ≡ get_member name.now (members_view members.now.entries) }
 {
     members.get(name)
-}
-
-/// The text of a member that may be missing.
-pub(crate) fn text_under(member: Option<Value>) -> Option<Option<String>>
-    ensures { option_map (λ o. option_map (λ t. string_bytes t) o) result ≡ text_from (option_map view member) }
-{
-    let Some(value) = member else {
-        return Some(None);
-    };
-    let text = text_of(value)?;
-    Some(Some(text))
-}
-
-/// What is wrong with a value that is no text.
-pub(crate) fn text_fault(alloc: Global, value: Value) -> Option<Fault>
-    ensures { result ≡ text_fault_of (view value) }
-{
-    match text_of(value) {
-        Some(_) => None,
-        None => Some(here(alloc, Wanted::Text)),
-    }
-}
-
-/// The same of a member that may be missing.
-pub(crate) fn optional_text_fault(alloc: Global, member: Option<Value>) -> Option<Fault>
-    ensures { result ≡ optional text_fault_of (option_map view member) }
-{
-    match member {
-        Some(value) => text_fault(alloc, value),
-        None => None,
-    }
-}
-
-/// The same of a member that has to be there.
-pub(crate) fn required_text_fault(alloc: Global, member: Option<Value>) -> Option<Fault>
-    ensures { result ≡ required text_fault_of (option_map view member) }
-{
-    match member {
-        Some(value) => text_fault(alloc, value),
-        None => Some(here(alloc, Wanted::Present)),
-    }
 }

@@ -1,8 +1,4 @@
-pub mod TextLemmas
-pub mod AddressLaws
-pub mod MapLookups
-pub mod InstantOrder
-pub mod Trimming
-pub mod StyledWrites
-pub mod LastNames
-pub mod MapCopies
+mod Commands
+pub mod ChainLines
+pub mod ChainFolds
+pub mod TokenChainFolds

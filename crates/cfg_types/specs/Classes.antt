@@ -11,6 +11,7 @@ use Rattle.cfg_types.specs.declared.errors.CredentialsError.TheOpen.{Credentials
 
 abbrev pub class_level : CredentialsError-F CredentialsError NotLoadedCause ProviderCause → Class
 class_level (CredentialsError-F.CredentialsNotLoaded cause) = class.CredentialsNotLoaded
+class_level CredentialsError-F.ProviderTimedOut = class.ProviderTimedOut
 class_level (CredentialsError-F.InvalidConfiguration cause) = class.InvalidConfiguration
 class_level (CredentialsError-F.ProviderError cause) = class.ProviderError
 class_level (CredentialsError-F.Unhandled cause) = class.Unhandled
@@ -23,6 +24,7 @@ class_of e = class_level (out-CredentialsError e)
 -- the name of a class is that of its variant
 abbrev pub class_name : Class → List ℕ
 class_name class.CredentialsNotLoaded = codes "CredentialsNotLoaded"
+class_name class.ProviderTimedOut = codes "ProviderTimedOut"
 class_name class.InvalidConfiguration = codes "InvalidConfiguration"
 class_name class.ProviderError = codes "ProviderError"
 class_name class.Unhandled = codes "Unhandled"
@@ -30,6 +32,7 @@ class_name class.OutOfMemory = codes "OutOfMemory"
 
 abbrev pub same_class : Class → Class → Bool
 same_class class.CredentialsNotLoaded class.CredentialsNotLoaded = true
+same_class class.ProviderTimedOut class.ProviderTimedOut = true
 same_class class.InvalidConfiguration class.InvalidConfiguration = true
 same_class class.ProviderError class.ProviderError = true
 same_class class.Unhandled class.Unhandled = true

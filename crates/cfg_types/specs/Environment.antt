@@ -5,7 +5,7 @@ use Rattle.cfg_types.specs.declared.environment.EnvText.{EnvText}
 use Rattle.cfg_types.specs.declared.environment.EnvText.TheVariants as value
 use Rattle.cfg_types.specs.declared.environment.VarError.{VarError}
 use Rattle.cfg_types.specs.declared.environment.VarError.TheVariants.{NotPresent, NotUnicode}
-use Rattle.cfg_types.specs.TextMap.{Named}
+use Rattle.cfg_values.specs.TextMap.{Named}
 
 -- environment variables by the bytes of their names
 abbrev pub Variables : Type 0

@@ -1,19 +1,15 @@
 //! Credentials, and the builder that puts them together.
 ghost use Rattle.std.specs.Prelude.{◌≡◌, ◌++◌, ◌∷◌, IfOk, OnOk, OnErr, Some, None, [], Option, option_map};
 ghost use Rattle.std.specs.Str.{encode_utf8_all};
-ghost use Rattle.cfg_types.specs.Text.{characters};
+ghost use Rattle.cfg_values.specs.Text.{characters};
 
-use crate::copies::{TryCopy, copy_option};
-use crate::instant::Instant;
-use crate::memory::OutOfMemory;
-use crate::seq::Seq;
-use crate::text::Text;
+use cfg_values::{Instant, OutOfMemory, Seq, Text, TryCopy, copy_option};
 use std::alloc::Global;
 use std::fmt;
 use std::marker::Model;
 
 /// The id of an account. Any text is one. Contracts see its characters.
-#[derive(Debug, PartialEq, Eq, Drop)]
+#[derive(PartialEq, Eq, Drop)]
 pub struct AccountId {
     id: Text,
 }
@@ -44,6 +40,24 @@ impl AccountId {
         ensures bytes { result.now ≡ encode_utf8_all self.now }
     {
         self.id.as_str()
+    }
+
+    /// The text of the id.
+    pub fn text(&self) -> &Text
+        ensures { result.now ≡ self.now }
+    {
+        &self.id
+    }
+}
+
+impl fmt::Debug for AccountId {
+    ghost use Rattle.std.specs.Str.{encode_utf8_all};
+    ghost use Rattle.std.specs.Fmt.{debug_str};
+
+    ghost debug_output = { λ a. debug_str (encode_utf8_all a) };
+
+    fn fmt<W: fmt::Write>(&self, f: &mut fmt::Formatter<W>) -> fmt::Result {
+        fmt::Debug::fmt(&self.id, f)
     }
 }
 
@@ -164,6 +178,16 @@ impl Credentials {
         self.account_id.as_ref()
     }
 
+    // The text of the account's id, where the account is known.
+    fn account_text(&self) -> Option<&Text>
+        ensures { option_map (λ t. t.now) result ≡ self.now.account_id }
+    {
+        match &self.account_id {
+            None => None,
+            Some(account) => Some(account.text()),
+        }
+    }
+
     /// The name of the provider that gave them.
     pub fn provider_name(&self) -> &str
         ensures chars { characters result.now ≡ self.now.provider_name }
@@ -201,7 +225,7 @@ impl fmt::Debug for Credentials {
             id: &self.access_key_id,
         };
         let end = ShownExpiry(self.expiry);
-        let account = ShownAccount(&self.account_id);
+        let account = ShownAccount(self.account_text());
         write!(f, "Credentials {{ {keys}{end}{account} }}")
     }
 }
@@ -228,8 +252,9 @@ impl fmt::Display for ShownKey<'_> {
     }
 }
 
+/// How a Debug text tells when something expires.
 #[derive(Drop)]
-struct ShownExpiry(Option<Instant>);
+pub(crate) struct ShownExpiry(pub(crate) Option<Instant>);
 
 impl fmt::Display for ShownExpiry {
     ghost use Rattle.std.specs.Prelude.{Some};
@@ -249,14 +274,15 @@ impl fmt::Display for ShownExpiry {
     }
 }
 
+/// How a Debug text shows the id of an account, where it is known: `, account_id: "ID"`, else nothing.
 #[derive(Drop)]
-struct ShownAccount<'a>(&'a Option<AccountId>);
+pub struct ShownAccount<'a>(pub Option<&'a Text>);
 
 impl fmt::Display for ShownAccount<'_> {
     ghost use Rattle.std.specs.Prelude.{Some};
     ghost use Rattle.cfg_types.specs.Shown.{shown_account};
 
-    ghost output = { λ a. Some (shown_account a.0.now) };
+    ghost output = { λ a. Some (shown_account (option_map (λ t. t.now) a.0)) };
 
     fn fmt<W: fmt::Write>(&self, f: &mut fmt::Formatter<W>) -> fmt::Result {
         match self.0 {

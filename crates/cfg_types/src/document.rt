@@ -2,9 +2,8 @@
 ghost use Rattle.std.specs.Prelude.{◌≡◌};
 ghost use Rattle.cfg_types.specs.Field.{field_name};
 
-use crate::memory::OutOfMemory;
-use crate::text::Text;
-use std::alloc::{AllocError, AllocFailed};
+use cfg_values::{OutOfMemory, Text, TryCopy};
+use std::alloc::{AllocError, AllocFailed, Global};
 use std::error::Error;
 use std::fmt;
 
@@ -240,5 +239,23 @@ impl From<OutOfMemory> for InvalidJsonCredentials {
 
     fn from(_: OutOfMemory) -> InvalidJsonCredentials {
         InvalidJsonCredentials::OutOfMemory
+    }
+}
+
+impl TryCopy for InvalidJsonCredentials {
+    fn copy(&self, alloc: Global) -> Result<InvalidJsonCredentials, OutOfMemory> {
+        Ok(match self {
+            InvalidJsonCredentials::JsonError(e) => InvalidJsonCredentials::JsonError(*e),
+            InvalidJsonCredentials::MissingField(field) => InvalidJsonCredentials::MissingField(
+                *field,
+            ),
+            InvalidJsonCredentials::InvalidField { field, fault } =>
+                InvalidJsonCredentials::InvalidField {
+                    field: *field,
+                    fault: *fault,
+                },
+            InvalidJsonCredentials::Other(text) => InvalidJsonCredentials::Other(text.copy(alloc)?),
+            InvalidJsonCredentials::OutOfMemory => InvalidJsonCredentials::OutOfMemory,
+        })
     }
 }

@@ -1,15 +1,12 @@
 //! Environment variables that are handed in, and how they are read.
 ghost use Rattle.std.specs.Prelude.{◌≡◌, IfOk, MatchResult, Ok, Err, map};
 ghost use Rattle.std.specs.Str.{encode_utf8_all};
-ghost use Rattle.cfg_types.specs.Text.{characters};
-ghost use Rattle.cfg_types.specs.TextMap.{named};
-ghost use Rattle.cfg_types.specs.Entries.{each_set};
+ghost use Rattle.cfg_values.specs.Text.{characters};
+ghost use Rattle.cfg_values.specs.TextMap.{named};
+ghost use Rattle.cfg_values.specs.Entries.{each_set};
 ghost use Rattle.cfg_types.specs.Environment.{variable};
 
-use crate::copies::TryCopy;
-use crate::memory::OutOfMemory;
-use crate::text::Text;
-use crate::text_map::TextMap;
+use cfg_values::{OutOfMemory, Text, TextMap, TryCopy};
 use std::alloc::Global;
 use std::marker::Model;
 
@@ -50,7 +47,7 @@ pub struct Env {
 
 impl Model for Env {
     ghost use Rattle.std.specs.Coded.{coded_list};
-    ghost use Rattle.cfg_types.specs.TextMap.{Named, named_code};
+    ghost use Rattle.cfg_values.specs.TextMap.{Named, named_code};
     ghost use Rattle.cfg_types.specs.declared.environment.EnvText.{EnvText};
     ghost use Rattle.cfg_types.specs.contracts.environment.EnvText.{the_row};
 

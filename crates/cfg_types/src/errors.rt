@@ -1,15 +1,33 @@
 //! Every error of the resolver, each with its cause.
 ghost use Rattle.std.specs.Prelude.{◌≡◌, IfOk};
 ghost use Rattle.std.specs.Str.{encode_utf8_all};
-ghost use Rattle.cfg_types.specs.Text.{characters};
+ghost use Rattle.cfg_values.specs.Text.{characters};
 ghost use Rattle.cfg_types.specs.Classes.{class_of, class_name};
 ghost use Rattle.cfg_types.specs.declared.errors.CredentialsError.TheVariants as error;
 
-use crate::boxed::Boxed;
-use crate::memory::OutOfMemory;
-use crate::reply::{FailKind, Refusal};
-use crate::seq::Seq;
-use crate::text::Text;
+use cfg_values::{Boxed, OutOfMemory, Seq, Text};
+
+mod causes;
+mod container;
+pub mod imds;
+mod login;
+mod pieces;
+mod process;
+mod profile;
+mod shown;
+mod sso;
+mod token;
+mod token_shown;
+
+use crate::document::InvalidJsonCredentials;
+use crate::errors::imds::ImdsError;
+use crate::reply::{FailKind, Refusal, RefusalKind};
+pub use container::InvalidFullUriError;
+pub use login::{LoginJsonFault, LoginTokenError};
+pub use process::ProcessCause;
+pub use profile::ProfileFileError;
+pub use sso::{CachedSsoTokenError, IoStep, SsoTokenProviderError};
+pub use token::{TokenCause, TokenClass, TokenError};
 
 /// What one member of a chain answered.
 #[derive(Drop, Debug, PartialEq, Eq)]
@@ -64,31 +82,6 @@ impl<E> ProviderChainError<E> {
     }
 }
 
-/// Why a profile gives no credentials.
-#[derive(Drop, Debug, PartialEq, Eq)]
-pub enum ProfileFileError {
-    /// The sections were refused, for this reason.
-    InvalidProfile(Text),
-    NoProfilesDefined,
-    ProfileDidNotContainCredentials {
-        profile: Text,
-    },
-    InvalidCredentialSource {
-        profile: Text,
-        message: Text,
-    },
-    MissingProfile {
-        profile: Text,
-        message: Text,
-    },
-    /// The profile needs a provider that is not built.
-    FeatureNotEnabled {
-        feature: Text,
-        message: Option<Text>,
-    },
-    OutOfMemory,
-}
-
 /// Why a provider was not loaded. A chain goes on after such an answer.
 #[cycle(credentials_error)]
 #[derive(Drop, Debug, PartialEq, Eq)]
@@ -96,6 +89,16 @@ pub enum NotLoadedCause {
     /// The variable of this name is not set, or blank.
     NotSet(Text),
     Profile(ProfileFileError),
+    /// Neither of the variables that name a container's address is set.
+    NotConfigured,
+    /// The instance metadata service is disabled.
+    MetadataDisabled,
+    /// The instance has no role.
+    MetadataNoRole,
+    /// The instance metadata service could not be reached.
+    MetadataUnreachable,
+    /// A custom source's own reason.
+    Custom(Text),
     /// No member of a chain was loaded.
     Chain(ProviderChainError<CredentialsError>),
 }
@@ -104,6 +107,25 @@ pub enum NotLoadedCause {
 #[derive(Drop, Debug, PartialEq, Eq)]
 pub enum ConfigCause {
     Profile(ProfileFileError),
+    /// This is no path of the container's endpoint.
+    RelativeUri(Text),
+    /// The container's credentials are not fetched from this address.
+    FullUri {
+        error: InvalidFullUriError,
+        uri: Text,
+    },
+    /// The container's authorization is no header value.
+    AuthToken,
+    /// The instance metadata service's document is an error: the role does not let it give credentials.
+    MetadataRole {
+        code: Text,
+        message: Text,
+    },
+    /// A role could not be assumed, since the configuration of the call is refused.
+    AssumeRole(RefusalKind),
+    LoginToken(LoginTokenError),
+    /// A custom source's own reason.
+    Custom(Text),
 }
 
 /// What a provider failed at.
@@ -114,10 +136,23 @@ pub enum ProviderCause {
     Base(Boxed<CredentialsError>),
     /// A role of a profile could not be assumed.
     Role(Boxed<CredentialsError>),
+    /// The file of this path could not be read.
+    File(Text),
     /// A request was not answered.
     Sent(FailKind),
     /// A request was refused.
     Refused(Refusal),
+    /// A reply has this status.
+    Status(u16),
+    /// A document tells of an error.
+    ErrorDocument { code: Text, message: Text },
+    Process(ProcessCause),
+    Metadata(ImdsError),
+    SsoToken(SsoTokenProviderError),
+    SsoFile(CachedSsoTokenError),
+    LoginToken(LoginTokenError),
+    /// A custom source's own reason.
+    Custom(Text),
 }
 
 /// What no rule allows for.
@@ -125,10 +160,25 @@ pub enum ProviderCause {
 pub enum UnhandledCause {
     /// The variable of this name is not Unicode.
     NotUnicode(Text),
+    /// A file, or a reply's body, is not UTF-8.
+    NotUtf8,
+    /// A reply's body is no document of credentials.
+    NoDocument(InvalidJsonCredentials),
+    /// A request was not answered.
+    Sent(FailKind),
     /// A reply of the Security Token Service has no credentials.
     StsNoCredentials,
     /// This ARN, of such a reply, names no account.
     StsArn(Text),
+    /// A reply of IAM Identity Center has no credentials.
+    SsoNoCredentials,
+    /// The credentials of such a reply have no id.
+    SsoNoAccessKey,
+    /// The credentials of such a reply have no secret.
+    SsoNoSecretKey,
+    LoginToken(LoginTokenError),
+    /// A custom source's own reason.
+    Custom(Text),
 }
 
 /// Why there are no credentials.
@@ -136,6 +186,8 @@ pub enum UnhandledCause {
 #[derive(Drop, Debug, PartialEq, Eq)]
 pub enum CredentialsError {
     CredentialsNotLoaded(NotLoadedCause),
+    /// Only a custom source answers it.
+    ProviderTimedOut,
     InvalidConfiguration(ConfigCause),
     ProviderError(ProviderCause),
     Unhandled(UnhandledCause),
@@ -149,6 +201,7 @@ impl CredentialsError {
     {
         match self {
             CredentialsError::CredentialsNotLoaded(_) => Class::CredentialsNotLoaded,
+            CredentialsError::ProviderTimedOut => Class::ProviderTimedOut,
             CredentialsError::InvalidConfiguration(_) => Class::InvalidConfiguration,
             CredentialsError::ProviderError(_) => Class::ProviderError,
             CredentialsError::Unhandled(_) => Class::Unhandled,
@@ -161,6 +214,7 @@ impl CredentialsError {
 #[derive(Clone, Copy, Debug, PartialEq, Eq)]
 pub enum Class {
     CredentialsNotLoaded,
+    ProviderTimedOut,
     InvalidConfiguration,
     ProviderError,
     Unhandled,
@@ -175,6 +229,7 @@ impl Class {
     {
         match self {
             Class::CredentialsNotLoaded => "CredentialsNotLoaded",
+            Class::ProviderTimedOut => "ProviderTimedOut",
             Class::InvalidConfiguration => "InvalidConfiguration",
             Class::ProviderError => "ProviderError",
             Class::Unhandled => "Unhandled",

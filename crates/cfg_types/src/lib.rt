@@ -4,44 +4,42 @@
 //! and a moment as a number.
 #![tactic(auto)]
 
-pub mod address;
-pub mod boxed;
-pub mod bytes;
-pub mod copies;
+pub mod command;
 pub mod credentials;
 pub mod document;
 pub mod environment;
 pub mod errors;
-pub mod instant;
 pub mod laws;
-pub mod memory;
 pub mod region;
 pub mod reply;
 pub mod request;
-pub mod seq;
 pub mod settings;
-pub mod text;
-pub mod text_map;
-pub mod white_space;
+pub mod token;
 
-pub use address::Address;
-pub use boxed::Boxed;
-pub use bytes::Bytes;
-pub use copies::{TryCopy, copy_option};
-pub use credentials::{AccountId, AwsCredentialFeature, Credentials, CredentialsBuilder};
+pub use cfg_values::{
+    Address, Boxed, Bytes, Instant, OutOfMemory, Seq, Text, TextMap, TryCopy, copy_option,
+    is_blank, trimmed,
+};
+pub use command::{CommandWithSensitiveArgs, Finished};
+pub use credentials::{
+    AccountId, AwsCredentialFeature, Credentials, CredentialsBuilder, ShownAccount,
+};
 pub use document::{Field, FieldFault, InvalidJsonCredentials, JsonError};
 pub use environment::{Env, EnvText, VarError};
 pub use errors::{
-    Class, ConfigCause, CredentialsError, NotLoadedCause, ProfileFileError, ProviderAttempt,
-    ProviderCause, ProviderChainError, UnhandledCause,
+    CachedSsoTokenError, Class, ConfigCause, CredentialsError, InvalidFullUriError, IoStep,
+    LoginJsonFault, LoginTokenError, NotLoadedCause, ProcessCause, ProfileFileError,
+    ProviderAttempt, ProviderCause, ProviderChainError, SsoTokenProviderError, TokenCause,
+    TokenClass, TokenError, UnhandledCause, imds,
 };
-pub use instant::Instant;
-pub use memory::OutOfMemory;
 pub use region::Region;
-pub use reply::{FailKind, Refusal, RefusalKind, Reply, StsCredentials, StsReply};
-pub use request::{AssumeRole, Request, Tag};
-pub use seq::Seq;
-pub use settings::{CallSettings, Timeouts};
-pub use text::Text;
-pub use text_map::TextMap;
-pub use white_space::{is_blank, trimmed};
+pub use reply::{
+    FailKind, Header, HttpReply, Refusal, RefusalKind, Reply, RoleCredentials, RoleReply,
+    SignInReply, SignInToken, StsCredentials, StsReply, TokenReply,
+};
+pub use request::{
+    AssumeRole, AssumeRoleWithWebIdentity, CreateOAuth2Token, CreateToken, GetRoleCredentials,
+    Http, MetadataGet, MetadataToken, Request, Tag,
+};
+pub use settings::{BehaviorVersion, CallSettings, RetryConfig, Timeouts};
+pub use token::{SensitiveString, Token};

@@ -1,15 +1,14 @@
 ghost use Rattle.std.specs.Prelude.{◌≡◌, IfOk};
 ghost use Rattle.std.specs.Str.{encode_utf8_all};
-ghost use Rattle.cfg_types.specs.Text.{characters};
+ghost use Rattle.cfg_values.specs.Text.{characters};
 
-use crate::copies::TryCopy;
-use crate::memory::OutOfMemory;
-use crate::text::Text;
+use cfg_values::{OutOfMemory, Text, TryCopy};
 use std::alloc::Global;
+use std::fmt;
 use std::marker::Model;
 
 /// The name of a region, such as `eu-west-1`. Any text is one. Contracts see its characters.
-#[derive(Debug, PartialEq, Eq, Drop)]
+#[derive(PartialEq, Eq, Drop)]
 pub struct Region {
     name: Text,
 }
@@ -40,6 +39,17 @@ impl Region {
         ensures bytes { result.now ≡ encode_utf8_all self.now }
     {
         self.name.as_str()
+    }
+}
+
+impl fmt::Debug for Region {
+    ghost use Rattle.std.specs.Str.{encode_utf8_all};
+    ghost use Rattle.std.specs.Fmt.{debug_str};
+
+    ghost debug_output = { λ r. debug_str (encode_utf8_all r) };
+
+    fn fmt<W: fmt::Write>(&self, f: &mut fmt::Formatter<W>) -> fmt::Result {
+        fmt::Debug::fmt(&self.name, f)
     }
 }
 

@@ -1,12 +1,18 @@
 //! What a transport gives back for a request, and why it may fail.
 ghost use Rattle.std.specs.Prelude.{◌≡◌, IfOk};
 
-use crate::copies::{TryCopy, copy_option};
-use crate::instant::Instant;
-use crate::memory::OutOfMemory;
-use crate::text::Text;
+mod http;
+mod kinds;
+mod sign_in;
+mod sso;
+mod sts;
+
+use cfg_values::{OutOfMemory, Text, TryCopy};
+pub use http::{Header, HttpReply};
+pub use sign_in::{SignInReply, SignInToken};
+pub use sso::{RoleCredentials, RoleReply, TokenReply};
 use std::alloc::Global;
-use std::fmt;
+pub use sts::{StsCredentials, StsReply};
 
 /// Why a device failed. Files, commands and look-ups fail with `Io` alone.
 #[derive(Clone, Copy, Debug, PartialEq, Eq)]
@@ -48,72 +54,25 @@ impl TryCopy for Refusal {
     }
 }
 
-/// The credentials of a reply of the Security Token Service.
-#[derive(PartialEq, Eq, Drop)]
-pub struct StsCredentials {
-    pub access_key_id: Text,
-    pub secret_access_key: Text,
-    pub session_token: Text,
-    pub expiration: Instant,
-}
-
-// The text depends on neither the secret nor the session token.
-impl fmt::Debug for StsCredentials {
-    ghost use Rattle.std.specs.Prelude.{Some};
-    ghost use Rattle.cfg_types.specs.Shown.{shown_sts_credentials};
-
-    ghost debug_output = { λ c. Some (shown_sts_credentials c.access_key_id c.expiration) };
-
-    fn fmt<W: fmt::Write>(&self, f: &mut fmt::Formatter<W>) -> fmt::Result {
-        let id = self.access_key_id.as_str();
-        let seconds = self.expiration.seconds();
-        let nanos = self.expiration.nanos();
-        write!(
-            f,
-            "StsCredentials {{ access_key_id: \"{id}\", secret_access_key: \"** redacted **\", session_token: \"** redacted **\", expiration: {seconds} s {nanos} ns }}"
-        )
-    }
-}
-
-impl TryCopy for StsCredentials {
-    fn copy(&self, alloc: Global) -> Result<StsCredentials, OutOfMemory> {
-        Ok(StsCredentials {
-            access_key_id: self.access_key_id.copy(alloc)?,
-            secret_access_key: self.secret_access_key.copy(alloc)?,
-            session_token: self.session_token.copy(alloc)?,
-            expiration: self.expiration,
-        })
-    }
-}
-
-/// A reply of the Security Token Service.
-#[derive(Debug, PartialEq, Eq, Drop)]
-pub struct StsReply {
-    pub credentials: Option<StsCredentials>,
-    /// The ARN of the role's session.
-    pub arn: Option<Text>,
-}
-
-impl TryCopy for StsReply {
-    fn copy(&self, alloc: Global) -> Result<StsReply, OutOfMemory> {
-        Ok(StsReply {
-            credentials: copy_option(alloc, &self.credentials)?,
-            arn: copy_option(alloc, &self.arn)?,
-        })
-    }
-}
-
-/// What a transport gave back for a request.
+/// What a transport gave back for a request: a reply of the kind that fits the request, or a refusal.
 #[derive(Debug, PartialEq, Eq)]
 pub enum Reply {
+    Http(HttpReply),
     Sts(StsReply),
+    Role(RoleReply),
+    Token(TokenReply),
+    SignIn(SignInReply),
     Refused(Refusal),
 }
 
 impl Drop for Reply {
     fn drop(self) {
         match self {
+            Reply::Http(_) => {}
             Reply::Sts(_) => {}
+            Reply::Role(_) => {}
+            Reply::Token(_) => {}
+            Reply::SignIn(_) => {}
             Reply::Refused(_) => {}
         }
     }
@@ -121,15 +80,13 @@ impl Drop for Reply {
 
 impl TryCopy for Reply {
     fn copy(&self, alloc: Global) -> Result<Reply, OutOfMemory> {
-        match self {
-            Reply::Sts(reply) => {
-                let reply = reply.copy(alloc)?;
-                Ok(Reply::Sts(reply))
-            }
-            Reply::Refused(refusal) => {
-                let refusal = refusal.copy(alloc)?;
-                Ok(Reply::Refused(refusal))
-            }
-        }
+        Ok(match self {
+            Reply::Http(reply) => Reply::Http(reply.copy(alloc)?),
+            Reply::Sts(reply) => Reply::Sts(reply.copy(alloc)?),
+            Reply::Role(reply) => Reply::Role(reply.copy(alloc)?),
+            Reply::Token(reply) => Reply::Token(reply.copy(alloc)?),
+            Reply::SignIn(reply) => Reply::SignIn(reply.copy(alloc)?),
+            Reply::Refused(refusal) => Reply::Refused(refusal.copy(alloc)?),
+        })
     }
 }

@@ -1,105 +1,59 @@
 //! What a transport can be asked to send.
 ghost use Rattle.std.specs.Prelude.{◌≡◌, IfOk};
 
-use crate::copies::{TryCopy, copy_option};
-use crate::credentials::Credentials;
-use crate::memory::OutOfMemory;
-use crate::seq::Seq;
-use crate::settings::CallSettings;
-use crate::text::Text;
+mod http;
+mod sign_in;
+mod sso;
+mod sts;
+
+use cfg_values::{OutOfMemory, TryCopy};
+pub use http::{Http, MetadataGet, MetadataToken};
+pub use sign_in::CreateOAuth2Token;
+pub use sso::{CreateToken, GetRoleCredentials};
 use std::alloc::Global;
+pub use sts::{AssumeRole, AssumeRoleWithWebIdentity, Tag};
 
-/// A tag of a session.
-#[derive(Debug, PartialEq, Eq, Drop)]
-pub struct Tag {
-    pub key: Text,
-    pub value: Text,
-}
-
-impl TryCopy for Tag {
-    fn copy(&self, alloc: Global) -> Result<Tag, OutOfMemory> {
-        Ok(Tag {
-            key: self.key.copy(alloc)?,
-            value: self.value.copy(alloc)?,
-        })
-    }
-}
-
-/// A call of the AWS Security Token Service's `AssumeRole`, signed by `signer`.
-#[derive(Debug, PartialEq, Eq)]
-pub struct AssumeRole {
-    pub signer: Credentials,
-    pub role_arn: Text,
-    pub session_name: Text,
-    pub external_id: Option<Text>,
-    pub policy: Option<Text>,
-    pub policy_arns: Option<Seq<Text>>,
-    pub duration_seconds: Option<i32>,
-    pub tags: Option<Seq<Tag>>,
-    pub settings: CallSettings,
-}
-
-impl Drop for AssumeRole {
-    fn drop(self) {
-        let AssumeRole {
-            signer: _,
-            role_arn: _,
-            session_name: _,
-            external_id: _,
-            policy: _,
-            policy_arns: _,
-            duration_seconds: _,
-            tags: _,
-            settings: _,
-        } = self;
-    }
-}
-
-impl TryCopy for AssumeRole {
-    fn copy(&self, alloc: Global) -> Result<AssumeRole, OutOfMemory> {
-        let signer = self.signer.copy(alloc)?;
-        let role_arn = self.role_arn.copy(alloc)?;
-        let session_name = self.session_name.copy(alloc)?;
-        let external_id = copy_option(alloc, &self.external_id)?;
-        let policy = copy_option(alloc, &self.policy)?;
-        let policy_arns = copy_option(alloc, &self.policy_arns)?;
-        let tags = copy_option(alloc, &self.tags)?;
-        let settings = self.settings.copy(alloc)?;
-        Ok(AssumeRole {
-            signer,
-            role_arn,
-            session_name,
-            external_id,
-            policy,
-            policy_arns,
-            duration_seconds: self.duration_seconds,
-            tags,
-            settings,
-        })
-    }
-}
-
-/// What a transport can be asked to send.
+/// What a transport can be asked to send, a variant for each kind of request.
 #[derive(Debug, PartialEq, Eq)]
 pub enum Request {
+    Http(Http),
+    MetadataToken(MetadataToken),
+    MetadataGet(MetadataGet),
     AssumeRole(AssumeRole),
+    AssumeRoleWithWebIdentity(AssumeRoleWithWebIdentity),
+    GetRoleCredentials(GetRoleCredentials),
+    CreateToken(CreateToken),
+    CreateOAuth2Token(CreateOAuth2Token),
 }
 
 impl Drop for Request {
     fn drop(self) {
         match self {
+            Request::Http(_) => {}
+            Request::MetadataToken(_) => {}
+            Request::MetadataGet(_) => {}
             Request::AssumeRole(_) => {}
+            Request::AssumeRoleWithWebIdentity(_) => {}
+            Request::GetRoleCredentials(_) => {}
+            Request::CreateToken(_) => {}
+            Request::CreateOAuth2Token(_) => {}
         }
     }
 }
 
 impl TryCopy for Request {
     fn copy(&self, alloc: Global) -> Result<Request, OutOfMemory> {
-        match self {
-            Request::AssumeRole(call) => {
-                let call = call.copy(alloc)?;
-                Ok(Request::AssumeRole(call))
+        Ok(match self {
+            Request::Http(call) => Request::Http(call.copy(alloc)?),
+            Request::MetadataToken(call) => Request::MetadataToken(call.copy(alloc)?),
+            Request::MetadataGet(call) => Request::MetadataGet(call.copy(alloc)?),
+            Request::AssumeRole(call) => Request::AssumeRole(call.copy(alloc)?),
+            Request::AssumeRoleWithWebIdentity(call) => {
+                Request::AssumeRoleWithWebIdentity(call.copy(alloc)?)
             }
-        }
+            Request::GetRoleCredentials(call) => Request::GetRoleCredentials(call.copy(alloc)?),
+            Request::CreateToken(call) => Request::CreateToken(call.copy(alloc)?),
+            Request::CreateOAuth2Token(call) => Request::CreateOAuth2Token(call.copy(alloc)?),
+        })
     }
 }

@@ -1,9 +1,8 @@
 //! How a service is called: its region, its endpoints, its attempts and its limits of time.
 ghost use Rattle.std.specs.Prelude.{◌≡◌, IfOk};
 
-use crate::copies::{TryCopy, copy_option};
-use crate::memory::OutOfMemory;
 use crate::region::Region;
+use cfg_values::{OutOfMemory, TryCopy, copy_option};
 use std::alloc::Global;
 
 /// Limits of time, in milliseconds. None leaves the limit to the transport.
@@ -37,3 +36,14 @@ impl TryCopy for CallSettings {
         })
     }
 }
+
+/// How often calls are tried.
+#[derive(Clone, Copy, Debug, PartialEq, Eq)]
+pub struct RetryConfig {
+    /// How often a call may be tried in all.
+    pub max_attempts: u32,
+}
+
+/// The number of a behavior version. It decides nothing here.
+#[derive(Clone, Copy, Debug, PartialEq, Eq)]
+pub struct BehaviorVersion(pub u32);

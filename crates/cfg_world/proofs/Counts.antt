@@ -1,7 +1,7 @@
 -- Faults of one stretch after another.
 use Rattle.std.proofs.Common.{◌≡◌, ℕ, ◌+◌, List, [], ◌∷◌, ◌++◌, sym, subst, arith}
 use Rattle.cfg_world.specs.Fits.{Pair}
-use Rattle.cfg_world.specs.Faults.{Faults, Rises, Counted, transport_failures_in}
+use Rattle.cfg_world.specs.Faults.{Faults, Device, Files, Transport, Commands, LookUps, Rises, Counted, failures_in}
 use Rattle.cfg_world.specs.Asked.{Same}
 
 pub Same-refl : (a : List Pair → Type 0) → Same a a
@@ -17,17 +17,20 @@ still n = record { later = omega arith; counted = omega arith }
 pub Rises-trans : (m n a b c : ℕ) → Rises m a b → Rises n b c → Rises (m + n) a c
 Rises-trans m n a b c p q = record { later = omega arith; counted = omega (arith, p.counted, q.counted, q.later) }
 
-pub transport_failures_in-append : (p q : List Pair) → transport_failures_in (p ++ q) ≡ transport_failures_in p + transport_failures_in q
-transport_failures_in-append [] q = omega arith
-transport_failures_in-append (e ∷ p) q = omega (arith, transport_failures_in-append p q)
+pub failures_in-append : (d : Device) (p q : List Pair) → failures_in d (p ++ q) ≡ failures_in d p + failures_in d q
+failures_in-append d [] q = omega arith
+failures_in-append d (e ∷ p) q = omega (arith, failures_in-append d p q)
 
 pub Counted-none : (f : Faults) → Counted [] f f
 Counted-none f = record { files = still f.files; transport = still f.transport; commands = still f.commands; lookups = still f.lookups }
 
+rises_then : (d : Device) (p q : List Pair) (a b c : ℕ) → Rises (failures_in d p) a b → Rises (failures_in d q) b c → Rises (failures_in d (p ++ q)) a c
+rises_then d p q a b c x y = subst (λ n. Rises n a c) (sym (failures_in-append d p q)) (Rises-trans (failures_in d p) (failures_in d q) a b c x y)
+
 pub Counted-then : {p q : List Pair} {a b c : Faults} → Counted p a b → Counted q b c → Counted (p ++ q) a c
 Counted-then {p} {q} {a} {b} {c} x y = record {
-  files = Rises-trans 0 0 a.files b.files c.files x.files y.files;
-  transport = subst (λ n. Rises n a.transport c.transport) (sym (transport_failures_in-append p q)) (Rises-trans (transport_failures_in p) (transport_failures_in q) a.transport b.transport c.transport x.transport y.transport);
-  commands = Rises-trans 0 0 a.commands b.commands c.commands x.commands y.commands;
-  lookups = Rises-trans 0 0 a.lookups b.lookups c.lookups x.lookups y.lookups;
+  files = rises_then Files p q a.files b.files c.files x.files y.files;
+  transport = rises_then Transport p q a.transport b.transport c.transport x.transport y.transport;
+  commands = rises_then Commands p q a.commands b.commands c.commands x.commands y.commands;
+  lookups = rises_then LookUps p q a.lookups b.lookups c.lookups x.lookups y.lookups;
 }

@@ -67,6 +67,7 @@ module _ {W : Type 0} {w : Ghosts W} where
     part = a.part ++ b.part;
     grows = b.grows ∙ ap (λ t. t ++ b.part) a.grows ∙ append_assoc (w.journal old) a.part b.part;
     fits = fits_append a.part b.part a.fits b.fits;
+    made = b.made ∙ a.made;
     same = Same-trans a.same b.same;
     counted = Counted-then a.counted b.counted;
     stands = λ h. b.stands (a.stands h);
@@ -79,6 +80,7 @@ module _ {W : Type 0} {w : Ghosts W} where
     part = a.part ++ b.part;
     grows = b.grows ∙ ap (λ t. t ++ b.part) a.grows ∙ append_assoc (w.journal old) a.part b.part;
     fits = fits_append a.part b.part a.fits b.fits;
+    made = b.made ∙ a.made;
     same = Same-trans a.same b.same;
     counted = Counted-then a.counted b.counted;
     stands = λ h. b.stands (a.stands h);
@@ -91,6 +93,7 @@ module _ {W : Type 0} {w : Ghosts W} where
     part = b.part;
     grows = b.grows;
     fits = b.fits;
+    made = b.made;
     same = b.same;
     counted = b.counted;
     stands = b.stands;
@@ -104,20 +107,21 @@ module _ {W : Type 0} {w : Ghosts W} where
     part = a.part ++ b.part;
     grows = b.grows ∙ ap (λ t. t ++ b.part) a.grows ∙ append_assoc (w.journal old) a.part b.part;
     fits = fits_append a.part b.part a.fits b.fits;
+    made = b.made ∙ a.made;
     same = Same-trans a.same b.same;
     counted = Counted-then a.counted b.counted;
     begun = begun_after p f a.part b.part x a.reads b.begun;
   }
 
   pub breaks_first : {A B : Type 0} {p : Inquiry A} (f : A → Inquiry B) {old new : W} → Breaks w p old new → Breaks w (after p f) old new
-  breaks_first {p = p} f b = record { part = b.part; grows = b.grows; fits = b.fits; same = b.same; counted = b.counted; begun = begun_first p f b.part b.begun }
+  breaks_first {p = p} f b = record { part = b.part; grows = b.grows; fits = b.fits; made = b.made; same = b.same; counted = b.counted; begun = begun_first p f b.part b.begun }
 
   pub ends_done : {A : Type 0} {r : A} {old : W} → Ends w (Done r) old old r
-  ends_done {old = old} = record { part = []; grows = sym (append-nil (w.journal old)); fits = tt; same = Same-refl _; counted = Counted-none _; stands = λ h. h; reads = refl }
+  ends_done {old = old} = record { part = []; grows = sym (append-nil (w.journal old)); fits = tt; made = refl; same = Same-refl _; counted = Counted-none _; stands = λ h. h; reads = refl }
 
   -- where nothing was asked yet
   pub breaks_here : {A : Type 0} {p : Inquiry A} {old : W} → Breaks w p old old
-  breaks_here {p = p} {old = old} = record { part = []; grows = sym (append-nil (w.journal old)); fits = tt; same = Same-refl _; counted = Counted-none _; begun = begun_here p }
+  breaks_here {p = p} {old = old} = record { part = []; grows = sym (append-nil (w.journal old)); fits = tt; made = refl; same = Same-refl _; counted = Counted-none _; begun = begun_here p }
 
 pub ruleset asking_steps = (ends_after, waits_after, waits_first, breaks_after, breaks_first, ends_done, breaks_here)
 

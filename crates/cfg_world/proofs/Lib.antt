@@ -1,7 +1,13 @@
 pub mod Counts
 pub mod Inquiries
-pub mod Scripted
 pub mod Pieces
 pub mod Agreeing
 pub mod Beginnings
 pub mod Ordered
+pub mod Tallied
+pub mod OneFails
+pub mod PathIndex
+pub mod Scripted
+pub mod HandedOver
+pub mod Shown
+pub mod Sameness

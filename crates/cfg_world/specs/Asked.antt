@@ -39,6 +39,10 @@ abbrev pub answer_of : {T : Type 0} → (T → Answer) → Result T Fault → Op
 answer_of of (Ok x) = Some (of x)
 answer_of of (Err fault) = failure_of fault
 
+-- the answer of a call that writes
+abbrev pub written_answer : {T : Type 0} → Result T Fault → Option Answer
+written_answer = answer_of (λ x. answer.Written)
+
 -- the answer, where there was memory
 abbrev pub given : {E : Type 0} → Result Answer E → Option Answer
 given (Ok a) = Some a

@@ -1,9 +1,9 @@
 -- Counts of faults.
 use Rattle.std.specs.Prelude.{ℕ, ◌+◌, ◌≤◌, min, List, [], ◌∷◌}
 use Rattle.cfg_world.specs.declared.ask.Question.{Question}
-use Rattle.cfg_world.specs.declared.ask.Question.TheVariants.{Now, Send}
+use Rattle.cfg_world.specs.declared.ask.Question.TheVariants as question
 use Rattle.cfg_world.specs.declared.ask.Answer.{Answer}
-use Rattle.cfg_world.specs.declared.ask.Answer.TheVariants.{Moment, Replied, Failed}
+use Rattle.cfg_world.specs.declared.ask.Answer.TheVariants as answer
 use Rattle.cfg_world.specs.Fits.{Pair}
 
 -- how often each kind of device has failed
@@ -21,22 +21,42 @@ full_count = 18446744073709551615
 abbrev pub Rose : ℕ → ℕ → Type 0
 Rose before now = min (before + 1) full_count ≤ now
 
--- the count that a failure of the question raises; that of the clock, which cannot fail, never rises
+-- the count that a failure of the question raises; that of the clock and of the jitter, which cannot
+-- fail, never rises
 abbrev pub count_of : Question → Faults → ℕ
-count_of Now faults = 0
-count_of (Send request) faults = faults.transport
+count_of question.Now faults = 0
+count_of question.Jitter faults = 0
+count_of (question.Read path) faults = faults.files
+count_of (question.Write path bytes) faults = faults.files
+count_of (question.Run command) faults = faults.commands
+count_of (question.LookUp host) faults = faults.lookups
+count_of (question.Send request) faults = faults.transport
 
--- the failures of the transport that one entry shows
-abbrev pub transport_failures : Question → Answer → ℕ
-transport_failures Now answer = 0
-transport_failures (Send request) (Moment m) = 0
-transport_failures (Send request) (Replied reply) = 0
-transport_failures (Send request) (Failed kind) = 1
+-- the kinds of device that can fail
+pub data Device : Type 0 where
+  Files : Device
+  Transport : Device
+  Commands : Device
+  LookUps : Device
 
--- the failures of the transport that a part of a journal shows
-abbrev pub transport_failures_in : List Pair → ℕ
-transport_failures_in [] = 0
-transport_failures_in (e ∷ part) = transport_failures e.0 e.1 + transport_failures_in part
+-- one failure, where the answer is one
+abbrev pub failed : Answer → ℕ
+failed (answer.Failed kind) = 1
+failed _ = 0
+
+-- the failures of a kind of device that one entry shows
+abbrev pub failures : Device → Question → Answer → ℕ
+failures Files (question.Read path) given = failed given
+failures Files (question.Write path bytes) given = failed given
+failures Commands (question.Run command) given = failed given
+failures LookUps (question.LookUp host) given = failed given
+failures Transport (question.Send request) given = failed given
+failures _ _ given = 0
+
+-- the failures of a kind of device that a part of a journal shows
+abbrev pub failures_in : Device → List Pair → ℕ
+failures_in device [] = 0
+failures_in device (e ∷ part) = failures device e.0 e.1 + failures_in device part
 
 -- The count did not fall, and rose by at least so many, or is full.
 pub record Rises (by before now : ℕ) : Type 0 where
@@ -45,7 +65,7 @@ pub record Rises (by before now : ℕ) : Type 0 where
 
 -- No count fell, and each failure of the part was counted.
 pub record Counted (part : List Pair) (old new : Faults) : Type 0 where
-  pub files : Rises 0 old.files new.files
-  pub transport : Rises (transport_failures_in part) old.transport new.transport
-  pub commands : Rises 0 old.commands new.commands
-  pub lookups : Rises 0 old.lookups new.lookups
+  pub files : Rises (failures_in Files part) old.files new.files
+  pub transport : Rises (failures_in Transport part) old.transport new.transport
+  pub commands : Rises (failures_in Commands part) old.commands new.commands
+  pub lookups : Rises (failures_in LookUps part) old.lookups new.lookups

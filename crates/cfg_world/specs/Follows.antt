@@ -15,6 +15,7 @@ pub record Ends {A R : Type 0} (a : Ghosts A) (inquiry : Inquiry R) (old new : A
   pub part : List Pair
   pub grows : a.journal new ≡ a.journal old ++ part
   pub fits : EachFits part
+  pub made : a.made_of new ≡ a.made_of old
   pub same : Same (a.allows old) (a.allows new)
   pub counted : Counted part (a.faults old) (a.faults new)
   pub stands : a.stands old (a.journal old) → a.stands new (a.journal new)
@@ -25,6 +26,7 @@ pub record Waits {A R : Type 0} (a : Ghosts A) (inquiry : Inquiry R) (old new : 
   pub part : List Pair
   pub grows : a.journal new ≡ a.journal old ++ part
   pub fits : EachFits part
+  pub made : a.made_of new ≡ a.made_of old
   pub same : Same (a.allows old) (a.allows new)
   pub counted : Counted part (a.faults old) (a.faults new)
   pub stands : a.stands old (a.journal old) → a.stands new (a.journal new)
@@ -36,6 +38,7 @@ pub record Breaks {A R : Type 0} (a : Ghosts A) (inquiry : Inquiry R) (old new :
   pub part : List Pair
   pub grows : a.journal new ≡ a.journal old ++ part
   pub fits : EachFits part
+  pub made : a.made_of new ≡ a.made_of old
   pub same : Same (a.allows old) (a.allows new)
   pub counted : Counted part (a.faults old) (a.faults new)
   pub begun : Begun inquiry part

@@ -1,6 +1,8 @@
 pub mod Fits
 pub mod Faults
 pub mod Asked
+pub mod Tallies
+pub mod Faulty
 pub mod Held
 pub mod Grows
 pub mod Put
@@ -8,8 +10,12 @@ pub mod Inquiry
 pub mod Follows
 pub mod Leaves
 pub mod Script
+pub mod Paths
+pub mod Scripted
 pub mod Agreeing
 pub mod Beginnings
 pub mod Ordered
 pub mod Memory
 pub mod Adapters
+pub mod Handed
+pub mod Replayed

@@ -6,3 +6,7 @@ use Rattle.cfg_world.specs.Fits.{Pair}
 abbrev pub put_entry : {E : Type 0} → Result Pair E → List Pair
 put_entry (Ok e) = e ∷ []
 put_entry (Err stop) = []
+
+-- no entries: a world is made of none
+abbrev pub nothing : List Pair
+nothing = []

@@ -1,14 +1,29 @@
 //! What devices are asked, and what they answer.
 ghost use Rattle.std.specs.Prelude.{◌≡◌, IfOk};
 
-use cfg_types::{FailKind, Instant, OutOfMemory, Reply, Request, TryCopy};
+mod readings;
+
+use cfg_types::{
+    Address, Bytes, FailKind, Finished, Instant, OutOfMemory, Reply, Request, Seq, Text, TryCopy,
+};
 use std::alloc::Global;
+use std::fmt;
 
 /// A question to the devices.
-#[derive(Debug, PartialEq, Eq)]
+#[derive(PartialEq, Eq)]
 pub enum Question {
     /// What time is it?
     Now,
+    /// A number that nobody can foresee?
+    Jitter,
+    /// What does the file of this path hold?
+    Read { path: Text },
+    /// Let the file of this path hold these bytes.
+    Write { path: Text, bytes: Bytes },
+    /// Run this command. What does it leave behind?
+    Run { command: Text },
+    /// Which addresses has this host?
+    LookUp { host: Text },
     /// Send this request. What is its reply?
     Send(Request),
 }
@@ -18,6 +33,16 @@ pub enum Question {
 pub enum Answer {
     /// A reading of the clock, from the epoch on.
     Moment(Instant),
+    /// A number.
+    Jitter(u64),
+    /// What a file holds.
+    Contents(Bytes),
+    /// A file was written.
+    Written,
+    /// What a command left behind.
+    Finished(Finished),
+    /// The addresses of a host.
+    Addresses(Seq<Address>),
     /// The reply to a request.
     Replied(Reply),
     /// The device failed.
@@ -28,6 +53,11 @@ impl Drop for Question {
     fn drop(self) {
         match self {
             Question::Now => {}
+            Question::Jitter => {}
+            Question::Read { path: _ } => {}
+            Question::Write { path: _, bytes: _ } => {}
+            Question::Run { command: _ } => {}
+            Question::LookUp { host: _ } => {}
             Question::Send(_) => {}
         }
     }
@@ -37,33 +67,76 @@ impl Drop for Answer {
     fn drop(self) {
         match self {
             Answer::Moment(_) => {}
+            Answer::Jitter(_) => {}
+            Answer::Contents(_) => {}
+            Answer::Written => {}
+            Answer::Finished(_) => {}
+            Answer::Addresses(_) => {}
             Answer::Replied(_) => {}
             Answer::Failed(_) => {}
         }
     }
 }
 
+// The text depends on no bytes of a file, and of a command on what stands before its first white space.
+impl fmt::Debug for Question {
+    fn fmt<W: fmt::Write>(&self, f: &mut fmt::Formatter<W>) -> fmt::Result {
+        match self {
+            Question::Now => f.write_str("Now"),
+            Question::Jitter => f.write_str("Jitter"),
+            Question::Read { path } => write!(f, "Read {{ path: {path:?} }}"),
+            Question::Write { path, bytes: _ } => {
+                write!(f, "Write {{ path: {path:?}, bytes: \"** redacted **\" }}")
+            }
+            Question::Run { command } => match command.as_str().split_once(char::is_whitespace) {
+                None => write!(f, "Run {{ command: {command:?} }}"),
+                Some((program, _)) => {
+                    write!(
+                        f,
+                        "Run {{ command: \"{program} ** arguments redacted **\" }}"
+                    )
+                }
+            },
+            Question::LookUp { host } => write!(f, "LookUp {{ host: {host:?} }}"),
+            Question::Send(request) => write!(f, "Send({request:?})"),
+        }
+    }
+}
+
 impl TryCopy for Question {
     fn copy(&self, alloc: Global) -> Result<Question, OutOfMemory> {
-        match self {
-            Question::Now => Ok(Question::Now),
-            Question::Send(request) => {
-                let request = request.copy(alloc)?;
-                Ok(Question::Send(request))
-            }
-        }
+        Ok(match self {
+            Question::Now => Question::Now,
+            Question::Jitter => Question::Jitter,
+            Question::Read { path } => Question::Read {
+                path: path.copy(alloc)?,
+            },
+            Question::Write { path, bytes } => Question::Write {
+                path: path.copy(alloc)?,
+                bytes: bytes.copy(alloc)?,
+            },
+            Question::Run { command } => Question::Run {
+                command: command.copy(alloc)?,
+            },
+            Question::LookUp { host } => Question::LookUp {
+                host: host.copy(alloc)?,
+            },
+            Question::Send(request) => Question::Send(request.copy(alloc)?),
+        })
     }
 }
 
 impl TryCopy for Answer {
     fn copy(&self, alloc: Global) -> Result<Answer, OutOfMemory> {
-        match self {
-            Answer::Moment(moment) => Ok(Answer::Moment(*moment)),
-            Answer::Replied(reply) => {
-                let reply = reply.copy(alloc)?;
-                Ok(Answer::Replied(reply))
-            }
-            Answer::Failed(kind) => Ok(Answer::Failed(*kind)),
-        }
+        Ok(match self {
+            Answer::Moment(moment) => Answer::Moment(*moment),
+            Answer::Jitter(number) => Answer::Jitter(*number),
+            Answer::Contents(bytes) => Answer::Contents(bytes.copy(alloc)?),
+            Answer::Written => Answer::Written,
+            Answer::Finished(finished) => Answer::Finished(finished.copy(alloc)?),
+            Answer::Addresses(addresses) => Answer::Addresses(addresses.copy(alloc)?),
+            Answer::Replied(reply) => Answer::Replied(reply.copy(alloc)?),
+            Answer::Failed(kind) => Answer::Failed(*kind),
+        })
     }
 }

@@ -4,7 +4,7 @@ ghost use Rattle.cfg_world.specs.declared.ask.Question.{Question as QuestionAske
 ghost use Rattle.cfg_world.specs.Fits.{Fits, Pair};
 ghost use Rattle.cfg_world.specs.Faults.{Faults, Counted};
 ghost use Rattle.cfg_world.specs.Asked.{Same};
-ghost use Rattle.cfg_world.specs.Put.{put_entry};
+ghost use Rattle.cfg_world.specs.Put.{put_entry, nothing};
 
 use crate::ask::Question;
 use crate::devices::Devices;
@@ -69,6 +69,9 @@ pub trait Asking {
     /// The question that was left open, or none.
     ghost open_question: { Self → Option QuestionAsked };
 
+    /// The entries that it was made of, if its answers are handed in. No question changes them.
+    ghost made_of: { Self → List Pair };
+
     /// How often each kind of device has failed.
     ghost faults: { Self → Faults };
 
@@ -85,6 +88,7 @@ pub trait Asking {
         ensures grows { journal self.new ≡ journal self.old ++ put_entry result }
         ensures open { result ≡ Err Stop.Open → open_question self.new ≡ Some question }
         ensures counted { Counted (put_entry result) (faults self.old) (faults self.new) }
+        ensures made { made_of self.new ≡ made_of self.old }
         ensures same { Same (allows self.old) (allows self.new) }
         ensures stands { result ≢ Err Stop.OutOfMemory → stands self.old (journal self.old) → stands self.new (journal self.new) };
 
@@ -100,6 +104,8 @@ impl<D: Devices> Asking for World<D> {
 
     ghost open_question = { λ w. None };
 
+    ghost made_of = { λ w. nothing };
+
     ghost faults = { λ w. D.faults w.devices };
 
     ghost allows = { λ w. D.allows w.devices };
@@ -113,6 +119,7 @@ impl<D: Devices> Asking for World<D> {
         ensures grows { self.new.journal ≡ self.old.journal ++ put_entry result }
         ensures open { result ≡ Err Stop.Open → None ≡ Some question }
         ensures counted { Counted (put_entry result) (D.faults self.old.devices) (D.faults self.new.devices) }
+        ensures made { nothing ≡ nothing }
         ensures same { Same (D.allows self.old.devices) (D.allows self.new.devices) }
         ensures stands { result ≢ Err Stop.OutOfMemory → D.stands self.old.devices self.old.journal → D.stands self.new.devices self.new.journal }
         ensures never_open { result ≢ Err Stop.Open }

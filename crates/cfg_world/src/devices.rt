@@ -1,11 +1,12 @@
-//! The clock and the transport that a world asks.
+//! The outside world that questions are put to: clock, files, commands, name look-up, transport.
 ghost use Rattle.std.specs.Prelude.{List, Some};
+ghost use Rattle.cfg_values.specs.Text.{characters};
 ghost use Rattle.cfg_world.specs.Fits.{Pair};
 ghost use Rattle.cfg_world.specs.Faults.{Faults};
-ghost use Rattle.cfg_world.specs.Asked.{Asked, answer_of};
+ghost use Rattle.cfg_world.specs.Asked.{Asked, answer_of, written_answer};
 
 use crate::ask::{Answer, Question};
-use cfg_types::{FailKind, Instant, Reply, Request};
+use cfg_types::{Address, Bytes, FailKind, Finished, Instant, Reply, Request, Seq};
 
 /// Why a device gave nothing.
 #[derive(Clone, Copy, Debug, PartialEq, Eq)]
@@ -16,8 +17,9 @@ pub enum Fault {
     OutOfMemory,
 }
 
-/// The clock and the transport. Each call is one question. Devices may answer as they like within
-/// what `Asked` says; devices that tell their answers beforehand say so by `allows` and `stands`.
+/// The clock, files, commands, name look-up and the transport. Each call is one question. Devices may
+/// answer as they like within what `Asked` says; devices that tell their answers beforehand say so by
+/// `allows` and `stands`.
 pub trait Devices {
     /// How often each kind of device has failed. A count that is full stands still.
     ghost faults: { Self → Faults };
@@ -31,6 +33,26 @@ pub trait Devices {
     /// The time. It is never before the epoch, and the clock cannot fail.
     fn now(&mut self) -> Instant
         ensures { Asked (faults self.old) (faults self.new) (allows self.old) (allows self.new) (stands self.old) (stands self.new) Question.Now (Some (Answer.Moment result)) };
+
+    /// A number that nobody can foresee. It cannot fail.
+    fn jitter(&mut self) -> u64
+        ensures { Asked (faults self.old) (faults self.new) (allows self.old) (allows self.new) (stands self.old) (stands self.new) Question.Jitter (Some (Answer.Jitter result)) };
+
+    /// What the file of this path holds. It fails with `Io` alone, as do the next three.
+    fn read(&mut self, path: &str) -> Result<Bytes, Fault>
+        ensures { Asked (faults self.old) (faults self.new) (allows self.old) (allows self.new) (stands self.old) (stands self.new) (Question.Read (characters path.now)) (answer_of Answer.Contents result) };
+
+    /// Lets the file of this path hold these bytes.
+    fn write(&mut self, path: &str, bytes: &[u8]) -> Result<(), Fault>
+        ensures { Asked (faults self.old) (faults self.new) (allows self.old) (allows self.new) (stands self.old) (stands self.new) (Question.Write (characters path.now) bytes.now) (written_answer result) };
+
+    /// What this command leaves behind.
+    fn run(&mut self, command: &str) -> Result<Finished, Fault>
+        ensures { Asked (faults self.old) (faults self.new) (allows self.old) (allows self.new) (stands self.old) (stands self.new) (Question.Run (characters command.now)) (answer_of Answer.Finished result) };
+
+    /// The addresses of this host.
+    fn look_up(&mut self, host: &str) -> Result<Seq<Address>, Fault>
+        ensures { Asked (faults self.old) (faults self.new) (allows self.old) (allows self.new) (stands self.old) (stands self.new) (Question.LookUp (characters host.now)) (answer_of Answer.Addresses result) };
 
     /// The reply to a request. It fails with `Dispatch`, `Timeout` or `Broken` alone.
     fn send(&mut self, request: &Request) -> Result<Reply, Fault>

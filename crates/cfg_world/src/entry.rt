@@ -1,50 +1,98 @@
 //! Questions with their answers: what a journal holds.
-ghost use Rattle.std.specs.Prelude.{◌≡◌};
+ghost use Rattle.std.specs.Prelude.{◌≡◌, IfOk, IfSome, IsSome, ◌↔◌};
 ghost use Rattle.cfg_world.specs.Fits.{Fits};
 
 use crate::ask::{Answer, Question};
+use crate::fitting::fits;
 use cfg_types::{OutOfMemory, TryCopy};
 use std::alloc::Global;
 use std::marker::Model;
+use std::sync::Arc;
 
-/// A question with an answer that fits it. Contracts see the pair.
-pub struct Entry {
+// What one entry and its copies share.
+struct Exchanged {
     question: Question,
     answer: Answer,
 }
 
-impl Model for Entry {
-    ghost use Rattle.cfg_world.specs.Fits.{Fits, Pair};
-
-    ghost Value = { Pair };
-
-    ghost view = { λ e. (e.question, e.answer) };
-
-    ghost invariant = { λ e. Fits e.question e.answer };
+impl Exchanged {
+    fn into_answer(self) -> Answer
+        ensures { result ≡ self.answer }
+    {
+        let Exchanged {
+            question: _,
+            answer,
+        } = self;
+        answer
+    }
 }
 
-impl Drop for Entry {
+impl Drop for Exchanged {
     fn drop(self) {
-        let Entry {
+        let Exchanged {
             question: _,
             answer: _,
         } = self;
     }
 }
 
+/// A question with an answer that fits it. Contracts see the pair. A copy shares both with its source.
+pub struct Entry {
+    shared: Arc<Exchanged, Global>,
+}
+
+impl Model for Entry {
+    ghost use Rattle.std.specs.Arc.{arc_value};
+    ghost use Rattle.cfg_world.specs.Fits.{Fits, Pair};
+
+    ghost Value = { Pair };
+
+    ghost view = { λ e. ((arc_value e.shared).question, (arc_value e.shared).answer) };
+
+    ghost invariant = { λ e. Fits (arc_value e.shared).question (arc_value e.shared).answer };
+}
+
+impl Drop for Entry {
+    fn drop(self) {
+        let Entry { shared: _ } = self;
+    }
+}
+
 impl Entry {
-    pub(crate) fn of(question: Question, answer: Answer) -> Entry
-        requires { Fits question answer }
-        ensures { result ≡ (question, answer) }
+    /// A question with its answer, as an entry that is in no journal. None exactly where the answer
+    /// does not fit the question.
+    pub fn new(
+        alloc: Global,
+        question: Question,
+        answer: Answer,
+    ) -> Result<Option<Entry>, OutOfMemory>
+        ensures fits { IfOk result (λ made. IsSome made ↔ Fits question answer) }
+        ensures pair { IfOk result (λ made. IfSome made (λ e. e ≡ (question, answer))) }
     {
-        Entry { question, answer }
+        if !fits(&question, &answer) {
+            return Ok(None);
+        }
+        let entry = Entry::of(alloc, question, answer)?;
+        Ok(Some(entry))
+    }
+
+    pub(crate) fn of(
+        alloc: Global,
+        question: Question,
+        answer: Answer,
+    ) -> Result<Entry, OutOfMemory>
+        requires { Fits question answer }
+        ensures { IfOk result (λ e. e ≡ (question, answer)) }
+    {
+        let shared = Arc::new(alloc, Exchanged { question, answer })?;
+        Ok(Entry { shared })
     }
 
     /// What was asked.
     pub fn question(&self) -> &Question
         ensures { result.now ≡ self.now.0 }
     {
-        &self.question
+        &self.shared.question
     }
 
     /// What was answered. It fits the question.
@@ -52,19 +100,31 @@ impl Entry {
         ensures is { result.now ≡ self.now.1 }
         ensures fits { Fits self.now.0 result.now }
     {
-        &self.answer
+        &self.shared.answer
+    }
+
+    /// The answer: itself, where no copy of the entry is kept, and else a copy of it.
+    pub fn into_answer(self, alloc: Global) -> Result<Answer, OutOfMemory>
+        ensures is { IfOk result (λ a. a ≡ self.1) }
+        ensures fits { IfOk result (λ a. Fits self.0 a) }
+    {
+        let Entry { shared } = self;
+        match Arc::try_unwrap(shared) {
+            Ok(exchanged) => Ok(exchanged.into_answer()),
+            Err(shared) => shared.answer.copy(alloc),
+        }
     }
 }
 
 impl TryCopy for Entry {
-    fn copy(&self, alloc: Global) -> Result<Entry, OutOfMemory> {
-        let question = self.question.copy(alloc)?;
-        let answer = self.answer.copy(alloc)?;
-        Ok(Entry { question, answer })
+    fn copy(&self, _: Global) -> Result<Entry, OutOfMemory> {
+        let shared = Arc::try_clone(&self.shared)?;
+        Ok(Entry { shared })
     }
 }
 
-/// An entry that a world made when it was asked. Only `World::ask` makes one, and `copy` repeats it.
+/// An entry that a world made when it was asked. Only `World::ask` makes one of an entry, and `copy`
+/// repeats it.
 #[derive(Drop)]
 pub struct Receipt {
     entry: Entry,
@@ -85,11 +145,29 @@ impl Receipt {
         Receipt { entry }
     }
 
+    // A copy, which needs no allocator.
+    pub(crate) fn share(&self) -> Result<Receipt, OutOfMemory>
+        ensures { IfOk result (λ r. r ≡ self.now) }
+    {
+        let shared = Arc::try_clone(&self.entry.shared)?;
+        let entry = Entry { shared };
+        Ok(Receipt { entry })
+    }
+
     /// The entry of the journal.
     pub fn entry(&self) -> &Entry
         ensures { result.now ≡ self.now }
     {
         &self.entry
+    }
+
+    /// The entry's answer: itself, where neither a journal nor a copy keeps it, and else a copy of it.
+    pub fn into_answer(self, alloc: Global) -> Result<Answer, OutOfMemory>
+        ensures is { IfOk result (λ a. a ≡ self.1) }
+        ensures fits { IfOk result (λ a. Fits self.0 a) }
+    {
+        let Receipt { entry } = self;
+        entry.into_answer(alloc)
     }
 }
 

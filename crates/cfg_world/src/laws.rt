@@ -46,8 +46,8 @@ pub fn inquiries_begin_in_turn<A, B>()
         Begun (after first second) journal ↔ BegunInTurn first second journal }
 {}
 
-/// Scripted devices allow exactly the lists of entries in which the readings of the clock are their
-/// list and then its last one again, and the replies are their queue and then `Dispatch`.
+/// Scripted devices allow exactly the lists of entries in which the answers of each list come in its
+/// order, and readings of files say what was last written.
 pub fn scripted_answers_come_in_order()
     ensures { (script : Script) (entries : List Pair) → Allows script entries ↔ InOrder script.lists entries }
 {}

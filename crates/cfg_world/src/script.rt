@@ -1,83 +1,193 @@
 //! Devices that answer from lists.
-ghost use Rattle.std.specs.Prelude.{◌≡◌, ◌+◌, ◌≤◌, length, min, IfOk, IfErr};
+ghost use Rattle.std.specs.Prelude.{◌≡◌, ℕ, ◌+◌, ◌≤◌, List, [], Err, IfOk, OnOk, OnErr, min, length, slice_get, unwrap_or};
+ghost use Rattle.std.specs.Option.{option_copied};
+ghost use Rattle.cfg_values.specs.Text.{characters};
 ghost use Rattle.cfg_world.specs.Faults.{full_count};
-ghost use Rattle.cfg_world.specs.Script.{AllFit, no_faults, start, step, reading_at, sent_at, sent};
+ghost use Rattle.cfg_world.specs.Script.{AllFit, start, no_faults, queue_of, next_answer, one_further, sent, step, contents_at};
+ghost use Rattle.cfg_world.specs.Scripted.{place_of};
+
+mod paths;
+mod queues;
+mod writes;
 
 use crate::ask::{Answer, Question};
 use crate::devices::{Devices, Fault};
-use cfg_types::{FailKind, Instant, Reply, Request, Seq, TryCopy};
+use cfg_types::{
+    Address, Bytes, FailKind, Finished, Instant, OutOfMemory, Reply, Request, Seq, Text, TextMap,
+    TryCopy,
+};
 use std::alloc::Global;
 use std::marker::Model;
+use writes::Writes;
 
-/// What scripted devices answer, a list for each kind of question.
+/// What scripted devices answer. Each list but those of files is answered from in order.
 #[derive(Drop)]
 pub struct DeviceLists {
+    /// Files by their paths, with what they hold. One without contents cannot be read. Of two
+    /// listings of a path the later counts.
+    pub files: Seq<(Text, Option<Bytes>)>,
+    /// Paths to which no write is granted.
+    pub unwritable: Seq<Text>,
     /// Readings of the clock. The last one is repeated, and without one the clock stands at the epoch.
     pub clock: Seq<Instant>,
-    /// Replies to `AssumeRole`. Where none is left, nothing is dispatched.
+    /// Numbers of the jitter. Where none is left it is 0.
+    pub jitter: Seq<u64>,
+    /// What commands leave behind. Where nothing is left a command fails with `Io`.
+    pub commands: Seq<Result<Finished, FailKind>>,
+    /// Addresses of hosts. Where none are left a look-up fails with `Io`.
+    pub lookups: Seq<Result<Seq<Address>, FailKind>>,
+    /// Replies to GETs. Where none is left, in this queue and in the next seven, nothing is
+    /// dispatched.
+    pub http: Seq<Result<Reply, FailKind>>,
+    /// Replies to requests for a metadata token.
+    pub imds_token: Seq<Result<Reply, FailKind>>,
+    /// Replies to requests for metadata.
+    pub imds_get: Seq<Result<Reply, FailKind>>,
+    /// Replies to `AssumeRole`.
     pub assume_role: Seq<Result<Reply, FailKind>>,
+    /// Replies to `AssumeRoleWithWebIdentity`.
+    pub web_identity: Seq<Result<Reply, FailKind>>,
+    /// Replies to `GetRoleCredentials`.
+    pub role_credentials: Seq<Result<Reply, FailKind>>,
+    /// Replies to `CreateToken`.
+    pub create_token: Seq<Result<Reply, FailKind>>,
+    /// Replies to `CreateOAuth2Token`.
+    pub sign_in: Seq<Result<Reply, FailKind>>,
 }
 
 impl DeviceLists {
-    ghost use Rattle.std.specs.Prelude.{[]};
-
-    /// Lists without items: the clock stands at the epoch, and nothing is dispatched.
+    /// Lists without items: no file can be read and every path is writable, the clock stands at the
+    /// epoch, the jitter is 0, and commands, look-ups and requests fail.
     pub fn empty(alloc: Global) -> DeviceLists
-        ensures { result ≡ record { clock = []; assume_role = [] } }
+        ensures { result ≡ record { files = []; unwritable = []; clock = []; jitter = []; commands = []; lookups = []; http = []; imds_token = []; imds_get = []; assume_role = []; web_identity = []; role_credentials = []; create_token = []; sign_in = [] } }
     {
         DeviceLists {
+            files: Seq::of(Vec::new(alloc)),
+            unwritable: Seq::of(Vec::new(alloc)),
             clock: Seq::of(Vec::new(alloc)),
+            jitter: Seq::of(Vec::new(alloc)),
+            commands: Seq::of(Vec::new(alloc)),
+            lookups: Seq::of(Vec::new(alloc)),
+            http: Seq::of(Vec::new(alloc)),
+            imds_token: Seq::of(Vec::new(alloc)),
+            imds_get: Seq::of(Vec::new(alloc)),
             assume_role: Seq::of(Vec::new(alloc)),
+            web_identity: Seq::of(Vec::new(alloc)),
+            role_credentials: Seq::of(Vec::new(alloc)),
+            create_token: Seq::of(Vec::new(alloc)),
+            sign_in: Seq::of(Vec::new(alloc)),
         }
     }
 }
 
-/// Devices that give the answers of their lists, in order. They allow exactly the lists of entries
-/// that these give, and stand for those that leave them at the place that they have reached.
+// How far each list was read.
+#[derive(Drop)]
+struct Places {
+    clock: usize,
+    jitter: usize,
+    commands: usize,
+    lookups: usize,
+    http: usize,
+    imds_token: usize,
+    imds_get: usize,
+    assume_role: usize,
+    web_identity: usize,
+    role_credentials: usize,
+    create_token: usize,
+    sign_in: usize,
+}
+
+// How often each kind of device has failed.
+#[derive(Drop)]
+struct FaultCounts {
+    files: u64,
+    transport: u64,
+    commands: u64,
+    lookups: u64,
+}
+
+/// Devices that give the answers of their lists, in order, and read back what was written. They allow
+/// exactly the lists of entries that these rules give, and stand for those that also leave the places
+/// and the writes that they have reached.
 #[derive(Drop)]
 pub struct ScriptDevices {
     alloc: Global,
     lists: DeviceLists,
-    clock: usize,
-    assume_role: usize,
-    transport_faults: u64,
+    listed: TextMap<usize>,
+    unwritable: TextMap<()>,
+    places: Places,
+    writes: Writes,
+    faults: FaultCounts,
 }
 
 impl Model for ScriptDevices {
-    ghost use Rattle.cfg_world.specs.Script.{Script, AllFit};
+    ghost use Rattle.cfg_world.specs.Script.{Script};
+    ghost use Rattle.cfg_world.specs.Scripted.{IsReady, place_of, faults_of};
 
     ghost Value = { Script };
 
-    ghost view = { λ s. record {
-      lists = s.lists;
-      place = record { clock = s.clock; assume_role = s.assume_role };
-      faults = record { files = 0; transport = s.transport_faults; commands = 0; lookups = 0 };
-    } };
+    ghost view = { λ s. record { lists = s.lists; place = place_of s.places s.writes; faults = faults_of s.faults } };
 
-    ghost invariant = { λ s. AllFit s.lists };
+    ghost invariant = { λ s. IsReady s.lists s.listed s.unwritable };
 }
 
 impl ScriptDevices {
     /// Devices that stand at the start of their lists, of which every item fits its questions: no
-    /// reading is before the epoch, and a failed send has another kind than `Io`.
-    pub fn new(alloc: Global, lists: DeviceLists) -> ScriptDevices
+    /// reading is before the epoch, commands and look-ups fail with `Io` alone, and a request has a
+    /// reply of its kind, or a failure of another kind than `Io`.
+    pub fn new(alloc: Global, lists: DeviceLists) -> Result<ScriptDevices, OutOfMemory>
         requires { AllFit lists }
-        ensures { result ≡ record { lists = lists; place = start; faults = no_faults } }
+        ensures { IfOk result (λ s. s ≡ record { lists = lists; place = start; faults = no_faults }) }
     {
-        ScriptDevices {
+        let listed = paths::indexed(alloc, lists.files.as_slice())?;
+        let unwritable = paths::named(alloc, lists.unwritable.as_slice())?;
+        Ok(ScriptDevices {
             alloc,
             lists,
-            clock: 0,
-            assume_role: 0,
-            transport_faults: 0,
+            listed,
+            unwritable,
+            places: Places {
+                clock: 0,
+                jitter: 0,
+                commands: 0,
+                lookups: 0,
+                http: 0,
+                imds_token: 0,
+                imds_get: 0,
+                assume_role: 0,
+                web_identity: 0,
+                role_credentials: 0,
+                create_token: 0,
+                sign_in: 0,
+            },
+            writes: Writes::new(alloc),
+            faults: FaultCounts {
+                files: 0,
+                transport: 0,
+                commands: 0,
+                lookups: 0,
+            },
+        })
+    }
+
+    // What the file of this path holds, if it can be read.
+    fn contents(&self, path: &str) -> Option<&Bytes>
+        ensures { option_copied result ≡ contents_at self.now.lists self.now.place.writes (characters path.now) }
+    {
+        match self.writes.last(path) {
+            Some(bytes) => Some(bytes),
+            None => match paths::last_under(&self.listed, self.lists.files.as_slice(), path) {
+                Some(Some(bytes)) => Some(bytes),
+                _ => None,
+            },
         }
     }
 }
 
 impl Devices for ScriptDevices {
-    ghost use Rattle.std.specs.Prelude.{Some, Err};
+    ghost use Rattle.std.specs.Prelude.{Some};
     ghost use Rattle.cfg_types.specs.declared.reply.FailKind.{FailKind as Kind};
-    ghost use Rattle.cfg_world.specs.Asked.{Asked, answer_of};
+    ghost use Rattle.cfg_world.specs.Asked.{Asked, answer_of, written_answer};
     ghost use Rattle.cfg_world.specs.Script.{Allows, Stands};
 
     ghost faults = { λ s. s.faults };
@@ -92,9 +202,97 @@ impl Devices for ScriptDevices {
         ensures asked { Asked self.old.faults self.new.faults (Allows self.old) (Allows self.new) (Stands self.old) (Stands self.new) Question.Now (Some (Answer.Moment result)) }
         ensures quiet { self.new.faults ≡ self.old.faults }
     {
-        let moment = reading(&self.lists.clock, self.clock);
-        self.clock = stepped(self.clock, &self.lists.clock);
-        moment
+        let last = queues::last_reading_of(&self.lists.clock);
+        queues::next_or(&self.lists.clock, &mut self.places.clock, last)
+    }
+
+    fn jitter(&mut self) -> u64
+        ensures asked { Asked self.old.faults self.new.faults (Allows self.old) (Allows self.new) (Stands self.old) (Stands self.new) Question.Jitter (Some (Answer.Jitter result)) }
+        ensures quiet { self.new.faults ≡ self.old.faults }
+    {
+        queues::next_or(&self.lists.jitter, &mut self.places.jitter, 0)
+    }
+
+    fn read(&mut self, path: &str) -> Result<Bytes, Fault>
+        ensures asked { Asked self.old.faults self.new.faults (Allows self.old) (Allows self.new) (Stands self.old) (Stands self.new) (Question.Read (characters path.now)) (answer_of Answer.Contents result) }
+        ensures quiet { IfOk result (λ bytes. self.new.faults ≡ self.old.faults) }
+        ensures once { (kind : Kind) → result ≡ Err (Fault.Failed kind) → self.new.faults ≡ record self.old.faults { files = min (self.old.faults.files + 1) full_count } }
+        ensures memory { result ≡ Err Fault.OutOfMemory → self.new ≡ self.old }
+    {
+        match self.contents(path) {
+            Some(bytes) => {
+                let Ok(copied) = bytes.copy(self.alloc) else {
+                    return Err(Fault::OutOfMemory);
+                };
+                Ok(copied)
+            }
+            None => {
+                raise(&mut self.faults.files);
+                Err(Fault::Failed(FailKind::Io))
+            }
+        }
+    }
+
+    fn write(&mut self, path: &str, bytes: &[u8]) -> Result<(), Fault>
+        ensures asked { Asked self.old.faults self.new.faults (Allows self.old) (Allows self.new) (Stands self.old) (Stands self.new) (Question.Write (characters path.now) bytes.now) (written_answer result) }
+        ensures quiet { IfOk result (λ written. self.new.faults ≡ self.old.faults) }
+        ensures once { (kind : Kind) → result ≡ Err (Fault.Failed kind) → self.new.faults ≡ record self.old.faults { files = min (self.old.faults.files + 1) full_count } }
+        ensures memory { result ≡ Err Fault.OutOfMemory → self.new ≡ self.old }
+    {
+        if paths::is_named(&self.unwritable, path) {
+            raise(&mut self.faults.files);
+            return Err(Fault::Failed(FailKind::Io));
+        }
+        let Ok(()) = self.writes.push(self.alloc, path, bytes) else {
+            return Err(Fault::OutOfMemory);
+        };
+        Ok(())
+    }
+
+    fn run(&mut self, command: &str) -> Result<Finished, Fault>
+        ensures asked { Asked self.old.faults self.new.faults (Allows self.old) (Allows self.new) (Stands self.old) (Stands self.new) (Question.Run (characters command.now)) (answer_of Answer.Finished result) }
+        ensures quiet { IfOk result (λ finished. self.new.faults ≡ self.old.faults) }
+        ensures once { (kind : Kind) → result ≡ Err (Fault.Failed kind) → self.new.faults ≡ record self.old.faults { commands = min (self.old.faults.commands + 1) full_count } }
+        ensures memory { result ≡ Err Fault.OutOfMemory → self.new ≡ self.old }
+    {
+        let Ok(left) = queues::next_copy(
+            self.alloc,
+            &self.lists.commands,
+            &mut self.places.commands,
+            FailKind::Io,
+        ) else {
+            return Err(Fault::OutOfMemory);
+        };
+        match left {
+            Ok(finished) => Ok(finished),
+            Err(kind) => {
+                raise(&mut self.faults.commands);
+                Err(Fault::Failed(kind))
+            }
+        }
+    }
+
+    fn look_up(&mut self, host: &str) -> Result<Seq<Address>, Fault>
+        ensures asked { Asked self.old.faults self.new.faults (Allows self.old) (Allows self.new) (Stands self.old) (Stands self.new) (Question.LookUp (characters host.now)) (answer_of Answer.Addresses result) }
+        ensures quiet { IfOk result (λ addresses. self.new.faults ≡ self.old.faults) }
+        ensures once { (kind : Kind) → result ≡ Err (Fault.Failed kind) → self.new.faults ≡ record self.old.faults { lookups = min (self.old.faults.lookups + 1) full_count } }
+        ensures memory { result ≡ Err Fault.OutOfMemory → self.new ≡ self.old }
+    {
+        let Ok(found) = queues::next_copy(
+            self.alloc,
+            &self.lists.lookups,
+            &mut self.places.lookups,
+            FailKind::Io,
+        ) else {
+            return Err(Fault::OutOfMemory);
+        };
+        match found {
+            Ok(addresses) => Ok(addresses),
+            Err(kind) => {
+                raise(&mut self.faults.lookups);
+                Err(Fault::Failed(kind))
+            }
+        }
     }
 
     fn send(&mut self, request: &Request) -> Result<Reply, Fault>
@@ -103,68 +301,65 @@ impl Devices for ScriptDevices {
         ensures once { (kind : Kind) → result ≡ Err (Fault.Failed kind) → self.new.faults ≡ record self.old.faults { transport = min (self.old.faults.transport + 1) full_count } }
         ensures memory { result ≡ Err Fault.OutOfMemory → self.new ≡ self.old }
     {
-        match request {
-            Request::AssumeRole(_) => {
-                let sent = taken(self.alloc, &self.lists.assume_role, self.assume_role)?;
-                self.assume_role = stepped(self.assume_role, &self.lists.assume_role);
-                match sent {
-                    Ok(reply) => Ok(reply),
-                    Err(kind) => {
-                        self.transport_faults = self.transport_faults.saturating_add(1);
-                        Err(Fault::Failed(kind))
-                    }
-                }
+        let Ok(sent) = next_reply(self.alloc, &self.lists, &mut self.places, request) else {
+            return Err(Fault::OutOfMemory);
+        };
+        match sent {
+            Ok(reply) => Ok(reply),
+            Err(kind) => {
+                raise(&mut self.faults.transport);
+                Err(Fault::Failed(kind))
             }
         }
     }
 }
 
-// The reading at this place, or the last one, or the epoch.
-fn reading(clock: &Seq<Instant>, at: usize) -> Instant
-    ensures { result ≡ reading_at clock.now at }
+// One failure more. A count that is full stands still.
+fn raise(count: &mut u64)
+    ensures counted { count.new ≡ min (count.old + 1) full_count }
+    ensures later { count.old ≤ count.new }
 {
-    let clock = clock.as_slice();
-    let at = if at < clock.len() {
-        at
-    } else if at > 0 {
-        at - 1
-    } else {
-        0
-    };
-    match clock.get(at) {
-        Some(moment) => *moment,
-        None => Instant::epoch(),
+    *count = count.saturating_add(1);
+}
+
+// A copy of the next reply of the queue of this request.
+fn next_reply(
+    alloc: Global,
+    lists: &DeviceLists,
+    places: &mut Places,
+    request: &Request,
+) -> Result<Result<Reply, FailKind>, OutOfMemory>
+    ensures item { IfOk result (λ r. sent r ≡ next_answer lists.now (place_of places.old []) (queue_of request.now)) }
+    ensures further { OnOk result ((writes : List (List ℕ × List ℕ)) → place_of places.new writes ≡ one_further lists.now (place_of places.old writes) (queue_of request.now)) }
+    ensures memory { OnErr result (places.new ≡ places.old) }
+{
+    match request {
+        Request::Http(_) => next_sent(alloc, &lists.http, &mut places.http),
+        Request::MetadataToken(_) => next_sent(alloc, &lists.imds_token, &mut places.imds_token),
+        Request::MetadataGet(_) => next_sent(alloc, &lists.imds_get, &mut places.imds_get),
+        Request::AssumeRole(_) => next_sent(alloc, &lists.assume_role, &mut places.assume_role),
+        Request::AssumeRoleWithWebIdentity(_) => {
+            next_sent(alloc, &lists.web_identity, &mut places.web_identity)
+        }
+        Request::GetRoleCredentials(_) => next_sent(
+            alloc,
+            &lists.role_credentials,
+            &mut places.role_credentials,
+        ),
+        Request::CreateToken(_) => next_sent(alloc, &lists.create_token, &mut places.create_token),
+        Request::CreateOAuth2Token(_) => next_sent(alloc, &lists.sign_in, &mut places.sign_in),
     }
 }
 
-// One place further, up to the end.
-fn stepped<T>(at: usize, items: &Seq<T>) -> usize
-    ensures { result ≡ step at (length items.now) }
-{
-    if at < items.as_slice().len() {
-        at + 1
-    } else {
-        at
-    }
-}
-
-// The next item of a queue of replies.
-fn taken(
+// A copy of the next reply of a queue. Behind its end nothing is dispatched.
+fn next_sent(
     alloc: Global,
     replies: &Seq<Result<Reply, FailKind>>,
-    at: usize,
-) -> Result<Result<Reply, FailKind>, Fault>
-    ensures item { IfOk result (λ r. sent r ≡ sent_at replies.now at) }
-    ensures memory { IfErr result (λ e. e ≡ Fault.OutOfMemory) }
+    at: &mut usize,
+) -> Result<Result<Reply, FailKind>, OutOfMemory>
+    ensures item { IfOk result (λ r. r ≡ unwrap_or (slice_get replies.now at.old) (Err FailKind.Dispatch)) }
+    ensures further { OnOk result (at.new ≡ step at.old (length replies.now)) }
+    ensures memory { OnErr result (at.new ≡ at.old) }
 {
-    match replies.as_slice().get(at) {
-        Some(Ok(reply)) => {
-            let Ok(reply) = reply.copy(alloc) else {
-                return Err(Fault::OutOfMemory);
-            };
-            Ok(Ok(reply))
-        }
-        Some(Err(kind)) => Ok(Err(*kind)),
-        None => Ok(Err(FailKind::Dispatch)),
-    }
+    queues::next_copy(alloc, replies, at, FailKind::Dispatch)
 }

@@ -54,7 +54,7 @@ impl<D: Devices> World<D> {
         ensures stays { OnErr result (Stays ⟦<D as Devices>⟧ [] self.old self.new) }
     {
         let answer = put(&mut self.devices, &question)?;
-        let entry = Entry::of(question, answer);
+        let entry = Entry::of(self.alloc, question, answer)?;
         let receipt = Receipt::of(entry.copy(self.alloc)?);
         self.journal.push(entry)?;
         Ok(receipt)
@@ -93,6 +93,23 @@ fn put<D: Devices>(devices: &mut D, question: &Question) -> Result<Answer, OutOf
 {
     match question {
         Question::Now => Ok(Answer::Moment(devices.now())),
+        Question::Jitter => Ok(Answer::Jitter(devices.jitter())),
+        Question::Read { path } => match devices.read(path.as_str()) {
+            Ok(bytes) => Ok(Answer::Contents(bytes)),
+            Err(fault) => failed(fault),
+        },
+        Question::Write { path, bytes } => match devices.write(path.as_str(), bytes.as_slice()) {
+            Ok(()) => Ok(Answer::Written),
+            Err(fault) => failed(fault),
+        },
+        Question::Run { command } => match devices.run(command.as_str()) {
+            Ok(finished) => Ok(Answer::Finished(finished)),
+            Err(fault) => failed(fault),
+        },
+        Question::LookUp { host } => match devices.look_up(host.as_str()) {
+            Ok(addresses) => Ok(Answer::Addresses(addresses)),
+            Err(fault) => failed(fault),
+        },
         Question::Send(request) => match devices.send(request) {
             Ok(reply) => Ok(Answer::Replied(reply)),
             Err(fault) => failed(fault),

@@ -2,7 +2,7 @@ ghost use Rattle.std.specs.Prelude.{◌≡◌, [], ◌∷◌, IfOk};
 ghost use Rattle.std.specs.Option.{option_copied};
 ghost use Rattle.std.specs.FinMap.{get as entry_of};
 ghost use Rattle.cfg_chain.specs.Gives.{GivesAnswer};
-ghost use Rattle.cfg_chain.specs.Plans.{selected_name as selected_name_of, has_other_source as other_source_of, another as another_of, source_section as source_section_of, role_of, not_built as not_built_error, no_section as no_section_of, role_over, plan_of_selected as selected_plan, plan_of_section as section_plan, plan, is_built as is_built_of};
+ghost use Rattle.cfg_chain.specs.profile.Plans.{selected_name as selected_name_of, has_other_source as other_source_of, another as another_of, source_section as source_section_of, role_of, not_built as not_built_error, no_section as no_section_of, role_over, plan_of_selected as selected_plan, plan_of_section as section_plan, plan, is_built as is_built_of};
 
 use crate::profile::sections::{ProfileSet, ProfileSource, Section};
 use crate::profile::static_keys::{has_both_keys, static_keys};
@@ -41,7 +41,7 @@ pub fn selected_name(config: &ProviderConfig) -> &str
 }
 
 /// What the selected profile gives credentials by, or why it gives none.
-#[tactic(auto, unfolding(crate::specs::Plans::plan))]
+#[tactic(auto, unfolding(crate::specs::profile::Plans::plan))]
 pub fn plan_of(
     alloc: Global,
     config: &ProviderConfig,
@@ -87,7 +87,7 @@ fn plan_of_selected(
     }
 }
 
-#[tactic(auto, unfolding(crate::specs::Plans::plan_of_section))]
+#[tactic(auto, unfolding(crate::specs::profile::Plans::plan_of_section))]
 fn plan_of_section(
     alloc: Global,
     set: &ProfileSet,

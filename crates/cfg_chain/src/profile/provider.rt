@@ -1,6 +1,6 @@
 ghost use Rattle.std.specs.Prelude.{◌≡◌, IfOk, Ok};
 ghost use Rattle.cfg_world.specs.Follows.{Follows};
-ghost use Rattle.cfg_chain.specs.Profiles.{refusal as refusal_of, by_profile, profile, follows_plan};
+ghost use Rattle.cfg_chain.specs.profile.Profiles.{refusal as refusal_of, by_profile, profile, follows_plan};
 
 use crate::assume_role::assume_roles;
 use crate::profile::plan::{ProfileChain, plan_of};
@@ -13,7 +13,7 @@ use cfg_world::{Asking, Halt, Stop};
 use std::alloc::Global;
 
 /// Assumes the roles of the selected profile, and answers the last one's credentials.
-#[tactic(auto, using(crate::proofs::QuietSteps::quiet_steps), unfolding(crate::specs::Profiles::profile))]
+#[tactic(auto, using(crate::proofs::QuietSteps::quiet_steps), unfolding(crate::specs::profile::Profiles::profile))]
 pub fn follow_profile<A: Asking>(
     alloc: Global,
     config: &ProviderConfig,
@@ -64,7 +64,8 @@ fn refusal(error: ProfileFileError) -> CredentialsError
         ProfileFileError::OutOfMemory => CredentialsError::OutOfMemory,
         ProfileFileError::NoProfilesDefined
         | ProfileFileError::ProfileDidNotContainCredentials { .. }
-        | ProfileFileError::MissingProfile { .. } => {
+        | ProfileFileError::MissingProfile { .. }
+        | ProfileFileError::TokenProviderConfig => {
             CredentialsError::CredentialsNotLoaded(NotLoadedCause::Profile(error))
         }
         _ => CredentialsError::InvalidConfiguration(ConfigCause::Profile(error)),

@@ -1,9 +1,9 @@
 ghost use Rattle.std.specs.Prelude.{◌≡◌, ◌↔◌, IsTrue, IfOk, map, option_map, string_bytes};
 ghost use Rattle.std.specs.Option.{option_copied};
 ghost use Rattle.std.specs.FinMap.{get as entry_of, len};
-ghost use Rattle.cfg_types.specs.Entries.{each_set};
+ghost use Rattle.cfg_values.specs.Entries.{each_set};
 ghost use Rattle.std.specs.Str.{str_eq_ignore_ascii_case};
-ghost use Rattle.cfg_chain.specs.Sections.{bytes_of, property, text_property as text_property_of, named_section, last_match};
+ghost use Rattle.cfg_chain.specs.profile.Sections.{bytes_of, property, text_property as text_property_of, named_section, last_match};
 
 use cfg_types::{AccountId, OutOfMemory, Text, TextMap, TryCopy};
 use std::alloc::Global;
@@ -19,7 +19,7 @@ pub struct Section {
 
 impl Model for Section {
     ghost use Rattle.std.specs.Prelude.{map, string_bytes};
-    ghost use Rattle.cfg_chain.specs.SectionParts.{SectionParts, bytes_of};
+    ghost use Rattle.cfg_chain.specs.profile.SectionParts.{SectionParts, bytes_of};
 
     ghost Value = { SectionParts };
 
@@ -141,7 +141,7 @@ pub struct ProfileSet {
 
 impl Model for ProfileSet {
     ghost use Rattle.std.specs.Prelude.{string_bytes};
-    ghost use Rattle.cfg_chain.specs.SectionSets.{SectionSets, sets_code};
+    ghost use Rattle.cfg_chain.specs.profile.SectionSets.{SectionSets, sets_code};
 
     ghost Value = { SectionSets };
 
@@ -151,7 +151,7 @@ impl Model for ProfileSet {
 }
 
 impl ProfileSet {
-    ghost use Rattle.cfg_chain.specs.SectionSets.{sections_by_name, selected_property};
+    ghost use Rattle.cfg_chain.specs.profile.SectionSets.{sections_by_name, selected_property};
 
     /// The profiles and sessions of these sections, with the profile of this name selected.
     pub fn new(

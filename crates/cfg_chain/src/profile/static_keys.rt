@@ -1,6 +1,6 @@
 ghost use Rattle.std.specs.Prelude.{◌≡◌, IfOk};
 ghost use Rattle.cfg_chain.specs.Gives.{GivesAnswer};
-ghost use Rattle.cfg_chain.specs.StaticKeys.{has_both_keys as has_both, invalid as invalid_of, without_access_key as lacks_access_key, static_keys as keys_of};
+ghost use Rattle.cfg_chain.specs.profile.StaticKeys.{has_both_keys as has_both, invalid as invalid_of, without_access_key as lacks_access_key, static_keys as keys_of};
 
 use crate::profile::sections::Section;
 use cfg_types::{Credentials, CredentialsBuilder, OutOfMemory, ProfileFileError, Text};
@@ -9,7 +9,7 @@ use std::alloc::Global;
 
 /// The keys of a section: `aws_access_key_id`, `aws_secret_access_key`, `aws_session_token` and
 /// `aws_account_id`, as they stand there.
-#[tactic(auto, unfolding(crate::specs::StaticKeys::static_keys))]
+#[tactic(auto, unfolding(crate::specs::profile::StaticKeys::static_keys))]
 pub fn static_keys(alloc: Global, section: &Section) -> Result<Credentials, Halt<ProfileFileError>>
     ensures { GivesAnswer (λ c. c) result (keys_of section.now) }
 {

@@ -7,6 +7,6 @@ use Rattle.cfg_script.proofs.part.items_fault.Given as goal
 
 abbrev pub invariant-loop-value : goal.invariant-loop-value
 invariant-loop-value g l = record {
-  rest : items_fault g.P.Part.fault l.place (items_view (into_iter_items l.value-iterator)) ≡ items_fault g.P.Part.fault 0 (items_view l.fn.items.items);
+  rest : items_fault g.P.Part.form.fault l.place (items_view (into_iter_items l.value-iterator)) ≡ items_fault g.P.Part.form.fault 0 (items_view l.fn.items.items);
   len : into_iter_len l.value-iterator ≡ length (into_iter_items l.value-iterator);
 }

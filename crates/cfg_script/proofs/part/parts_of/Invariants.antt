@@ -7,6 +7,6 @@ use Rattle.cfg_script.proofs.part.parts_of.Given as goal
 
 abbrev pub invariant-loop-value : goal.invariant-loop-value
 invariant-loop-value g l = record {
-  read : followed_by_each (map g.P.Part.seen l.parts.items) g.P.Part.form (into_iter_items l.value-iterator) ≡ each g.P.Part.form (items_view l.fn.items.items);
+  read : followed_by_each (map g.P.Part.seen l.parts.items) g.P.Part.form.read (into_iter_items l.value-iterator) ≡ each g.P.Part.form.read (items_view l.fn.items.items);
   len : into_iter_len l.value-iterator ≡ length (into_iter_items l.value-iterator);
 }

@@ -7,5 +7,5 @@ use Rattle.cfg_script.proofs.value.taken.Goals as goal
 pub returns-clause-value : goal.returns-clause-value
 returns-clause-value c = ap (option_map view) c.remove.ensures.value ∙ member_of c.args.members.now c.args.name.now
 
-pub returns-clause-others : goal.returns-clause-others
-returns-clause-others c = λ other apart. others_stay c.args.members.now c.remove.new.self c.args.name.now other _ c.remove.ensures.updates apart
+pub returns-clause-left : goal.returns-clause-left
+returns-clause-left c = others_stay c.args.members.now c.remove.new.self c.args.name.now c.remove.ensures.entries

@@ -3,7 +3,7 @@ use Rattle.std.proofs.Common.{◌≡◌, ℕ, List, Option, Some, None, option_m
 use Rattle.std.specs.Prelude.{is_some}
 use Rattle.std.specs.List.{list_any}
 use Rattle.std.proofs.lemmas.List.Folds.{list_any_at}
-use Rattle.cfg_chain.specs.Sections.{property}
+use Rattle.cfg_chain.specs.profile.Sections.{property}
 use Rattle.cfg_chain.proofs.profile.plan.has_other_source.Goals as goal
 
 mapped : (o : Option (Bor (List ℕ))) → is_some o ≡ is_some (option_map (λ v. v.now) o)

@@ -2,7 +2,7 @@
 use Rattle.std.proofs.Common.{◌≡◌, false, take}
 use Rattle.std.specs.Prelude.{is_some}
 use Rattle.std.specs.List.{list_any}
-use Rattle.cfg_chain.specs.Sections.{property}
+use Rattle.cfg_chain.specs.profile.Sections.{property}
 use Rattle.cfg_chain.proofs.profile.plan.has_other_source.Given as goal
 
 abbrev pub invariant-loop-key : goal.invariant-loop-key

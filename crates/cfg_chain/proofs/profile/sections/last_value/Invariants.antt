@@ -1,7 +1,7 @@
 -- The last match of the properties so far.
 use Rattle.std.proofs.Common.{◌≡◌, map, take}
 use Rattle.std.specs.Prelude.{option_map}
-use Rattle.cfg_chain.specs.Sections.{bytes_of, last_match}
+use Rattle.cfg_chain.specs.profile.Sections.{bytes_of, last_match}
 use Rattle.cfg_chain.proofs.profile.sections.last_value.Given as goal
 
 abbrev pub invariant-loop-property : goal.invariant-loop-property

@@ -1,0 +1,332 @@
+// What no clause says: worked examples of the definitions, and that calls succeed. A row's
+// configuration and devices stand in a script, as the program reads them.
+ghost use Rattle.cfg_world.specs.Script.{AllFit};
+ghost use Rattle.cfg_script.specs.Script.{plain};
+ghost use Rattle.cfg_script.specs.Devices.{lists_of};
+
+use cfg_chain::{
+    DefaultCredentialsChain, ProfileSet, ProfileSource, ProviderConfig, RegionSource, Section,
+    is_built,
+};
+use cfg_script::{Script, ScriptProfiles, read_script};
+use cfg_types::{Credentials, CredentialsError, Env, EnvText, OutOfMemory, Region, Text, TryCopy};
+use cfg_world::{DeviceLists, Entry, ScriptDevices, World};
+use std::alloc::{AllocError, Global};
+use std::test::Fail;
+
+fn sections(
+    alloc: Global,
+    rows: Vec<(String, Vec<(String, String)>)>,
+) -> Result<Vec<Section>, OutOfMemory> {
+    let mut sections = Vec::new(alloc);
+    for (name, properties) in rows {
+        sections.push(Section::new(alloc, name.as_str(), properties)?)?;
+    }
+    Ok(sections)
+}
+
+fn source(alloc: Global, profiles: ScriptProfiles) -> Result<ProfileSource, OutOfMemory> {
+    match profiles {
+        ScriptProfiles::Refused(message) => Ok(ProfileSource::Refused(message)),
+        ScriptProfiles::Sections { profiles, sessions } => {
+            let profiles = sections(alloc, profiles)?;
+            let sessions = sections(alloc, sessions)?;
+            let set = ProfileSet::new(alloc, profiles, sessions, "default")?;
+            Ok(ProfileSource::Sections(set))
+        }
+    }
+}
+
+// A configuration; where no name is selected, its copy.
+fn config(
+    alloc: Global,
+    variables: Vec<(String, EnvText)>,
+    profiles: ScriptProfiles,
+    selected: Option<String>,
+) -> Result<ProviderConfig, OutOfMemory> {
+    let config = ProviderConfig::empty(alloc)?.with_env(Env::new(alloc, variables)?);
+    let config = config.with_profiles(source(alloc, profiles)?);
+    match selected {
+        None => config.copy(alloc),
+        Some(name) => config.with_profile_name(alloc, name.as_str()),
+    }
+}
+
+// An answer, with the secret, the token and the features of credentials.
+fn answer_words(
+    alloc: Global,
+    answer: &Result<Credentials, CredentialsError>,
+) -> Result<String, AllocError> {
+    match answer {
+        Ok(keys) => {
+            let secret = keys.secret_access_key();
+            let token = keys.session_token();
+            let features = keys.features();
+            format!(in alloc; "{keys:?} {secret} {token:?} {features:?}")
+        }
+        Err(error) => format!(in alloc; "{error:?}"),
+    }
+}
+
+fn questions(alloc: Global, journal: &[Entry]) -> Result<String, AllocError> {
+    let mut words = String::new(alloc);
+    for entry in journal {
+        let question = entry.question();
+        let question = format!(in alloc; " {question:?}")?;
+        words.push_str(question.as_str())?;
+    }
+    Ok(words)
+}
+
+// The chain with this configuration, in this region.
+fn chain_of(
+    alloc: Global,
+    config: ProviderConfig,
+    region: Option<Region>,
+    world: &mut World<ScriptDevices>,
+) -> Result<DefaultCredentialsChain, OutOfMemory> {
+    let mut builder = DefaultCredentialsChain::builder(alloc)?.configure(config);
+    builder.set_region(Some(RegionSource::Fixed(region)));
+    builder.build(world)
+}
+
+// An answer that is let go by one call.
+struct Outcome {
+    answer: Result<Credentials, CredentialsError>,
+}
+
+impl Drop for Outcome {
+    fn drop(self) {
+        let Outcome { answer: _ } = self;
+    }
+}
+
+fn provided(
+    chain: &DefaultCredentialsChain,
+    world: &mut World<ScriptDevices>,
+) -> Result<Outcome, OutOfMemory> {
+    let mut kept = chain.new_kept()?;
+    Ok(Outcome {
+        answer: chain.provide_credentials(&mut kept, world),
+    })
+}
+
+fn answered(
+    alloc: Global,
+    chain: &DefaultCredentialsChain,
+    world: &mut World<ScriptDevices>,
+) -> Result<String, OutOfMemory> {
+    let outcome = provided(chain, world)?;
+    Ok(answer_words(alloc, &outcome.answer)?)
+}
+
+// What a call of the chain answers, and what it asked.
+fn call(
+    alloc: Global,
+    chain: &DefaultCredentialsChain,
+    world: &mut World<ScriptDevices>,
+) -> Result<String, OutOfMemory> {
+    let answer = answered(alloc, chain, world)?;
+    let questions = questions(alloc, world.journal())?;
+    Ok(format!(in alloc; "{answer}{questions}")?)
+}
+
+// What the chain answers that a script configures, over the devices that it scripts.
+fn call_by(alloc: Global, script: Script) -> Result<String, OutOfMemory>
+    requires { AllFit (lists_of (plain script)) }
+{
+    let Script {
+        variables,
+        profiles,
+        selected,
+        region: _,
+        sleep: _,
+        devices,
+    } = script;
+    let config = config(alloc, variables, profiles, selected)?;
+    call_over(alloc, config, devices)
+}
+
+// What the chain answers with this configuration, over devices that answer from these lists.
+fn call_over(
+    alloc: Global,
+    config: ProviderConfig,
+    lists: DeviceLists,
+) -> Result<String, OutOfMemory>
+    requires { AllFit lists }
+{
+    let devices = ScriptDevices::new(alloc, lists)?;
+    let mut world = World::new(alloc, devices);
+    call_in(alloc, config, &mut world)
+}
+
+fn call_in(
+    alloc: Global,
+    config: ProviderConfig,
+    world: &mut World<ScriptDevices>,
+) -> Result<String, OutOfMemory> {
+    let region = Region::new(alloc, "eu-west-1")?;
+    let chain = chain_of(alloc, config, Some(region), world)?;
+    call(alloc, &chain, world)
+}
+
+fn words_of(alloc: Global, script: &str) -> Result<String, OutOfMemory> {
+    match read_script(alloc, script.as_bytes()) {
+        Ok(script) => call_by(alloc, script),
+        Err(_) => Ok(String::from_str(alloc, "no script")?),
+    }
+}
+
+#[test]
+fn credentials_of_scripts(rt: HostRuntime) -> Result<(), Fail> {
+    let table: &[(&str, &str)] = &[
+        (
+            r#"{"variables":[["AWS_ACCESS_KEY_ID","A"],["AWS_SECRET_ACCESS_KEY"," \u2003"],["SECRET_ACCESS_KEY"," o "],["AWS_SESSION_TOKEN"," t\u00a0"],["AWS_ACCOUNT_ID","\t7 "]]}"#,
+            r#"Credentials { provider_name: "EnvironmentVariable", access_key_id: "A", secret_access_key: "** redacted **", expires_after: never, account_id: "7" }  o  Some("t") [CredentialsEnvVars]"#,
+        ),
+        (
+            r#"{"variables":[["AWS_ACCESS_KEY_ID","A"],["AWS_ACCESS_KEY_ID"," B "],["AWS_SECRET_ACCESS_KEY","s"],["SECRET_ACCESS_KEY",null],["AWS_SESSION_TOKEN",null],["AWS_ACCOUNT_ID"," "]]}"#,
+            r#"Credentials { provider_name: "EnvironmentVariable", access_key_id: " B ", secret_access_key: "** redacted **", expires_after: never } s None [CredentialsEnvVars]"#,
+        ),
+        (
+            r#"{"profiles":[["default",[["aws_access_key_id","A"],["AWS_Access_Key_Id"," B "],["aws_secret_access_key",""],["aws_session_token"," t "],["aws_account_id","7"]]]]}"#,
+            r#"Credentials { provider_name: "ProfileFile", access_key_id: " B ", secret_access_key: "** redacted **", expires_after: never, account_id: "7" }  Some(" t ") [CredentialsProfile]"#,
+        ),
+        (
+            r#"{"profiles":[["default",[["aws_access_key_id","A"]]],["default",[["aws_access_key_id","B"],["aws_secret_access_key","s"]]]]}"#,
+            r#"Credentials { provider_name: "ProfileFile", access_key_id: "B", secret_access_key: "** redacted **", expires_after: never } s None [CredentialsProfile]"#,
+        ),
+    ];
+    for (script, want) in table {
+        let words = words_of(rt.alloc(), script)?;
+        assert_eq!(rt; words.as_str(), *want, "{script}");
+    }
+    Ok(())
+}
+
+#[test]
+fn errors_of_scripts(rt: HostRuntime) -> Result<(), Fail> {
+    let table: &[(&str, &str)] = &[
+        (
+            r#"{"variables":[["AWS_ACCESS_KEY_ID",null]]}"#,
+            r#"Unhandled(NotUnicode("AWS_ACCESS_KEY_ID"))"#,
+        ),
+        (
+            r#"{"variables":[["AWS_ACCESS_KEY_ID","A"],["AWS_SECRET_ACCESS_KEY",null],["SECRET_ACCESS_KEY",null]]}"#,
+            r#"Unhandled(NotUnicode("SECRET_ACCESS_KEY"))"#,
+        ),
+        (
+            r#"{"profiles":[["default",[["aws_access_key_id","x"]]]]}"#,
+            r#"InvalidConfiguration(Profile(InvalidCredentialSource { profile: "default", message: "profile missing aws_secret_access_key" }))"#,
+        ),
+        (
+            r#"{"profiles":[["default",[["aws_secret_access_key","x"]]]]}"#,
+            r#"InvalidConfiguration(Profile(InvalidCredentialSource { profile: "default", message: "profile missing aws_access_key_id" }))"#,
+        ),
+        (
+            r#"{"profiles":[["default",[["aws_session_token","x"]]]]}"#,
+            r#"InvalidConfiguration(Profile(InvalidCredentialSource { profile: "default", message: "profile missing aws_access_key_id" }))"#,
+        ),
+        (
+            r#"{"profiles":[["default",[["credential_process","x"]]]]}"#,
+            r#"InvalidConfiguration(Profile(FeatureNotEnabled { feature: "profile-providers", message: None }))"#,
+        ),
+        (
+            r#"{"profiles":[["default",[["role_arn","x"]]]]}"#,
+            r#"InvalidConfiguration(Profile(FeatureNotEnabled { feature: "profile-providers", message: None }))"#,
+        ),
+    ];
+    for (script, want) in table {
+        let words = words_of(rt.alloc(), script)?;
+        assert_eq!(rt; words.as_str(), *want, "{script}");
+    }
+    Ok(())
+}
+
+// The answer where no member is loaded: the variable and the profile that are missing.
+fn nothing_loaded(alloc: Global, variable: &str, profile: &str) -> Result<String, AllocError> {
+    format!(in alloc;
+        "CredentialsNotLoaded(Chain(ProviderChainError {{ attempts: [ProviderAttempt {{ name: \"Environment\", error: CredentialsNotLoaded(NotSet(\"{variable}\")) }}, ProviderAttempt {{ name: \"Profile\", error: CredentialsNotLoaded(Profile({profile})) }}] }}))"
+    )
+}
+
+#[test]
+fn scripts_without_keys(rt: HostRuntime) -> Result<(), Fail> {
+    let table: &[(&str, &str, &str)] = &[
+        ("{}", "AWS_ACCESS_KEY_ID", "NoProfilesDefined"),
+        (
+            r#"{"variables":[["AWS_ACCESS_KEY_ID","\u3000"]]}"#,
+            "AWS_ACCESS_KEY_ID",
+            "NoProfilesDefined",
+        ),
+        (
+            r#"{"variables":[["AWS_ACCESS_KEY_ID","A"]],"profiles":[["Default",[]]]}"#,
+            "SECRET_ACCESS_KEY",
+            "NoProfilesDefined",
+        ),
+        (
+            r#"{"profiles":[["default",[["region","r"]]]]}"#,
+            "AWS_ACCESS_KEY_ID",
+            r#"ProfileDidNotContainCredentials { profile: "default" }"#,
+        ),
+        (
+            r#"{"variables":[["AWS_PROFILE","e"]],"profiles":[["other",[]]]}"#,
+            "AWS_ACCESS_KEY_ID",
+            r#"MissingProfile { profile: "e", message: "could not find source profile e referenced from the root profile" }"#,
+        ),
+        (
+            r#"{"selected":"c","variables":[["AWS_PROFILE","e"]],"profiles":[["other",[]]]}"#,
+            "AWS_ACCESS_KEY_ID",
+            r#"MissingProfile { profile: "c", message: "could not find source profile c referenced from the root profile" }"#,
+        ),
+    ];
+    for (script, variable, profile) in table {
+        let words = words_of(rt.alloc(), script)?;
+        let want = nothing_loaded(rt.alloc(), variable, profile)?;
+        assert_eq!(rt; words.as_str(), want.as_str(), "{script}");
+    }
+    Ok(())
+}
+
+#[test]
+fn roles_are_signed_by_the_keys_of_their_source(rt: HostRuntime) -> Result<(), Fail> {
+    let table: &[(&str, &str)] = &[
+        (
+            r#"{"profiles":[["default",[["role_arn","r"],["source_profile","b"]]],["b",[["aws_access_key_id","K"],["aws_secret_access_key","S"]]]],"clock":[7],"replies":{"assume-role":[{"id":"KA","secret":"SA","token":"TA","expires":2000,"arn":"a:b:c:d:e:f"}]}}"#,
+            r#"Credentials { provider_name: "AssumeRoleProvider", access_key_id: "KA", secret_access_key: "** redacted **", expires_after: 2000 s 0 ns, account_id: "e" } SA Some("TA") [CredentialsProfile] Now Send(AssumeRole(AssumeRole { signer: Credentials { provider_name: "ProfileFile", access_key_id: "K", secret_access_key: "** redacted **", expires_after: never }, role_arn: "r", session_name: "assume-role-from-profile-7000", external_id: None, policy: None, policy_arns: None, duration_seconds: None, tags: None, settings: CallSettings { region: Some("eu-west-1"), use_fips: None, use_dual_stack: None, max_attempts: 3, timeouts: Timeouts { connect_ms: None, read_ms: None, operation_ms: None, attempt_ms: None } } }))"#,
+        ),
+        (
+            r#"{"profiles":[["default",[["role_arn","r"],["source_profile","b"],["role_session_name","s"],["external_id","x"]]],["b",[["aws_access_key_id","K"],["aws_secret_access_key","S"]]]],"replies":{"assume-role":[{"refused":"RegionDisabled","message":"no"}]}}"#,
+            r#"ProviderError(Role(ProviderError(Refused(Refusal { kind: RegionDisabled, message: "no" })))) Send(AssumeRole(AssumeRole { signer: Credentials { provider_name: "ProfileFile", access_key_id: "K", secret_access_key: "** redacted **", expires_after: never }, role_arn: "r", session_name: "s", external_id: Some("x"), policy: None, policy_arns: None, duration_seconds: None, tags: None, settings: CallSettings { region: Some("eu-west-1"), use_fips: None, use_dual_stack: None, max_attempts: 3, timeouts: Timeouts { connect_ms: None, read_ms: None, operation_ms: None, attempt_ms: None } } }))"#,
+        ),
+    ];
+    for (script, want) in table {
+        let words = words_of(rt.alloc(), script)?;
+        assert_eq!(rt; words.as_str(), *want, "{script}");
+    }
+    Ok(())
+}
+
+// Sections that were refused, and whether the plan for them is built.
+fn refused_words(alloc: Global) -> Result<String, OutOfMemory> {
+    let reason = Text::of(alloc, "line 3")?;
+    let config = ProviderConfig::without_region(alloc)?.with_profiles(ProfileSource::Refused(
+        reason,
+    ));
+    let built = is_built(alloc, &config)?;
+    let devices = ScriptDevices::new(alloc, DeviceLists::empty(alloc))?;
+    let mut world = World::new(alloc, devices);
+    let chain = chain_of(alloc, config, None, &mut world)?;
+    let answer = call(alloc, &chain, &mut world)?;
+    Ok(format!(in alloc; "{built} {answer}")?)
+}
+
+#[test]
+fn refused_sections(rt: HostRuntime) -> Result<(), Fail> {
+    let words = refused_words(rt.alloc())?;
+    assert_eq!(rt;
+        words.as_str(),
+        r#"true InvalidConfiguration(Profile(InvalidProfile("line 3")))"#
+    );
+    Ok(())
+}

@@ -1,0 +1,12 @@
+-- The world is a new one over the lists.
+use Rattle.std.proofs.Common.{◌≡◌, ◌∙◌, ap, subst, IfOk, option_map, string_bytes}
+use Rattle.cfg_values.specs.Text.{characters}
+use Rattle.cfg_program.specs.Calls.{AnswersOver}
+use Rattle.cfg_program.proofs.resolve.answer_over.Goals as goal
+
+pub returns : goal.returns
+returns c =
+    let same : c.new-world.result.devices.lists ≡ c.args.lists = ap (λ w. w.devices.lists) c.new-world.ensures ∙ ap (λ d. d.lists) c.in_ok-devices.ensures in
+    let named = option_map characters (option_map (λ t. string_bytes t) c.args.region) in
+    subst (λ l. IfOk c.answer.result (λ a. AnswersOver (record c.args.config { region = named }) l a.is_ok a.line.items)) same
+    (subst (λ r. IfOk c.answer.result (λ a. AnswersOver (record c.args.config { region = r }) c.new-world.result.devices.lists a.is_ok a.line.items)) c.in_ok-region.ensures c.answer.ensures)

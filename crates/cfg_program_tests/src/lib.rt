@@ -1,0 +1,5 @@
+//! The tests of cfg_program, over public calls: what no clause says.
+#![tactic(auto)]
+
+#[cfg(test)]
+mod program;

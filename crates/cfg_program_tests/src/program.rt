@@ -1,0 +1,454 @@
+// What no clause says: worked examples of the definitions, how often a source is read and a sink
+// written, and that calls succeed.
+ghost use Rattle.std.specs.Prelude.{◌<◌};
+
+use cfg_program::run::run;
+use cfg_program::{HELP, Status, VERSION};
+use cfg_types::OutOfMemory;
+use cfg_world::{
+    DeviceLists, MemorySink, MemorySource, ReaderSource, ScriptDevices, Source, World,
+};
+use std::alloc::{AllocError, Global};
+use std::io::Read;
+use std::test::Fail;
+use std::{io, str};
+
+fn world(alloc: Global) -> Result<World<ScriptDevices>, OutOfMemory> {
+    let devices = ScriptDevices::new(alloc, DeviceLists::empty(alloc))?;
+    Ok(World::new(alloc, devices))
+}
+
+fn words_in(alloc: Global, given: &[&str]) -> Result<Vec<String>, AllocError> {
+    let mut words = Vec::new(alloc);
+    for word in given {
+        words.push(String::from_str(alloc, word)?)?;
+    }
+    Ok(words)
+}
+
+// A status, and what was written.
+fn ending(alloc: Global, status: Status, written: &[u8]) -> Result<String, AllocError> {
+    match str::from_utf8(written) {
+        Ok(text) => format!(in alloc; "{status:?} {text}"),
+        Err(_) => format!(in alloc; "{status:?} {written:?}"),
+    }
+}
+
+// How a run over a source ends. Of the sink, which takes so many bytes a call, this call fails.
+fn run_over<S: Source>(
+    alloc: Global,
+    words: &[&str],
+    source: &mut S,
+    most: usize,
+    fails: u64,
+) -> Result<String, OutOfMemory>
+    requires { 0 < most }
+{
+    let words = words_in(alloc, words)?;
+    let mut sink = MemorySink::new(alloc, Vec::from_slice(alloc, &[fails])?, most);
+    let mut world = world(alloc)?;
+    let status = run(
+        alloc,
+        words.as_slice(),
+        source,
+        &mut sink,
+        Vec::new(alloc),
+        &mut world,
+    );
+    Ok(ending(alloc, status, sink.written())?)
+}
+
+// How a run over these bytes ends, which come and go in pieces of so many. Of the source this call
+// fails, and of the sink that: calls are counted from 1, and no call has the number 0.
+fn run_in_pieces(
+    alloc: Global,
+    words: &[&str],
+    input: &[u8],
+    most: usize,
+    source_fails: u64,
+    sink_fails: u64,
+) -> Result<String, OutOfMemory>
+    requires { 0 < most }
+{
+    let input = Vec::from_slice(alloc, input)?;
+    let failing = Vec::from_slice(alloc, &[source_fails])?;
+    let mut source = MemorySource::new(input, failing, most);
+    run_over(alloc, words, &mut source, most, sink_fails)
+}
+
+fn resolved(alloc: Global, script: &str) -> Result<String, OutOfMemory> {
+    run_in_pieces(alloc, &["resolve"], script.as_bytes(), 4096, 0, 0)
+}
+
+// What the crate answers, of which this port is one, on the same scripts.
+#[test]
+fn scripts_with_credentials(rt: HostRuntime) -> Result<(), Fail> {
+    let table: &[(&str, &str)] = &[
+        // Keys in the environment.
+        (
+            r#"{"variables":[["AWS_ACCESS_KEY_ID","access"],["AWS_SECRET_ACCESS_KEY"," "],["SECRET_ACCESS_KEY","secret"],["AWS_SESSION_TOKEN","token"]]}"#,
+            "Done credentials =access =EnvironmentVariable none -\n",
+        ),
+        // Keys in a profile.
+        (
+            r#"{"profiles":[["default",[["aws_access_key_id","K"],["aws_secret_access_key","S"]]]]}"#,
+            "Done credentials =K =ProfileFile none -\n",
+        ),
+        // The environment comes first.
+        (
+            r#"{"variables":[["AWS_ACCESS_KEY_ID","E"],["AWS_SECRET_ACCESS_KEY","s"]],"profiles":[["default",[["aws_access_key_id","K"],["aws_secret_access_key","S"]]]]}"#,
+            "Done credentials =E =EnvironmentVariable none -\n",
+        ),
+        // A blank key passes on.
+        (
+            r#"{"variables":[["AWS_ACCESS_KEY_ID","\u2003 "],["AWS_SECRET_ACCESS_KEY","s"]],"profiles":[["default",[["aws_access_key_id","K"],["aws_secret_access_key","S"]]]]}"#,
+            "Done credentials =K =ProfileFile none -\n",
+        ),
+        // A role.
+        (
+            r#"{"profiles":[["default",[["role_arn","r"],["source_profile","b"]]],["b",[["aws_access_key_id","K"],["aws_secret_access_key","S"]]]],"clock":[7],"replies":{"assume-role":[{"id":"KA","secret":"SA","token":"TA","expires":2000}]}}"#,
+            "Done credentials =KA =AssumeRoleProvider 2000.000000000 now,assume-role\n",
+        ),
+        // A role with a session name.
+        (
+            r#"{"profiles":[["default",[["role_arn","r"],["source_profile","b"],["role_session_name","s"]]],["b",[["aws_access_key_id","K"],["aws_secret_access_key","S"]]]],"clock":[7],"replies":{"assume-role":[{"id":"KA","secret":"SA","token":"TA","expires":2000}]}}"#,
+            "Done credentials =KA =AssumeRoleProvider 2000.000000000 assume-role\n",
+        ),
+        // An ARN of five parts.
+        (
+            r#"{"profiles":[["default",[["role_arn","r"],["source_profile","b"]]],["b",[["aws_access_key_id","K"],["aws_secret_access_key","S"]]]],"clock":[7],"replies":{"assume-role":[{"id":"KA","secret":"SA","token":"TA","expires":2000,"arn":"a:b:c:d:e"}]}}"#,
+            "Done credentials =KA =AssumeRoleProvider 2000.000000000 now,assume-role\n",
+        ),
+        // An expiry before the epoch.
+        (
+            r#"{"profiles":[["default",[["role_arn","r"],["source_profile","b"]]],["b",[["aws_access_key_id","K"],["aws_secret_access_key","S"]]]],"clock":[7],"replies":{"assume-role":[{"id":"KA","secret":"SA","token":"TA","expires":[-5,7]}]}}"#,
+            "Done credentials =KA =AssumeRoleProvider -5.000000007 now,assume-role\n",
+        ),
+        // An expiry with nanoseconds.
+        (
+            r#"{"profiles":[["default",[["role_arn","r"],["source_profile","b"]]],["b",[["aws_access_key_id","K"],["aws_secret_access_key","S"]]]],"clock":[7],"replies":{"assume-role":[{"id":"KA","secret":"SA","token":"TA","expires":[2000,123456789]}]}}"#,
+            "Done credentials =KA =AssumeRoleProvider 2000.123456789 now,assume-role\n",
+        ),
+        // A role over a section with a role and keys.
+        (
+            r#"{"profiles":[["default",[["role_arn","r"],["source_profile","b"]]],["b",[["aws_access_key_id","K"],["aws_secret_access_key","S"],["role_arn","x"],["source_profile","gone"]]]],"clock":[7],"replies":{"assume-role":[{"id":"KA","secret":"SA","token":"TA","expires":2000}]}}"#,
+            "Done credentials =KA =AssumeRoleProvider 2000.000000000 now,assume-role\n",
+        ),
+        // Empty keys are keys.
+        (
+            r#"{"profiles":[["default",[["aws_access_key_id",""],["aws_secret_access_key",""]]]]}"#,
+            "Done credentials = =ProfileFile none -\n",
+        ),
+        // Keys in any case, the later counts.
+        (
+            r#"{"profiles":[["default",[["AWS_Access_Key_ID","A"],["aws_access_key_id","B"],["aws_secret_access_key","S"]]]]}"#,
+            "Done credentials =B =ProfileFile none -\n",
+        ),
+        // The later of two sections.
+        (
+            r#"{"profiles":[["default",[["aws_access_key_id","A"],["aws_secret_access_key","S"]]],["default",[["aws_access_key_id","B"],["aws_secret_access_key","S"]]]]}"#,
+            "Done credentials =B =ProfileFile none -\n",
+        ),
+        // A selected profile.
+        (
+            r#"{"selected":"p","variables":[["AWS_PROFILE","q"]],"profiles":[["p",[["aws_access_key_id","P"],["aws_secret_access_key","S"]]],["q",[["aws_access_key_id","K"],["aws_secret_access_key","S"]]]]}"#,
+            "Done credentials =P =ProfileFile none -\n",
+        ),
+        // The environment's profile.
+        (
+            r#"{"variables":[["AWS_PROFILE","q"]],"profiles":[["default",[["aws_access_key_id","P"],["aws_secret_access_key","S"]]],["q",[["aws_access_key_id","K"],["aws_secret_access_key","S"]]]]}"#,
+            "Done credentials =K =ProfileFile none -\n",
+        ),
+        // An environment's profile that is not Unicode.
+        (
+            r#"{"variables":[["AWS_PROFILE",null]],"profiles":[["default",[["aws_access_key_id","K"],["aws_secret_access_key","S"]]]]}"#,
+            "Done credentials =K =ProfileFile none -\n",
+        ),
+        // The longest escapes.
+        (
+            r#"{"profiles":[["default",[["aws_access_key_id","%\u0000 \u007f\u00e9\ud83d\ude00~!"],["aws_secret_access_key","S"]]]]}"#,
+            "Done credentials =%25%00%20%7F%C3%A9%F0%9F%98%80~! =ProfileFile none -\n",
+        ),
+        // A region with a role.
+        (
+            r#"{"profiles":[["default",[["role_arn","r"],["source_profile","b"]]],["b",[["aws_access_key_id","K"],["aws_secret_access_key","S"]]]],"clock":[7],"replies":{"assume-role":[{"id":"KA","secret":"SA","token":"TA","expires":2000}]},"region":"eu-west-1"}"#,
+            "Done credentials =KA =AssumeRoleProvider 2000.000000000 now,assume-role\n",
+        ),
+        // A role that is not selected may have any source.
+        (
+            r#"{"profiles":[["other",[["role_arn","r"]]],["default",[["aws_access_key_id","K"],["aws_secret_access_key","S"]]]]}"#,
+            "Done credentials =K =ProfileFile none -\n",
+        ),
+    ];
+    for (script, want) in table {
+        let told = resolved(rt.alloc(), script)?;
+        assert_eq!(rt; told.as_str(), *want, "{script}");
+    }
+    Ok(())
+}
+
+#[test]
+fn scripts_with_an_error(rt: HostRuntime) -> Result<(), Fail> {
+    let table: &[(&str, &str)] = &[
+        // A key that is not Unicode stops the chain.
+        (
+            r#"{"variables":[["AWS_ACCESS_KEY_ID",null]],"profiles":[["default",[["aws_access_key_id","K"],["aws_secret_access_key","S"]]]]}"#,
+            "Refused error Unhandled -\n",
+        ),
+        // A role without a reply.
+        (
+            r#"{"profiles":[["default",[["role_arn","r"],["source_profile","b"]]],["b",[["aws_access_key_id","K"],["aws_secret_access_key","S"]]]],"clock":[7],"replies":{"assume-role":[]}}"#,
+            "Refused error ProviderError now,assume-role!\n",
+        ),
+        // A role that is refused.
+        (
+            r#"{"profiles":[["default",[["role_arn","r"],["source_profile","b"]]],["b",[["aws_access_key_id","K"],["aws_secret_access_key","S"]]]],"clock":[7],"replies":{"assume-role":[{"refused":"RegionDisabled","message":"no"}]}}"#,
+            "Refused error ProviderError now,assume-role\n",
+        ),
+        // A role whose request has no reply in time.
+        (
+            r#"{"profiles":[["default",[["role_arn","r"],["source_profile","b"]]],["b",[["aws_access_key_id","K"],["aws_secret_access_key","S"]]]],"clock":[7],"replies":{"assume-role":["timeout"]}}"#,
+            "Refused error ProviderError now,assume-role!\n",
+        ),
+        // A role whose reply is broken.
+        (
+            r#"{"profiles":[["default",[["role_arn","r"],["source_profile","b"]]],["b",[["aws_access_key_id","K"],["aws_secret_access_key","S"]]]],"clock":[7],"replies":{"assume-role":["broken"]}}"#,
+            "Refused error ProviderError now,assume-role!\n",
+        ),
+        // An ARN of four parts.
+        (
+            r#"{"profiles":[["default",[["role_arn","r"],["source_profile","b"]]],["b",[["aws_access_key_id","K"],["aws_secret_access_key","S"]]]],"clock":[7],"replies":{"assume-role":[{"id":"KA","secret":"SA","token":"TA","expires":2000,"arn":"a:b:c:d"}]}}"#,
+            "Refused error ProviderError now,assume-role\n",
+        ),
+        // A reply without credentials.
+        (
+            r#"{"profiles":[["default",[["role_arn","r"],["source_profile","b"]]],["b",[["aws_access_key_id","K"],["aws_secret_access_key","S"]]]],"clock":[7],"replies":{"assume-role":[null]}}"#,
+            "Refused error ProviderError now,assume-role\n",
+        ),
+        // A secret is missing.
+        (
+            r#"{"profiles":[["default",[["aws_access_key_id","K"]]]]}"#,
+            "Refused error InvalidConfiguration -\n",
+        ),
+        // An access key is missing.
+        (
+            r#"{"profiles":[["default",[["aws_secret_access_key","S"]]]]}"#,
+            "Refused error InvalidConfiguration -\n",
+        ),
+        // A session token alone.
+        (
+            r#"{"profiles":[["default",[["aws_session_token","T"]]]]}"#,
+            "Refused error InvalidConfiguration -\n",
+        ),
+        // Names of sections are exact.
+        (
+            r#"{"profiles":[["Default",[["aws_access_key_id","K"],["aws_secret_access_key","S"]]]],"variables":[["AWS_EC2_METADATA_DISABLED","TRUE"]]}"#,
+            "Refused error CredentialsNotLoaded -\n",
+        ),
+        // An unknown profile.
+        (
+            r#"{"selected":"x","profiles":[["default",[["aws_access_key_id","K"],["aws_secret_access_key","S"]]]],"variables":[["AWS_EC2_METADATA_DISABLED","TRUE"]]}"#,
+            "Refused error CredentialsNotLoaded -\n",
+        ),
+        // No default among the sections.
+        (
+            r#"{"profiles":[["p",[["aws_access_key_id","K"],["aws_secret_access_key","S"]]]],"variables":[["AWS_EC2_METADATA_DISABLED","TRUE"]]}"#,
+            "Refused error CredentialsNotLoaded -\n",
+        ),
+        // No credentials in the profile.
+        (
+            r#"{"profiles":[["default",[["region","eu-west-1"]]]],"variables":[["AWS_EC2_METADATA_DISABLED","TRUE"]]}"#,
+            "Refused error CredentialsNotLoaded -\n",
+        ),
+        // Nothing at all.
+        (
+            r#"{"variables":[["AWS_EC2_METADATA_DISABLED","TRUE"]]}"#,
+            "Refused error CredentialsNotLoaded -\n",
+        ),
+    ];
+    for (script, want) in table {
+        let told = resolved(rt.alloc(), script)?;
+        assert_eq!(rt; told.as_str(), *want, "{script}");
+    }
+    Ok(())
+}
+
+#[test]
+fn scripts_without_a_call(rt: HostRuntime) -> Result<(), Fail> {
+    let table: &[(&str, &str)] = &[
+        (r#"{"callers":[]}"#, "NoScript "),
+        (
+            r#"{"profiles":[["default",[["credential_process","x"]]]],"bogus":1}"#,
+            "NoScript ",
+        ),
+        (r#"{"calls":2}"#, "NotBuilt "),
+        (r#"{"calls":101}"#, "NoScript "),
+        (r#"{"selected":1,"sleep":true}"#, "NoScript "),
+        (r#"{"replies":{"http":[],"bogus":1}}"#, "NoScript "),
+        (
+            r#"{"profiles":[["default",[["credential_process","x"]]]]}"#,
+            "NotBuilt ",
+        ),
+        (
+            r#"{"profiles":[["other",[["SSO_Session","x"]]],["default",[["aws_access_key_id","K"],["aws_secret_access_key","S"]]]]}"#,
+            "NotBuilt ",
+        ),
+        (
+            r#"{"profiles":[["default",[["login_session","x"]]],["default",[["aws_access_key_id","K"],["aws_secret_access_key","S"]]]]}"#,
+            "NotBuilt ",
+        ),
+        (
+            r#"{"profiles":[["default",[["role_arn","r"]]]]}"#,
+            "NotBuilt ",
+        ),
+        (
+            r#"{"profiles":[["default",[["role_arn","r"],["source_profile","gone"]]]]}"#,
+            "NotBuilt ",
+        ),
+        (
+            r#"{"profiles":[["default",[["role_arn","r"],["source_profile","default"],["aws_access_key_id","K"],["aws_secret_access_key","S"]]]]}"#,
+            "NotBuilt ",
+        ),
+        (
+            r#"{"variables":[["AWS_ACCESS_KEY_ID","K"],["AWS_SECRET_ACCESS_KEY","S"]],"profiles":[["default",[["credential_source","Environment"]]]]}"#,
+            "NotBuilt ",
+        ),
+    ];
+    for (script, want) in table {
+        let told = resolved(rt.alloc(), script)?;
+        assert_eq!(rt; told.as_str(), *want, "{script}");
+    }
+    Ok(())
+}
+
+#[test]
+fn texts_are_told(rt: HostRuntime) -> Result<(), Fail> {
+    for (word, text) in [("--help", HELP), ("--version", VERSION)] {
+        let told = run_in_pieces(rt.alloc(), &[word], b"no script", 4096, 1, 0)?;
+        let want = format!(in rt.alloc(); "Done {text}")?;
+        assert_eq!(rt; told.as_str(), want.as_str());
+    }
+    Ok(())
+}
+
+// Neither the source nor the sink is called, of which the first calls fail.
+#[test]
+fn unknown_commands_come_before_the_input(rt: HostRuntime) -> Result<(), Fail> {
+    let table: &[&[&str]] = &[
+        &[],
+        &[""],
+        &["-h"],
+        &["Resolve"],
+        &["resolve", ""],
+        &["resolve", "resolve"],
+        &["--help", "--version"],
+    ];
+    for words in table {
+        let told = run_in_pieces(rt.alloc(), words, b"{}", 1, 1, 1)?;
+        assert_eq!(rt; told.as_str(), "Words ");
+    }
+    Ok(())
+}
+
+// So many bytes of white space, and what comes behind them.
+fn behind_white_space(alloc: Global, length: usize, text: &str) -> Result<String, OutOfMemory> {
+    let mut input = Vec::new(alloc);
+    for _ in 0..length {
+        input.push(b' ')?;
+    }
+    input.extend_from_slice(text.as_bytes())?;
+    run_in_pieces(alloc, &["resolve"], input.as_slice(), 65_536, 0, 0)
+}
+
+#[test]
+fn long_scripts(rt: HostRuntime) -> Result<(), Fail> {
+    for (length, text, want) in [
+        (70_000, "{}", "Refused error CredentialsNotLoaded -\n"),
+        (70_000, "{", "NoScript "),
+        (70_000, r#"{"bogus":1}"#, "NoScript "),
+        (1_048_576, "", "NoScript "),
+        (1_048_576, "{", "TooLong "),
+    ] {
+        let told = behind_white_space(rt.alloc(), length, text)?;
+        assert_eq!(rt; told.as_str(), want, "{length} {text}");
+    }
+    Ok(())
+}
+
+// A script of keys, and its line.
+const KEYS: &str = r#"{"variables":[["AWS_ACCESS_KEY_ID","A"],["AWS_SECRET_ACCESS_KEY","S"]]}"#;
+
+const LINE: &str = "credentials =A =EnvironmentVariable none -\n";
+
+#[test]
+fn bytes_come_in_pieces(rt: HostRuntime) -> Result<(), Fail> {
+    let want = format!(in rt.alloc(); "Done {LINE}")?;
+    for most in [1, 7, 100_000] {
+        let told = run_in_pieces(rt.alloc(), &["resolve"], KEYS.as_bytes(), most, 0, 0)?;
+        assert_eq!(rt; told.as_str(), want.as_str(), "{most}");
+    }
+    Ok(())
+}
+
+// A sink that takes the whole line is called once: its second call would fail.
+#[test]
+fn a_line_is_one_write(rt: HostRuntime) -> Result<(), Fail> {
+    let told = run_in_pieces(rt.alloc(), &["resolve"], KEYS.as_bytes(), 100_000, 0, 2)?;
+    assert!(rt; told.as_str().starts_with("Done "));
+    Ok(())
+}
+
+// The reads of each byte in turn, and of the end.
+#[test]
+fn a_source_that_fails_at_any_read(rt: HostRuntime) -> Result<(), Fail> {
+    for at in 0..=KEYS.len() {
+        let call = at as u64 + 1;
+        let told = run_in_pieces(rt.alloc(), &["resolve"], KEYS.as_bytes(), 1, call, 0)?;
+        assert_eq!(rt; told.as_str(), "SourceFault ", "{at}");
+    }
+    Ok(())
+}
+
+// The write of each byte in turn is the call of its number: no call writes nothing.
+#[test]
+fn a_sink_that_fails_has_a_prefix_of_the_line(rt: HostRuntime) -> Result<(), Fail> {
+    for at in 0..LINE.len() {
+        let call = at as u64 + 1;
+        let told = run_in_pieces(rt.alloc(), &["resolve"], KEYS.as_bytes(), 1, 0, call)?;
+        let prefix = LINE.get(..at).ok_or("no prefix")?;
+        let want = format!(in rt.alloc(); "SinkFault {prefix}")?;
+        assert_eq!(rt; told.as_str(), want.as_str());
+    }
+    Ok(())
+}
+
+/// A reader that fails where it is read again after its end.
+#[derive(Drop)]
+struct EndsOnce {
+    text: &'static [u8],
+    ended: bool,
+}
+
+impl Read for EndsOnce {
+    fn read(&mut self, into: &mut [u8]) -> io::Result<usize> {
+        if self.ended {
+            return Err(io::Error::from(io::ErrorKind::BrokenPipe));
+        }
+        let read = self.text.read(into)?;
+        self.ended = read == 0;
+        Ok(read)
+    }
+}
+
+#[test]
+fn a_source_is_not_read_after_its_end(rt: HostRuntime) -> Result<(), Fail> {
+    let mut source = ReaderSource::new(EndsOnce {
+        text: KEYS.as_bytes(),
+        ended: false,
+    });
+    let told = run_over(rt.alloc(), &["resolve"], &mut source, 4096, 0)?;
+    assert!(rt; told.as_str().starts_with("Done "));
+    let mut buffer = [0; 1];
+    assert!(rt; source.read(&mut buffer).is_err());
+    Ok(())
+}

@@ -1,0 +1,89 @@
+-- Values that stand alone: texts, truths, whole numbers, contents.
+use Rattle.std.specs.Prelude.{ℕ, ℤ, pos, negsuc, List, Bool, codes, Option, Some, None, option_and_then, nat_lt, int_lt, ◌==◌, if◌then◌else◌}
+use Rattle.std.specs.Result.{result_ok}
+use Rattle.serde_json.specs.Data.{Data}
+use Rattle.serde_json.specs.Find.{as_str, as_bool, as_number, as_i64, as_u64}
+use Rattle.hex.specs.Hex.{decode_of}
+use Rattle.http_header.specs.FieldName.{is_field_name}
+use Rattle.cfg_values.specs.Text.{characters}
+use Rattle.cfg_script.specs.Forms.{◌>>=◌}
+use Rattle.cfg_script.specs.Table.{Form, whole_form, standing_for, text_or, null_or, required_row, ◌&◌, no_rows, object_of}
+use Rattle.cfg_script.specs.declared.fault.Wanted.TheVariants as wanted
+
+-- a text, as its bytes
+abbrev pub text : Form (List ℕ)
+text = whole_form wanted.Text as_str
+
+-- a text, as its characters
+abbrev pub characters_of : Form (List ℕ)
+characters_of = standing_for characters text
+
+-- true or false
+abbrev pub truth : Form Bool
+truth = whole_form wanted.Truth as_bool
+
+-- a whole number of 64 bits with sign
+abbrev pub whole_of : Data → Option ℤ
+whole_of d = option_and_then as_i64 (as_number d)
+
+abbrev pub whole : Form ℤ
+whole = whole_form wanted.Whole whole_of
+
+-- a whole number of 64 bits without sign
+abbrev pub natural_of : Data → Option ℕ
+natural_of d = option_and_then as_u64 (as_number d)
+
+abbrev pub natural : Form ℕ
+natural = whole_form wanted.Natural natural_of
+
+-- a whole number of 32 bits with sign: the status of a command
+unfoldable pub command_status_of : Data → Option ℤ
+command_status_of d = whole_of d >>= λ z.
+    if int_lt z (negsuc 2147483647) then None
+    else (if int_lt (pos 2147483647) z then None else Some z)
+
+abbrev pub command_status : Form ℤ
+command_status = whole_form wanted.CommandStatus command_status_of
+
+-- a whole number from 100 to 599: the status of a reply of HTTP
+unfoldable pub http_status_of : Data → Option ℕ
+http_status_of d = natural_of d >>= λ n. if nat_lt n 100 then None else (if nat_lt 599 n then None else Some n)
+
+abbrev pub http_status : Form ℕ
+http_status = whole_form wanted.HttpStatus http_status_of
+
+-- a text that is the name of a header, as its characters
+abbrev pub header_named : List ℕ → Option (List ℕ)
+header_named name = if is_field_name name then Some (characters name) else None
+
+unfoldable pub header_name_of : Data → Option (List ℕ)
+header_name_of d = as_str d >>= header_named
+
+abbrev pub header_name : Form (List ℕ)
+header_name = whole_form wanted.HeaderName header_name_of
+
+-- the bytes that hexadecimal digits stand for, two digits a byte
+unfoldable pub hex_bytes_of : Data → Option (List ℕ)
+hex_bytes_of d = as_str d >>= λ digits. result_ok (decode_of digits)
+
+abbrev pub hex_bytes : Form (List ℕ)
+hex_bytes = whole_form wanted.HexDigits hex_bytes_of
+
+-- {"hex": digits}, and no other member
+abbrev pub by_digits : Form (List ℕ)
+by_digits = standing_for (λ p. p.0) (object_of wanted.Content (required_row (codes "hex") hex_bytes & no_rows))
+
+-- a content: a text, which stands for its bytes, or {"hex": digits}
+abbrev pub content : Form (List ℕ)
+content = text_or wanted.Content Some by_digits
+
+-- a content, or null
+abbrev pub content_or_null : Form (Option (List ℕ))
+content_or_null = null_or None (standing_for Some content)
+
+-- one call in all; more are not built
+abbrev pub one_call_of : Data → Option (Unit {0})
+one_call_of d = natural_of d >>= λ n. if n == 1 then Some tt else None
+
+abbrev pub one_call : Form (Unit {0})
+one_call = whole_form wanted.Calls one_call_of

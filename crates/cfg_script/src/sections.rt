@@ -1,0 +1,120 @@
+//! Variables and sections.
+ghost use Rattle.std.specs.Prelude.{◌≡◌};
+ghost use Rattle.serde_json.specs.View.{view};
+ghost use Rattle.cfg_script.specs.Sections.{env_text_from};
+
+use crate::fault::{Fault, Wanted, unless_read};
+use crate::part::{Items, Part, pair_fault, read_pair};
+use crate::script::ScriptError;
+use crate::values::Named;
+use cfg_types::{EnvText, OutOfMemory, Text};
+use serde_json::Value;
+use std::alloc::Global;
+
+fn read_env_text(value: Value) -> Option<EnvText>
+    ensures { result ≡ env_text_from (view value) }
+{
+    match value {
+        Value::Null => Some(EnvText::NotUnicode),
+        Value::String(text) => Some(EnvText::Text(Text::from_string(text))),
+        _ => None,
+    }
+}
+
+/// A text, or null for a value that is not Unicode.
+pub(crate) struct Set;
+
+impl Part for Set {
+    ghost use Rattle.cfg_types.specs.declared.environment.EnvText.{EnvText};
+    ghost use Rattle.cfg_script.specs.Sections.{env_text};
+
+    type Read = EnvText;
+
+    ghost Plain = { EnvText };
+
+    ghost seen = { λ t. t };
+
+    ghost form = { env_text };
+
+    fn read(_: Global, value: Value) -> Result<EnvText, ScriptError> {
+        read_env_text(value).ok_or(ScriptError::NoScript)
+    }
+
+    fn find_fault(alloc: Global, value: Value) -> Result<Option<Fault>, OutOfMemory> {
+        Ok(unless_read(alloc, Wanted::TextOrNull, read_env_text(value)))
+    }
+}
+
+/// A variable's name and what it is set to.
+pub(crate) struct Variable;
+
+impl Part for Variable {
+    ghost use Rattle.std.specs.Prelude.{List, ℕ};
+    ghost use Rattle.cfg_values.specs.TextMap.{named};
+    ghost use Rattle.cfg_types.specs.declared.environment.EnvText.{EnvText};
+    ghost use Rattle.cfg_script.specs.Sections.{variable};
+
+    type Read = (String, EnvText);
+
+    ghost Plain = { List ℕ × EnvText };
+
+    ghost seen = { named };
+
+    ghost form = { variable };
+
+    fn read(alloc: Global, value: Value) -> Result<(String, EnvText), ScriptError> {
+        read_pair::<Named, Set>(alloc, value)
+    }
+
+    fn find_fault(alloc: Global, value: Value) -> Result<Option<Fault>, OutOfMemory> {
+        pair_fault::<Named, Set>(alloc, Wanted::Variable, value)
+    }
+}
+
+/// A key and its value.
+pub(crate) struct Property;
+
+impl Part for Property {
+    ghost use Rattle.cfg_script.specs.Script.{Property, property_bytes};
+    ghost use Rattle.cfg_script.specs.Sections.{property};
+
+    type Read = (String, String);
+
+    ghost Plain = { Property };
+
+    ghost seen = { property_bytes };
+
+    ghost form = { property };
+
+    fn read(alloc: Global, value: Value) -> Result<(String, String), ScriptError> {
+        read_pair::<Named, Named>(alloc, value)
+    }
+
+    fn find_fault(alloc: Global, value: Value) -> Result<Option<Fault>, OutOfMemory> {
+        pair_fault::<Named, Named>(alloc, Wanted::Property, value)
+    }
+}
+
+/// A section's name and its properties.
+pub(crate) struct Section;
+
+impl Part for Section {
+    ghost use Rattle.cfg_script.specs.Script.{Section, section_bytes};
+    ghost use Rattle.cfg_script.specs.Sections.{section};
+
+    type Read = (String, Vec<(String, String)>);
+
+    ghost Plain = { Section };
+
+    ghost seen = { section_bytes };
+
+    ghost form = { section };
+
+    fn read(alloc: Global, value: Value) -> Result<(String, Vec<(String, String)>), ScriptError> {
+        read_pair::<Named, Items<Property>>(alloc, value)
+    }
+
+    fn find_fault(alloc: Global, value: Value) -> Result<Option<Fault>, OutOfMemory> {
+        pair_fault::<Named, Items<Property>>(alloc, Wanted::Section, value)
+    }
+}

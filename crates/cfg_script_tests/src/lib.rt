@@ -1,0 +1,5 @@
+//! The tests of cfg_script, over public calls: what no clause says.
+#![tactic(auto)]
+
+#[cfg(test)]
+mod script;

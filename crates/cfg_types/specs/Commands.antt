@@ -1,0 +1,17 @@
+-- What is shown of a command whose arguments may be secrets.
+use Rattle.std.specs.Prelude.{ℕ, List, [], ◌∷◌, ◌++◌, Bool, true, false, if◌then◌else◌, codes}
+use Rattle.std.specs.Char.{is_whitespace}
+
+-- the text before the first white space
+abbrev pub program : List ℕ → List ℕ
+program [] = []
+program (c ∷ text) = if is_whitespace c then [] else c ∷ program text
+
+-- whether there is white space
+abbrev pub has_white_space : List ℕ → Bool
+has_white_space [] = false
+has_white_space (c ∷ text) = if is_whitespace c then true else has_white_space text
+
+-- the text before the first white space, and a note where something is left out
+abbrev pub shown_command : List ℕ → List ℕ
+shown_command text = program text ++ (if has_white_space text then codes " ** arguments redacted **" else [])

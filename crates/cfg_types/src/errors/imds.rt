@@ -1,0 +1,252 @@
+//! Errors of the instance metadata service's client.
+ghost use Rattle.std.specs.Prelude.{◌≡◌};
+ghost use Rattle.cfg_types.specs.Metadata.{is_dispatch_failure as is_dispatch_failure_of};
+ghost use Rattle.std.specs.Prelude.{◌++◌, codes};
+ghost use Rattle.std.specs.Fmt.{decimal, WritesOnOk, WritesStyledOnOk};
+
+use crate::errors::pieces::around;
+use crate::reply::{FailKind, HttpReply};
+use cfg_values::{OutOfMemory, Text};
+use std::error::Error;
+use std::fmt;
+
+/// Which address of the instance metadata service is used.
+#[derive(Clone, Copy, Debug, PartialEq, Eq)]
+pub enum EndpointMode {
+    IpV4,
+    IpV6,
+}
+
+/// A text that names no mode.
+#[derive(Drop, Debug, PartialEq, Eq)]
+pub enum InvalidEndpointMode {
+    Mode(Text),
+    OutOfMemory,
+}
+
+/// Why a client is not built, or asks nothing.
+#[derive(Drop, Debug, PartialEq, Eq)]
+pub enum BuildError {
+    InvalidEndpointMode(InvalidEndpointMode),
+    InvalidEndpointUri(Text),
+    OutOfMemory,
+}
+
+/// Why a reply gives no session token.
+#[derive(Clone, Copy, Debug, PartialEq, Eq)]
+pub enum TokenError {
+    /// It is no header value.
+    InvalidToken,
+    /// The reply does not tell its lifetime.
+    NoTtl,
+    /// Its lifetime is none.
+    InvalidTtl,
+    InvalidParameters,
+    Forbidden,
+}
+
+/// Why there is no session token.
+#[derive(Clone, Copy, Debug, PartialEq, Eq)]
+pub enum FailedToLoadToken {
+    /// The request was not answered.
+    Sent(FailKind),
+    Token(TokenError),
+}
+
+impl FailedToLoadToken {
+    /// Whether the request could not be sent.
+    pub fn is_dispatch_failure(&self) -> bool
+        ensures { result ≡ is_dispatch_failure_of self.now }
+    {
+        match self {
+            FailedToLoadToken::Sent(FailKind::Dispatch) => true,
+            _ => false,
+        }
+    }
+}
+
+/// A reply without a success status.
+#[derive(Drop, Debug, PartialEq, Eq)]
+pub struct ErrorResponse {
+    reply: HttpReply,
+}
+
+impl ErrorResponse {
+    ghost use Rattle.cfg_types.specs.Metadata.{error_reply};
+
+    /// The error of this reply.
+    pub fn new(reply: HttpReply) -> ErrorResponse
+        ensures { error_reply result ≡ reply }
+    {
+        ErrorResponse { reply }
+    }
+
+    /// The reply.
+    pub fn response(&self) -> &HttpReply
+        ensures { result.now ≡ error_reply self.now }
+    {
+        &self.reply
+    }
+}
+
+/// What no rule of the client allows for.
+#[derive(Drop, Debug, PartialEq, Eq)]
+pub enum UnexpectedCause {
+    /// A reply's body is not UTF-8.
+    NotUtf8,
+    /// A request could not be sent.
+    Dispatch,
+    /// The endpoint is none.
+    Endpoint(BuildError),
+    /// This is no path.
+    Path(Text),
+}
+
+/// Why the instance metadata service gives nothing.
+#[derive(Drop, Debug, PartialEq, Eq)]
+pub enum ImdsError {
+    FailedToLoadToken(FailedToLoadToken),
+    ErrorResponse(ErrorResponse),
+    /// A request was not answered.
+    IoError(FailKind),
+    Unexpected(UnexpectedCause),
+    OutOfMemory,
+}
+
+impl From<OutOfMemory> for InvalidEndpointMode {
+    ghost use Rattle.std.specs.Prelude.{◌≡◌};
+    ghost use Rattle.cfg_types.specs.declared.errors.imds.InvalidEndpointMode.TheVariants.{OutOfMemory as memory};
+
+    ghost from_gives = { λ _ e. e ≡ memory };
+
+    fn from(_: OutOfMemory) -> InvalidEndpointMode {
+        InvalidEndpointMode::OutOfMemory
+    }
+}
+
+impl From<OutOfMemory> for BuildError {
+    ghost use Rattle.std.specs.Prelude.{◌≡◌};
+    ghost use Rattle.cfg_types.specs.declared.errors.imds.BuildError.TheVariants.{OutOfMemory as memory};
+
+    ghost from_gives = { λ _ e. e ≡ memory };
+
+    fn from(_: OutOfMemory) -> BuildError {
+        BuildError::OutOfMemory
+    }
+}
+
+impl From<OutOfMemory> for ImdsError {
+    ghost use Rattle.std.specs.Prelude.{◌≡◌};
+    ghost use Rattle.cfg_types.specs.declared.errors.imds.ImdsError.TheVariants.{OutOfMemory as memory};
+
+    ghost from_gives = { λ _ e. e ≡ memory };
+
+    fn from(_: OutOfMemory) -> ImdsError {
+        ImdsError::OutOfMemory
+    }
+}
+
+impl fmt::Display for InvalidEndpointMode {
+    ghost use Rattle.std.specs.Prelude.{Some};
+    ghost use Rattle.cfg_types.specs.ErrorTexts.{endpoint_mode_text};
+
+    ghost output = { λ e. Some (endpoint_mode_text e) };
+
+    ghost styled_output = { λ e _. Some (endpoint_mode_text e) };
+
+    fn fmt<W: fmt::Write>(&self, f: &mut fmt::Formatter<W>) -> fmt::Result {
+        match self {
+            InvalidEndpointMode::Mode(mode) => around(
+                f,
+                "`",
+                mode,
+                "` is not a valid endpoint mode. Valid values are [`IPv4`, `IPv6`]",
+            ),
+            InvalidEndpointMode::OutOfMemory => f.write_str("out of memory"),
+        }
+    }
+}
+
+impl Error for InvalidEndpointMode {}
+
+impl fmt::Display for BuildError {
+    ghost use Rattle.std.specs.Prelude.{Some};
+    ghost use Rattle.cfg_types.specs.ErrorTexts.{build_text};
+
+    ghost output = { λ e. Some (build_text e) };
+
+    ghost styled_output = { λ e _. Some (build_text e) };
+
+    fn fmt<W: fmt::Write>(&self, f: &mut fmt::Formatter<W>) -> fmt::Result {
+        match self {
+            BuildError::InvalidEndpointMode(_) => f.write_str(
+                "failed to build IMDS client: invalid endpoint mode",
+            ),
+            BuildError::InvalidEndpointUri(_) => f.write_str(
+                "failed to build IMDS client: invalid URI",
+            ),
+            BuildError::OutOfMemory => f.write_str("out of memory"),
+        }
+    }
+}
+
+impl Error for BuildError {}
+
+impl fmt::Display for TokenError {
+    ghost use Rattle.std.specs.Prelude.{Some};
+    ghost use Rattle.cfg_types.specs.ErrorTexts.{session_token_text};
+
+    ghost output = { λ e. Some (session_token_text e) };
+
+    ghost styled_output = { λ e _. Some (session_token_text e) };
+
+    fn fmt<W: fmt::Write>(&self, f: &mut fmt::Formatter<W>) -> fmt::Result {
+        match self {
+            TokenError::InvalidToken => f.write_str("invalid token"),
+            TokenError::NoTtl => f.write_str("token response did not contain a TTL header"),
+            TokenError::InvalidTtl => f.write_str("the returned TTL was invalid"),
+            TokenError::InvalidParameters => f.write_str(
+                "invalid request parameters. This indicates an SDK bug.",
+            ),
+            TokenError::Forbidden => f.write_str(
+                "request forbidden: IMDS is disabled or the caller has insufficient permissions.",
+            ),
+        }
+    }
+}
+
+impl Error for TokenError {}
+
+impl fmt::Display for ImdsError {
+    ghost use Rattle.std.specs.Prelude.{Some};
+    ghost use Rattle.cfg_types.specs.ErrorTexts.{imds_text};
+
+    ghost output = { λ e. Some (imds_text e) };
+
+    ghost styled_output = { λ e _. Some (imds_text e) };
+
+    fn fmt<W: fmt::Write>(&self, f: &mut fmt::Formatter<W>) -> fmt::Result {
+        match self {
+            ImdsError::FailedToLoadToken(_) => f.write_str("failed to load IMDS session token"),
+            ImdsError::ErrorResponse(e) => write_code(f, e.response().status),
+            ImdsError::IoError(_) => f.write_str("an IO error occurred communicating with IMDS"),
+            ImdsError::Unexpected(_) => f.write_str(
+                "an unexpected error occurred communicating with IMDS",
+            ),
+            ImdsError::OutOfMemory => f.write_str("out of memory"),
+        }
+    }
+}
+
+impl Error for ImdsError {}
+
+/// Writes that a reply has this status.
+fn write_code<W: fmt::Write>(f: &mut fmt::Formatter<W>, status: u16) -> fmt::Result
+    ensures writes { WritesOnOk W.write_str_gives f.old result (codes "error response from IMDS (code: " ++ (decimal status ++ codes ")")) f.new }
+    ensures styled { WritesStyledOnOk W.write_str_gives f.old result (codes "error response from IMDS (code: " ++ (decimal status ++ codes ")")) f.new }
+{
+    let mut digits = itoa::Buffer::new();
+    f.write_str("error response from IMDS (code: ")?;
+    f.write_str(digits.format(status))?;
+    f.write_str(")")
+}

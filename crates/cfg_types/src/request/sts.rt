@@ -1,0 +1,138 @@
+ghost use Rattle.std.specs.Prelude.{◌≡◌, IfOk};
+
+use crate::credentials::Credentials;
+use crate::settings::CallSettings;
+use cfg_values::{OutOfMemory, Seq, Text, TryCopy, copy_option};
+use std::alloc::Global;
+use std::fmt;
+
+/// A tag of a session.
+#[derive(Debug, PartialEq, Eq, Drop)]
+pub struct Tag {
+    pub key: Text,
+    pub value: Text,
+}
+
+impl TryCopy for Tag {
+    fn copy(&self, alloc: Global) -> Result<Tag, OutOfMemory> {
+        Ok(Tag {
+            key: self.key.copy(alloc)?,
+            value: self.value.copy(alloc)?,
+        })
+    }
+}
+
+/// A call of the AWS Security Token Service's `AssumeRole`, signed by `signer`.
+#[derive(Debug, PartialEq, Eq)]
+pub struct AssumeRole {
+    pub signer: Credentials,
+    pub role_arn: Text,
+    pub session_name: Text,
+    pub external_id: Option<Text>,
+    pub policy: Option<Text>,
+    pub policy_arns: Option<Seq<Text>>,
+    pub duration_seconds: Option<i32>,
+    pub tags: Option<Seq<Tag>>,
+    pub settings: CallSettings,
+}
+
+impl Drop for AssumeRole {
+    fn drop(self) {
+        let AssumeRole {
+            signer: _,
+            role_arn: _,
+            session_name: _,
+            external_id: _,
+            policy: _,
+            policy_arns: _,
+            duration_seconds: _,
+            tags: _,
+            settings: _,
+        } = self;
+    }
+}
+
+impl TryCopy for AssumeRole {
+    fn copy(&self, alloc: Global) -> Result<AssumeRole, OutOfMemory> {
+        let signer = self.signer.copy(alloc)?;
+        let role_arn = self.role_arn.copy(alloc)?;
+        let session_name = self.session_name.copy(alloc)?;
+        let external_id = copy_option(alloc, &self.external_id)?;
+        let policy = copy_option(alloc, &self.policy)?;
+        let policy_arns = copy_option(alloc, &self.policy_arns)?;
+        let tags = copy_option(alloc, &self.tags)?;
+        let settings = self.settings.copy(alloc)?;
+        Ok(AssumeRole {
+            signer,
+            role_arn,
+            session_name,
+            external_id,
+            policy,
+            policy_arns,
+            duration_seconds: self.duration_seconds,
+            tags,
+            settings,
+        })
+    }
+}
+
+/// A call of the AWS Security Token Service's `AssumeRoleWithWebIdentity`, which is not signed.
+#[derive(PartialEq, Eq)]
+pub struct AssumeRoleWithWebIdentity {
+    pub role_arn: Text,
+    pub session_name: Text,
+    /// The web identity token.
+    pub token: Text,
+    pub policy: Option<Text>,
+    pub policy_arns: Option<Seq<Text>>,
+    pub settings: CallSettings,
+}
+
+impl Drop for AssumeRoleWithWebIdentity {
+    fn drop(self) {
+        let AssumeRoleWithWebIdentity {
+            role_arn: _,
+            session_name: _,
+            token: _,
+            policy: _,
+            policy_arns: _,
+            settings: _,
+        } = self;
+    }
+}
+
+impl TryCopy for AssumeRoleWithWebIdentity {
+    fn copy(&self, alloc: Global) -> Result<AssumeRoleWithWebIdentity, OutOfMemory> {
+        let role_arn = self.role_arn.copy(alloc)?;
+        let session_name = self.session_name.copy(alloc)?;
+        let token = self.token.copy(alloc)?;
+        let policy = copy_option(alloc, &self.policy)?;
+        let policy_arns = copy_option(alloc, &self.policy_arns)?;
+        let settings = self.settings.copy(alloc)?;
+        Ok(AssumeRoleWithWebIdentity {
+            role_arn,
+            session_name,
+            token,
+            policy,
+            policy_arns,
+            settings,
+        })
+    }
+}
+
+// The text does not depend on the token.
+impl fmt::Debug for AssumeRoleWithWebIdentity {
+    ghost use Rattle.std.specs.Prelude.{Some};
+    ghost use Rattle.cfg_types.specs.Shown.{shown_web_identity};
+
+    ghost debug_output = { λ r. Some (shown_web_identity r.role_arn r.session_name) };
+
+    fn fmt<W: fmt::Write>(&self, f: &mut fmt::Formatter<W>) -> fmt::Result {
+        let role = self.role_arn.as_str();
+        let session = self.session_name.as_str();
+        write!(
+            f,
+            "AssumeRoleWithWebIdentity {{ role_arn: \"{role}\", session_name: \"{session}\", secrets: \"** redacted **\" }}"
+        )
+    }
+}

@@ -1,0 +1,9 @@
+pub mod Text
+pub mod Moment
+pub mod Instant
+pub mod TextMap
+pub mod Entries
+pub mod WhiteSpace
+pub mod Gives
+pub mod Addresses
+pub mod formers

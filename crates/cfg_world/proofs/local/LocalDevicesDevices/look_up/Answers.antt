@@ -1,0 +1,6 @@
+-- The failure is counted.
+use Rattle.cfg_world.proofs.Tallied.{any_failed}
+use Rattle.cfg_world.proofs.local.LocalDevicesDevices.look_up.Goals as goal
+
+pub returns-clause-asked : goal.returns-clause-asked
+returns-clause-asked g c = any_failed _ _ c.self.inside.faults _ c.self.view_is c.raise_lookups.ensures.raised c.raise_lookups.ensures.small tt
