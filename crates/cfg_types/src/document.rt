@@ -98,7 +98,7 @@ pub enum FieldFault {
 }
 
 /// Why a text is no document of credentials.
-#[derive(Debug, PartialEq, Eq, Drop)]
+#[derive(Debug, PartialEq, Eq)]
 pub enum InvalidJsonCredentials {
     /// The text is no JSON object.
     JsonError(JsonError),
@@ -109,6 +109,18 @@ pub enum InvalidJsonCredentials {
     /// What else is wrong, in words.
     Other(Text),
     OutOfMemory,
+}
+
+impl Drop for InvalidJsonCredentials {
+    fn drop(self) {
+        match self {
+            InvalidJsonCredentials::JsonError(_) => {}
+            InvalidJsonCredentials::MissingField(_) => {}
+            InvalidJsonCredentials::InvalidField { field: _, fault: _ } => {}
+            InvalidJsonCredentials::Other(_) => {}
+            InvalidJsonCredentials::OutOfMemory => {}
+        }
+    }
 }
 
 impl fmt::Display for JsonError {

@@ -104,7 +104,7 @@ pub enum NotLoadedCause {
 }
 
 /// What is wrong with the configuration.
-#[derive(Drop, Debug, PartialEq, Eq)]
+#[derive(Debug, PartialEq, Eq)]
 pub enum ConfigCause {
     Profile(ProfileFileError),
     /// This is no path of the container's endpoint.
@@ -126,6 +126,21 @@ pub enum ConfigCause {
     LoginToken(LoginTokenError),
     /// A custom source's own reason.
     Custom(Text),
+}
+
+impl Drop for ConfigCause {
+    fn drop(self) {
+        match self {
+            ConfigCause::Profile(_) => {}
+            ConfigCause::RelativeUri(_) => {}
+            ConfigCause::FullUri { error: _, uri: _ } => {}
+            ConfigCause::AuthToken => {}
+            ConfigCause::MetadataRole { code: _, message: _ } => {}
+            ConfigCause::AssumeRole(_) => {}
+            ConfigCause::LoginToken(_) => {}
+            ConfigCause::Custom(_) => {}
+        }
+    }
 }
 
 /// What a provider failed at.
@@ -156,7 +171,7 @@ pub enum ProviderCause {
 }
 
 /// What no rule allows for.
-#[derive(Drop, Debug, PartialEq, Eq)]
+#[derive(Debug, PartialEq, Eq)]
 pub enum UnhandledCause {
     /// The variable of this name is not Unicode.
     NotUnicode(Text),
@@ -179,6 +194,24 @@ pub enum UnhandledCause {
     LoginToken(LoginTokenError),
     /// A custom source's own reason.
     Custom(Text),
+}
+
+impl Drop for UnhandledCause {
+    fn drop(self) {
+        match self {
+            UnhandledCause::NotUnicode(_) => {}
+            UnhandledCause::NotUtf8 => {}
+            UnhandledCause::NoDocument(_) => {}
+            UnhandledCause::Sent(_) => {}
+            UnhandledCause::StsNoCredentials => {}
+            UnhandledCause::StsArn(_) => {}
+            UnhandledCause::SsoNoCredentials => {}
+            UnhandledCause::SsoNoAccessKey => {}
+            UnhandledCause::SsoNoSecretKey => {}
+            UnhandledCause::LoginToken(_) => {}
+            UnhandledCause::Custom(_) => {}
+        }
+    }
 }
 
 /// Why there are no credentials.

@@ -1,6 +1,7 @@
 -- A look-up in the hash map is a look-up in the finite map that contracts see.
-use Rattle.std.proofs.Common.{◌≡◌, ℕ, cond, List, [], ◌∷◌, ◌++◌, map, Some, None, length, refl, sym, ap, ◌∙◌, string_bytes}
-use Rattle.std.specs.Prelude.{String}
+use Rattle.std.proofs.Common.{◌≡◌, ℕ, ◌+◌, false, arith, cond, List, [], ◌∷◌, ◌++◌, map, Some, None, length, refl, sym, ap, ◌∙◌, string_bytes}
+use Rattle.std.specs.Prelude.{String, is_some}
+use Rattle.std.specs.List.{AllByRecursion, IsDistinct}
 use Rattle.std.specs.declared.alloc.Global.{Global}
 use Rattle.std.specs.Ordering.{nat_cmp, eq_by_cmp}
 use Rattle.std.specs.Cmp.{eq_by_cmp_equiv}
@@ -10,7 +11,7 @@ use Rattle.std.specs.String.{string_eq}
 use Rattle.std.specs.Map.{lookup}
 use Rattle.std.specs.HashMap as hash
 use Rattle.std.specs.HashMap.{HashMap}
-use Rattle.std.specs.FinMap.{get, find, len, empty, insert, get-empty, len-empty, empty_of_len, get-from_entries, get-insert, same_map, slice_cmp-IsAntisymmetric, nat_cmp-IsAntisymmetric}
+use Rattle.std.specs.FinMap.{get, find, len, empty, insert, get-empty, len-empty, empty_of_len, get-from_entries, get-insert, len-insert, same_map, slice_cmp-IsAntisymmetric, nat_cmp-IsAntisymmetric}
 use Rattle.std.proofs.lemmas.Map.Text.{hash_map_updates_text, is_eq-slice_cmp}
 use Rattle.std.proofs.lemmas.List.Sums.{fold-append}
 use Rattle.cfg_values.specs.TextMap.{Named, named, map_of}
@@ -57,3 +58,19 @@ none_there m q h = ap (λ n. get n q) (empty_of_len m h) ∙ get-empty (slice_cm
 pub no_entries : {V : Type 0} (es : List (String Global × V)) → len (map_of es) ≡ 0 → length es ≡ 0
 no_entries [] h = refl
 no_entries (e ∷ es) h = let e : Some e.1 ≡ None = sym (some_is_there e es) ∙ none_there (map_of (e ∷ es)) (string_bytes e.0) h in cc
+
+-- a hash map has as many entries as the map that contracts see has names
+not_found : {V : Type 0} (name : String Global) (es : List (String Global × V)) → AllByRecursion (λ other. string_eq name other ≡ false) (map (λ e. e.0) es) → find (slice_cmp nat_cmp) (string_bytes name) (map named es) ≡ None
+not_found name [] h = refl
+not_found name (e ∷ es) h =
+    ap (λ b. cond b (Some e.1) (find (slice_cmp nat_cmp) (string_bytes name) (map named es))) (is_eq-slice_cmp (string_bytes name) (string_bytes e.0) ∙ h.0)
+    ∙ not_found name es h.1
+
+pub len-distinct : {V : Type 0} (es : List (String Global × V)) → IsDistinct string_eq (map (λ e. e.0) es) → len (map_of es) ≡ length es
+unfolding IsDistinct
+len-distinct [] h = len-empty (slice_cmp nat_cmp) _
+len-distinct (e ∷ es) h =
+    let new : is_some (get (map_of es) (string_bytes e.0)) ≡ false = ap is_some (get-from_entries nat_list_cmp_total (map named es) (string_bytes e.0) ∙ not_found e.0 es h.0) in
+    let one_more = len-insert nat_list_cmp_total (map_of es) (string_bytes e.0) e.1 ∙ ap (λ b. cond b (len (map_of es)) (len (map_of es) + 1)) new in
+    let rest = len-distinct es h.1 in
+    omega (arith, one_more, rest)

@@ -1,6 +1,6 @@
 ghost use Rattle.std.specs.Prelude.{◌≡◌, ◌↔◌, IsTrue, IfOk, OnOk, OnErr, string_bytes};
 ghost use Rattle.std.specs.Option.{option_copied};
-ghost use Rattle.std.specs.FinMap.{get, insert, empty, len};
+ghost use Rattle.std.specs.FinMap.{get, insert, empty, len, len as size};
 
 use crate::copies::TryCopy;
 use crate::memory::OutOfMemory;
@@ -65,6 +65,13 @@ impl<V: Drop> TextMap<V> {
         ensures { IsTrue result ↔ (len self.now ≡ 0) }
     {
         self.entries.is_empty()
+    }
+
+    /// How many names have a value.
+    pub fn len(&self) -> usize
+        ensures { result ≡ size self.now }
+    {
+        self.entries.len()
     }
 }
 

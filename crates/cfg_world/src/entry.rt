@@ -125,9 +125,16 @@ impl TryCopy for Entry {
 
 /// An entry that a world made when it was asked. Only `World::ask` makes one of an entry, and `copy`
 /// repeats it.
-#[derive(Drop)]
 pub struct Receipt {
     entry: Entry,
+}
+
+impl Drop for Receipt {
+    fn drop(self) {
+        let Receipt {
+            entry: _,
+        } = self;
+    }
 }
 
 impl Model for Receipt {

@@ -12,12 +12,22 @@ use std::marker::Model;
 /// Other devices, of which one call fails. Of the calls `read`, `write`, `run`, `look_up` and `send`,
 /// counted together from 1, the one of this number fails, and the other devices are not asked. All
 /// other calls, and the clock and the jitter, which are not counted, are handed on.
-#[derive(Drop)]
 pub struct FaultDevices<D: Devices> {
     inner: D,
     at: u64,
     calls: u64,
     own: Tally,
+}
+
+impl<D: Devices + Drop> Drop for FaultDevices<D> {
+    fn drop(self) {
+        let FaultDevices {
+            inner: _,
+            at: _,
+            calls: _,
+            own: _,
+        } = self;
+    }
 }
 
 impl<D: Devices> Model for FaultDevices<D> {

@@ -21,7 +21,6 @@ use std::marker::Model;
 use writes::Writes;
 
 /// What scripted devices answer. Each list but those of files is answered from in order.
-#[derive(Drop)]
 pub struct DeviceLists {
     /// Files by their paths, with what they hold. One without contents cannot be read. Of two
     /// listings of a path the later counts.
@@ -55,6 +54,27 @@ pub struct DeviceLists {
     pub sign_in: Seq<Result<Reply, FailKind>>,
 }
 
+impl Drop for DeviceLists {
+    fn drop(self) {
+        let DeviceLists {
+            files: _,
+            unwritable: _,
+            clock: _,
+            jitter: _,
+            commands: _,
+            lookups: _,
+            http: _,
+            imds_token: _,
+            imds_get: _,
+            assume_role: _,
+            web_identity: _,
+            role_credentials: _,
+            create_token: _,
+            sign_in: _,
+        } = self;
+    }
+}
+
 impl DeviceLists {
     /// Lists without items: no file can be read and every path is writable, the clock stands at the
     /// epoch, the jitter is 0, and commands, look-ups and requests fail.
@@ -81,7 +101,6 @@ impl DeviceLists {
 }
 
 // How far each list was read.
-#[derive(Drop)]
 struct Places {
     clock: usize,
     jitter: usize,
@@ -97,6 +116,25 @@ struct Places {
     sign_in: usize,
 }
 
+impl Drop for Places {
+    fn drop(self) {
+        let Places {
+            clock: _,
+            jitter: _,
+            commands: _,
+            lookups: _,
+            http: _,
+            imds_token: _,
+            imds_get: _,
+            assume_role: _,
+            web_identity: _,
+            role_credentials: _,
+            create_token: _,
+            sign_in: _,
+        } = self;
+    }
+}
+
 // How often each kind of device has failed.
 #[derive(Drop)]
 struct FaultCounts {
@@ -109,7 +147,6 @@ struct FaultCounts {
 /// Devices that give the answers of their lists, in order, and read back what was written. They allow
 /// exactly the lists of entries that these rules give, and stand for those that also leave the places
 /// and the writes that they have reached.
-#[derive(Drop)]
 pub struct ScriptDevices {
     alloc: Global,
     lists: DeviceLists,
@@ -118,6 +155,20 @@ pub struct ScriptDevices {
     places: Places,
     writes: Writes,
     faults: FaultCounts,
+}
+
+impl Drop for ScriptDevices {
+    fn drop(self) {
+        let ScriptDevices {
+            alloc: _,
+            lists: _,
+            listed: _,
+            unwritable: _,
+            places: _,
+            writes: _,
+            faults: _,
+        } = self;
+    }
 }
 
 impl Model for ScriptDevices {

@@ -14,11 +14,20 @@ use std::alloc::Global;
 use std::marker::Model;
 
 /// Devices, and the journal of what they were asked and answered.
-#[derive(Drop)]
 pub struct World<D: Devices> {
     alloc: Global,
     devices: D,
     journal: Vec<Entry>,
+}
+
+impl<D: Devices + Drop> Drop for World<D> {
+    fn drop(self) {
+        let World {
+            alloc: _,
+            devices: _,
+            journal: _,
+        } = self;
+    }
 }
 
 impl<D: Devices> Model for World<D> {

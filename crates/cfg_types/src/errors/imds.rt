@@ -18,18 +18,37 @@ pub enum EndpointMode {
 }
 
 /// A text that names no mode.
-#[derive(Drop, Debug, PartialEq, Eq)]
+#[derive(Debug, PartialEq, Eq)]
 pub enum InvalidEndpointMode {
     Mode(Text),
     OutOfMemory,
 }
 
+impl Drop for InvalidEndpointMode {
+    fn drop(self) {
+        match self {
+            InvalidEndpointMode::Mode(_) => {}
+            InvalidEndpointMode::OutOfMemory => {}
+        }
+    }
+}
+
 /// Why a client is not built, or asks nothing.
-#[derive(Drop, Debug, PartialEq, Eq)]
+#[derive(Debug, PartialEq, Eq)]
 pub enum BuildError {
     InvalidEndpointMode(InvalidEndpointMode),
     InvalidEndpointUri(Text),
     OutOfMemory,
+}
+
+impl Drop for BuildError {
+    fn drop(self) {
+        match self {
+            BuildError::InvalidEndpointMode(_) => {}
+            BuildError::InvalidEndpointUri(_) => {}
+            BuildError::OutOfMemory => {}
+        }
+    }
 }
 
 /// Why a reply gives no session token.
@@ -66,9 +85,15 @@ impl FailedToLoadToken {
 }
 
 /// A reply without a success status.
-#[derive(Drop, Debug, PartialEq, Eq)]
+#[derive(Debug, PartialEq, Eq)]
 pub struct ErrorResponse {
     reply: HttpReply,
+}
+
+impl Drop for ErrorResponse {
+    fn drop(self) {
+        let ErrorResponse { reply: _ } = self;
+    }
 }
 
 impl ErrorResponse {
@@ -90,7 +115,7 @@ impl ErrorResponse {
 }
 
 /// What no rule of the client allows for.
-#[derive(Drop, Debug, PartialEq, Eq)]
+#[derive(Debug, PartialEq, Eq)]
 pub enum UnexpectedCause {
     /// A reply's body is not UTF-8.
     NotUtf8,
@@ -102,8 +127,19 @@ pub enum UnexpectedCause {
     Path(Text),
 }
 
+impl Drop for UnexpectedCause {
+    fn drop(self) {
+        match self {
+            UnexpectedCause::NotUtf8 => {}
+            UnexpectedCause::Dispatch => {}
+            UnexpectedCause::Endpoint(_) => {}
+            UnexpectedCause::Path(_) => {}
+        }
+    }
+}
+
 /// Why the instance metadata service gives nothing.
-#[derive(Drop, Debug, PartialEq, Eq)]
+#[derive(Debug, PartialEq, Eq)]
 pub enum ImdsError {
     FailedToLoadToken(FailedToLoadToken),
     ErrorResponse(ErrorResponse),
@@ -111,6 +147,18 @@ pub enum ImdsError {
     IoError(FailKind),
     Unexpected(UnexpectedCause),
     OutOfMemory,
+}
+
+impl Drop for ImdsError {
+    fn drop(self) {
+        match self {
+            ImdsError::FailedToLoadToken(_) => {}
+            ImdsError::ErrorResponse(_) => {}
+            ImdsError::IoError(_) => {}
+            ImdsError::Unexpected(_) => {}
+            ImdsError::OutOfMemory => {}
+        }
+    }
 }
 
 impl From<OutOfMemory> for InvalidEndpointMode {

@@ -20,7 +20,7 @@ pub enum LoginJsonFault {
 }
 
 /// Why there is no sign-in token.
-#[derive(Drop, Debug, PartialEq, Eq)]
+#[derive(Debug, PartialEq, Eq)]
 pub enum LoginTokenError {
     /// A moment is outside of the years that a date can have.
     FailedToFormatDateTime,
@@ -37,6 +37,22 @@ pub enum LoginTokenError {
     /// What else is wrong, in words.
     Other(Text),
     OutOfMemory,
+}
+
+impl Drop for LoginTokenError {
+    fn drop(self) {
+        match self {
+            LoginTokenError::FailedToFormatDateTime => {}
+            LoginTokenError::IoError { what: _, path: _ } => {}
+            LoginTokenError::JsonError(_) => {}
+            LoginTokenError::MissingField(_) => {}
+            LoginTokenError::NoHomeDirectory => {}
+            LoginTokenError::ExpiredToken => {}
+            LoginTokenError::RefreshFailed { message: _ } => {}
+            LoginTokenError::Other(_) => {}
+            LoginTokenError::OutOfMemory => {}
+        }
+    }
 }
 
 impl From<OutOfMemory> for LoginTokenError {

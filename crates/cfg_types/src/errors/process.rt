@@ -2,7 +2,7 @@ use crate::document::InvalidJsonCredentials;
 use cfg_values::Text;
 
 /// Why a command gives no credentials.
-#[derive(Drop, Debug, PartialEq, Eq)]
+#[derive(Debug, PartialEq, Eq)]
 pub enum ProcessCause {
     /// It could not be run.
     NotRun,
@@ -12,4 +12,15 @@ pub enum ProcessCause {
     NotUtf8,
     /// What it wrote is no document of credentials.
     Document(InvalidJsonCredentials),
+}
+
+impl Drop for ProcessCause {
+    fn drop(self) {
+        match self {
+            ProcessCause::NotRun => {}
+            ProcessCause::Status { code: _, errors: _ } => {}
+            ProcessCause::NotUtf8 => {}
+            ProcessCause::Document(_) => {}
+        }
+    }
 }

@@ -10,7 +10,7 @@ use std::error::Error;
 use std::fmt;
 
 /// Why a profile gives no credentials.
-#[derive(Drop, Debug, PartialEq, Eq)]
+#[derive(Debug, PartialEq, Eq)]
 pub enum ProfileFileError {
     /// The sections were refused, for this reason.
     InvalidProfile(Text),
@@ -56,6 +56,26 @@ pub enum ProfileFileError {
     /// The profile gives an access token, and no credentials.
     TokenProviderConfig,
     OutOfMemory,
+}
+
+impl Drop for ProfileFileError {
+    fn drop(self) {
+        match self {
+            ProfileFileError::InvalidProfile(_) => {}
+            ProfileFileError::NoProfilesDefined => {}
+            ProfileFileError::ProfileDidNotContainCredentials { profile: _ } => {}
+            ProfileFileError::CredentialLoop { profiles: _, next: _ } => {}
+            ProfileFileError::MissingCredentialSource { profile: _, message: _ } => {}
+            ProfileFileError::InvalidCredentialSource { profile: _, message: _ } => {}
+            ProfileFileError::MissingProfile { profile: _, message: _ } => {}
+            ProfileFileError::UnknownProvider { name: _ } => {}
+            ProfileFileError::FeatureNotEnabled { feature: _, message: _ } => {}
+            ProfileFileError::MissingSsoSession { profile: _, sso_session: _ } => {}
+            ProfileFileError::InvalidSsoConfig { profile: _, message: _ } => {}
+            ProfileFileError::TokenProviderConfig => {}
+            ProfileFileError::OutOfMemory => {}
+        }
+    }
 }
 
 impl From<OutOfMemory> for ProfileFileError {

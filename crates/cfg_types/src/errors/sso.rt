@@ -13,7 +13,7 @@ pub enum IoStep {
 }
 
 /// Why the file of a cached token of IAM Identity Center gives no token, or takes none.
-#[derive(Drop, Debug, PartialEq, Eq)]
+#[derive(Debug, PartialEq, Eq)]
 pub enum CachedSsoTokenError {
     /// A moment is outside of the years that a date can have.
     FailedToFormatDateTime,
@@ -31,8 +31,23 @@ pub enum CachedSsoTokenError {
     OutOfMemory,
 }
 
+impl Drop for CachedSsoTokenError {
+    fn drop(self) {
+        match self {
+            CachedSsoTokenError::FailedToFormatDateTime => {}
+            CachedSsoTokenError::InvalidField(_) => {}
+            CachedSsoTokenError::IoError { what: _, path: _ } => {}
+            CachedSsoTokenError::JsonError => {}
+            CachedSsoTokenError::MissingField(_) => {}
+            CachedSsoTokenError::NoHomeDirectory => {}
+            CachedSsoTokenError::Other(_) => {}
+            CachedSsoTokenError::OutOfMemory => {}
+        }
+    }
+}
+
 /// Why there is no token of IAM Identity Center.
-#[derive(Drop, Debug, PartialEq, Eq)]
+#[derive(Debug, PartialEq, Eq)]
 pub enum SsoTokenProviderError {
     /// A refresh gave a token with this lifetime, in seconds.
     BadExpirationTimeFromSsoOidc(i64),
@@ -40,6 +55,17 @@ pub enum SsoTokenProviderError {
     /// The token has expired, and cannot be refreshed.
     ExpiredToken,
     OutOfMemory,
+}
+
+impl Drop for SsoTokenProviderError {
+    fn drop(self) {
+        match self {
+            SsoTokenProviderError::BadExpirationTimeFromSsoOidc(_) => {}
+            SsoTokenProviderError::FailedToLoadToken(_) => {}
+            SsoTokenProviderError::ExpiredToken => {}
+            SsoTokenProviderError::OutOfMemory => {}
+        }
+    }
 }
 
 impl From<OutOfMemory> for CachedSsoTokenError {

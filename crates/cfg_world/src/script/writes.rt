@@ -10,10 +10,18 @@ use std::alloc::Global;
 use std::marker::Model;
 
 /// Paths with what was written to them, in order.
-#[derive(Drop)]
 pub(super) struct Writes {
     entries: Vec<(Text, Bytes)>,
     index: TextMap<usize>,
+}
+
+impl Drop for Writes {
+    fn drop(self) {
+        let Writes {
+            entries: _,
+            index: _,
+        } = self;
+    }
 }
 
 impl Model for Writes {
