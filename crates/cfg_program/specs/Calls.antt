@@ -40,7 +40,7 @@ source_of (Sections profiles sessions) = source.Sections (record {
 })
 source_of (RefusedSections reason) = source.Refused reason
 
--- these variables, sections, selected name and leave to sleep
+-- these variables, sections, selected name, and whether providers may sleep
 abbrev pub configured_by : List (List ℕ × EnvText) → ProfileSource → Option (List ℕ) → Bool → Configuration
 configured_by variables profiles selected sleep = record {
   environment = each_set variables;

@@ -153,8 +153,8 @@ fn names_other(sections: &[Section]) -> bool
     false
 }
 
-// These variables, sections, selected name and leave to sleep. The region comes to the chain as an
-// override.
+// These variables, sections and selected name, and whether providers may sleep. The region comes to
+// the chain as an override.
 fn configured_with(
     alloc: Global,
     variables: Vec<(String, EnvText)>,

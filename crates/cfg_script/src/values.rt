@@ -299,7 +299,7 @@ fn decoded(alloc: Global, digits: &str) -> Result<Option<Bytes>, OutOfMemory>
     ensures { IfOk result (λ o. o ≡ result_ok (decode_of digits.now)) }
 {
     match hex::decode(alloc, digits.as_bytes()) {
-        Ok(bytes) => Ok(Some(Bytes::of(alloc, bytes.as_slice())?)),
+        Ok(bytes) => Ok(Some(Bytes::from_vec(bytes))),
         Err(hex::FromHexError::OutOfMemory) => Err(OutOfMemory),
         Err(_) => Ok(None),
     }
@@ -359,7 +359,7 @@ impl Part for Content {
 
     fn read(alloc: Global, value: Value) -> Result<Bytes, ScriptError> {
         match text_or_other(value) {
-            Ok(text) => Ok(Bytes::of(alloc, text.as_bytes())?),
+            Ok(text) => Ok(Bytes::from_vec(text.into_bytes())),
             Err(other) => Ok(read_object::<ByDigits>(alloc, other)?.0),
         }
     }

@@ -135,7 +135,10 @@ impl Drop for ConfigCause {
             ConfigCause::RelativeUri(_) => {}
             ConfigCause::FullUri { error: _, uri: _ } => {}
             ConfigCause::AuthToken => {}
-            ConfigCause::MetadataRole { code: _, message: _ } => {}
+            ConfigCause::MetadataRole {
+                code: _,
+                message: _,
+            } => {}
             ConfigCause::AssumeRole(_) => {}
             ConfigCause::LoginToken(_) => {}
             ConfigCause::Custom(_) => {}

@@ -131,9 +131,7 @@ pub struct Receipt {
 
 impl Drop for Receipt {
     fn drop(self) {
-        let Receipt {
-            entry: _,
-        } = self;
+        let Receipt { entry: _ } = self;
     }
 }
 

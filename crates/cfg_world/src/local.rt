@@ -160,10 +160,7 @@ fn contents<R: Files>(alloc: Global, rt: &R, path: &str) -> io::Result<Bytes> {
     let mut file = File::open(rt, path)?;
     let mut bytes = Vec::new(alloc);
     file.read_to_end(&mut bytes)?;
-    match Bytes::of(alloc, bytes.as_slice()) {
-        Ok(bytes) => Ok(bytes),
-        Err(_) => Err(io::Error::from(ErrorKind::OutOfMemory)),
-    }
+    Ok(Bytes::from_vec(bytes))
 }
 
 fn let_hold<R: Files>(rt: &R, path: &str, bytes: &[u8]) -> io::Result<()> {

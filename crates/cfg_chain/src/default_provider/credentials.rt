@@ -1,5 +1,8 @@
 //! The default chain of credentials providers.
-ghost use Rattle.std.specs.Prelude.{◌≡◌, IfOk, true, false};
+ghost use Rattle.std.specs.Prelude.{◌≡◌, [], IfOk, true, false};
+ghost use Rattle.cfg_world.specs.Follows.{Follows};
+ghost use Rattle.cfg_chain.specs.Chains.{chain};
+ghost use Rattle.cfg_chain.specs.Resolves.{default_members};
 ghost use Rattle.cfg_chain.specs.Provides.{Provides, Interrupted};
 ghost use Rattle.cfg_chain.specs.Causes.{is_memory};
 ghost use Rattle.cfg_chain.specs.KeptStates.{nothing_kept};
@@ -10,7 +13,7 @@ use crate::kept::Kept;
 use crate::member::Member;
 use crate::provider_config::ProviderConfig;
 use cfg_types::{Credentials, CredentialsError, OutOfMemory, Region};
-use cfg_world::{Devices, World};
+use cfg_world::{Asking, Devices, Stop, World};
 use std::alloc::Global;
 use std::marker::Model;
 
@@ -22,11 +25,20 @@ pub enum RegionSource {
 }
 
 /// Sets up the default chain. Contracts see its configuration and the source of its region.
-#[derive(Drop)]
 pub struct Builder {
     alloc: Global,
     config: ProviderConfig,
     region: Option<RegionSource>,
+}
+
+impl Drop for Builder {
+    fn drop(self) {
+        let Builder {
+            alloc: _,
+            config: _,
+            region: _,
+        } = self;
+    }
 }
 
 impl Model for Builder {
@@ -81,10 +93,18 @@ impl Builder {
 
 /// The default chain. Its members so far are the environment and the selected profile. Contracts see
 /// its configuration.
-#[derive(Drop)]
 pub struct DefaultCredentialsChain {
     alloc: Global,
     config: ProviderConfig,
+}
+
+impl Drop for DefaultCredentialsChain {
+    fn drop(self) {
+        let DefaultCredentialsChain {
+            alloc: _,
+            config: _,
+        } = self;
+    }
 }
 
 impl Model for DefaultCredentialsChain {
@@ -118,6 +138,17 @@ impl DefaultCredentialsChain {
         Ok(Kept::new())
     }
 
+    /// The body of [`Self::provide_credentials`], over anything that can be asked. Where a question is
+    /// left open it stops there, and taken up again with one answer more it comes to the next.
+    pub fn follow<A: Asking>(
+        &self,
+        asking: &mut A,
+    ) -> Result<Result<Credentials, CredentialsError>, Stop>
+        ensures { Follows ⟦<A as Asking>⟧ (chain self.now default_members []) asking.old asking.new result }
+    {
+        follow_chain(self.alloc, &self.config, &MEMBERS, asking)
+    }
+
     /// Asks the members in order, and answers what the first one that was loaded gives. Members that
     /// were not loaded are passed over, and any other error is the answer.
     ///
@@ -142,7 +173,7 @@ impl DefaultCredentialsChain {
         ensures stays { is_memory result ≡ true → Interrupted ⟦<D as Devices>⟧ self.now world.old world.new }
         ensures kept { kept.new ≡ kept.old }
     {
-        match follow_chain(self.alloc, &self.config, &MEMBERS, world) {
+        match self.follow(world) {
             Ok(outcome) => outcome,
             Err(_) => Err(CredentialsError::OutOfMemory),
         }

@@ -64,14 +64,35 @@ impl Drop for ProfileFileError {
             ProfileFileError::InvalidProfile(_) => {}
             ProfileFileError::NoProfilesDefined => {}
             ProfileFileError::ProfileDidNotContainCredentials { profile: _ } => {}
-            ProfileFileError::CredentialLoop { profiles: _, next: _ } => {}
-            ProfileFileError::MissingCredentialSource { profile: _, message: _ } => {}
-            ProfileFileError::InvalidCredentialSource { profile: _, message: _ } => {}
-            ProfileFileError::MissingProfile { profile: _, message: _ } => {}
+            ProfileFileError::CredentialLoop {
+                profiles: _,
+                next: _,
+            } => {}
+            ProfileFileError::MissingCredentialSource {
+                profile: _,
+                message: _,
+            } => {}
+            ProfileFileError::InvalidCredentialSource {
+                profile: _,
+                message: _,
+            } => {}
+            ProfileFileError::MissingProfile {
+                profile: _,
+                message: _,
+            } => {}
             ProfileFileError::UnknownProvider { name: _ } => {}
-            ProfileFileError::FeatureNotEnabled { feature: _, message: _ } => {}
-            ProfileFileError::MissingSsoSession { profile: _, sso_session: _ } => {}
-            ProfileFileError::InvalidSsoConfig { profile: _, message: _ } => {}
+            ProfileFileError::FeatureNotEnabled {
+                feature: _,
+                message: _,
+            } => {}
+            ProfileFileError::MissingSsoSession {
+                profile: _,
+                sso_session: _,
+            } => {}
+            ProfileFileError::InvalidSsoConfig {
+                profile: _,
+                message: _,
+            } => {}
             ProfileFileError::TokenProviderConfig => {}
             ProfileFileError::OutOfMemory => {}
         }
