@@ -1,124 +1,11 @@
 // What no clause says: worked examples of the definitions, and that calls succeed. A row's
 // configuration and devices stand in a script, as the program reads them.
-ghost use Rattle.cfg_world.specs.Script.{AllFit};
-ghost use Rattle.cfg_script.specs.Script.{plain};
-ghost use Rattle.cfg_script.specs.Devices.{lists_of};
-
-use cfg_chain::{
-    DefaultCredentialsChain, ProfileSet, ProfileSource, ProviderConfig, RegionSource, Section,
-    is_built,
-};
-use cfg_script::{Script, ScriptProfiles, read_script};
-use cfg_types::{Credentials, CredentialsError, Env, EnvText, OutOfMemory, Region, Text, TryCopy};
-use cfg_world::{DeviceLists, Entry, ScriptDevices, World};
+use crate::setup::{Setup, answered, chain_of, questions, set_up};
+use cfg_chain::{DefaultCredentialsChain, ProfileSource, ProviderConfig, is_built};
+use cfg_types::{OutOfMemory, Text};
+use cfg_world::{DeviceLists, ScriptDevices, World};
 use std::alloc::{AllocError, Global};
 use std::test::Fail;
-
-fn sections(
-    alloc: Global,
-    rows: Vec<(String, Vec<(String, String)>)>,
-) -> Result<Vec<Section>, OutOfMemory> {
-    let mut sections = Vec::new(alloc);
-    for (name, properties) in rows {
-        sections.push(Section::new(alloc, name.as_str(), properties)?)?;
-    }
-    Ok(sections)
-}
-
-fn source(alloc: Global, profiles: ScriptProfiles) -> Result<ProfileSource, OutOfMemory> {
-    match profiles {
-        ScriptProfiles::Refused(message) => Ok(ProfileSource::Refused(message)),
-        ScriptProfiles::Sections { profiles, sessions } => {
-            let profiles = sections(alloc, profiles)?;
-            let sessions = sections(alloc, sessions)?;
-            let set = ProfileSet::new(alloc, profiles, sessions, "default")?;
-            Ok(ProfileSource::Sections(set))
-        }
-    }
-}
-
-// A configuration; where no name is selected, its copy.
-fn config(
-    alloc: Global,
-    variables: Vec<(String, EnvText)>,
-    profiles: ScriptProfiles,
-    selected: Option<String>,
-) -> Result<ProviderConfig, OutOfMemory> {
-    let config = ProviderConfig::empty(alloc)?.with_env(Env::new(alloc, variables)?);
-    let config = config.with_profiles(source(alloc, profiles)?);
-    match selected {
-        None => config.copy(alloc),
-        Some(name) => config.with_profile_name(alloc, name.as_str()),
-    }
-}
-
-// An answer, with the secret, the token and the features of credentials.
-fn answer_words(
-    alloc: Global,
-    answer: &Result<Credentials, CredentialsError>,
-) -> Result<String, AllocError> {
-    match answer {
-        Ok(keys) => {
-            let secret = keys.secret_access_key();
-            let token = keys.session_token();
-            let features = keys.features();
-            format!(in alloc; "{keys:?} {secret} {token:?} {features:?}")
-        }
-        Err(error) => format!(in alloc; "{error:?}"),
-    }
-}
-
-fn questions(alloc: Global, journal: &[Entry]) -> Result<String, AllocError> {
-    let mut words = String::new(alloc);
-    for entry in journal {
-        let question = entry.question();
-        let question = format!(in alloc; " {question:?}")?;
-        words.push_str(question.as_str())?;
-    }
-    Ok(words)
-}
-
-// The chain with this configuration, in this region.
-fn chain_of(
-    alloc: Global,
-    config: ProviderConfig,
-    region: Option<Region>,
-    world: &mut World<ScriptDevices>,
-) -> Result<DefaultCredentialsChain, OutOfMemory> {
-    let mut builder = DefaultCredentialsChain::builder(alloc)?.configure(config);
-    builder.set_region(Some(RegionSource::Fixed(region)));
-    builder.build(world)
-}
-
-// An answer that is let go by one call.
-struct Outcome {
-    answer: Result<Credentials, CredentialsError>,
-}
-
-impl Drop for Outcome {
-    fn drop(self) {
-        let Outcome { answer: _ } = self;
-    }
-}
-
-fn provided(
-    chain: &DefaultCredentialsChain,
-    world: &mut World<ScriptDevices>,
-) -> Result<Outcome, OutOfMemory> {
-    let mut kept = chain.new_kept()?;
-    Ok(Outcome {
-        answer: chain.provide_credentials(&mut kept, world),
-    })
-}
-
-fn answered(
-    alloc: Global,
-    chain: &DefaultCredentialsChain,
-    world: &mut World<ScriptDevices>,
-) -> Result<String, OutOfMemory> {
-    let outcome = provided(chain, world)?;
-    Ok(answer_words(alloc, &outcome.answer)?)
-}
 
 // What a call of the chain answers, and what it asked.
 fn call(
@@ -131,49 +18,13 @@ fn call(
     Ok(format!(in alloc; "{answer}{questions}")?)
 }
 
-// What the chain answers that a script configures, over the devices that it scripts.
-fn call_by(alloc: Global, script: Script) -> Result<String, OutOfMemory>
-    requires { AllFit (lists_of (plain script)) }
-{
-    let Script {
-        variables,
-        profiles,
-        selected,
-        region: _,
-        sleep: _,
-        devices,
-    } = script;
-    let config = config(alloc, variables, profiles, selected)?;
-    call_over(alloc, config, devices)
-}
-
-// What the chain answers with this configuration, over devices that answer from these lists.
-fn call_over(
-    alloc: Global,
-    config: ProviderConfig,
-    lists: DeviceLists,
-) -> Result<String, OutOfMemory>
-    requires { AllFit lists }
-{
-    let devices = ScriptDevices::new(alloc, lists)?;
-    let mut world = World::new(alloc, devices);
-    call_in(alloc, config, &mut world)
-}
-
-fn call_in(
-    alloc: Global,
-    config: ProviderConfig,
-    world: &mut World<ScriptDevices>,
-) -> Result<String, OutOfMemory> {
-    let region = Region::new(alloc, "eu-west-1")?;
-    let chain = chain_of(alloc, config, Some(region), world)?;
-    call(alloc, &chain, world)
-}
-
 fn words_of(alloc: Global, script: &str) -> Result<String, OutOfMemory> {
-    match read_script(alloc, script.as_bytes()) {
-        Ok(script) => call_by(alloc, script),
-        Err(_) => Ok(String::from_str(alloc, "no script")?),
+    match set_up(alloc, script)? {
+        None => Ok(String::from_str(alloc, "no script")?),
+        Some(Setup { chain, devices }) => {
+            let mut world = World::new(alloc, devices);
+            call(alloc, &chain, &mut world)
+        }
     }
 }
 

@@ -3,3 +3,7 @@
 
 #[cfg(test)]
 mod chain;
+#[cfg(test)]
+mod replay;
+#[cfg(test)]
+mod setup;

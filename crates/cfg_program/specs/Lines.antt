@@ -21,9 +21,13 @@ use Rattle.cfg_program.specs.declared.lines.TheConstants.{ESCAPED}
 abbrev pub shown_text : List ℕ → List ℕ
 shown_text bytes = codes "=" ++ percent_encode ESCAPED bytes
 
+-- `0`, from which the ten digits go on
+abbrev pub digit_zero : ℕ
+digit_zero = 48
+
 -- a number below 1000 in three digits
 abbrev pub three_digits : ℕ → List ℕ
-three_digits n = (48 + n / 100) ∷ (48 + n / 10 % 10) ∷ (48 + n % 10) ∷ []
+three_digits n = (digit_zero + n / 100) ∷ (digit_zero + n / 10 % 10) ∷ (digit_zero + n % 10) ∷ []
 
 -- nanoseconds in nine digits
 abbrev pub nine_digits : ℕ → List ℕ

@@ -60,7 +60,7 @@ fn mark(credentials: Credentials) -> Result<Credentials, OutOfMemory>
 fn refusal(error: ProfileFileError) -> CredentialsError
     ensures { result ≡ refusal_of error }
 {
-    match error {
+    match &error {
         ProfileFileError::OutOfMemory => CredentialsError::OutOfMemory,
         ProfileFileError::NoProfilesDefined
         | ProfileFileError::ProfileDidNotContainCredentials { .. }

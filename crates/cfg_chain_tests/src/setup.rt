@@ -1,0 +1,180 @@
+//! The chain that a script configures, over the devices that it scripts.
+ghost use Rattle.cfg_world.specs.Script.{AllFit};
+ghost use Rattle.cfg_script.specs.Script.{plain};
+ghost use Rattle.cfg_script.specs.Devices.{lists_of};
+
+use cfg_chain::{
+    DefaultCredentialsChain, ProfileSet, ProfileSource, ProviderConfig, RegionSource, Section,
+};
+use cfg_script::{Script, ScriptProfiles, read_script};
+use cfg_types::{Credentials, CredentialsError, Env, EnvText, OutOfMemory, Region, TryCopy};
+use cfg_world::{Asking, DeviceLists, Entry, ScriptDevices, World};
+use std::alloc::{AllocError, Global};
+
+/// A chain, and devices for its calls.
+pub(crate) struct Setup {
+    pub(crate) chain: DefaultCredentialsChain,
+    pub(crate) devices: ScriptDevices,
+}
+
+fn sections(
+    alloc: Global,
+    rows: Vec<(String, Vec<(String, String)>)>,
+) -> Result<Vec<Section>, OutOfMemory> {
+    let mut sections = Vec::new(alloc);
+    for (name, properties) in rows {
+        sections.push(Section::new(alloc, name.as_str(), properties)?)?;
+    }
+    Ok(sections)
+}
+
+fn source(alloc: Global, profiles: ScriptProfiles) -> Result<ProfileSource, OutOfMemory> {
+    match profiles {
+        ScriptProfiles::Refused(message) => Ok(ProfileSource::Refused(message)),
+        ScriptProfiles::Sections { profiles, sessions } => {
+            let profiles = sections(alloc, profiles)?;
+            let sessions = sections(alloc, sessions)?;
+            let set = ProfileSet::new(alloc, profiles, sessions, "default")?;
+            Ok(ProfileSource::Sections(set))
+        }
+    }
+}
+
+// A configuration; where no name is selected, its copy.
+fn config(
+    alloc: Global,
+    variables: Vec<(String, EnvText)>,
+    profiles: ScriptProfiles,
+    selected: Option<String>,
+) -> Result<ProviderConfig, OutOfMemory> {
+    let config = ProviderConfig::empty(alloc)?.with_env(Env::new(alloc, variables)?);
+    let config = config.with_profiles(source(alloc, profiles)?);
+    match selected {
+        None => config.copy(alloc),
+        Some(name) => config.with_profile_name(alloc, name.as_str()),
+    }
+}
+
+// The chain with this configuration, in this region.
+pub(crate) fn chain_of(
+    alloc: Global,
+    config: ProviderConfig,
+    region: Option<Region>,
+    world: &mut World<ScriptDevices>,
+) -> Result<DefaultCredentialsChain, OutOfMemory> {
+    let mut builder = DefaultCredentialsChain::builder(alloc)?.configure(config);
+    builder.set_region(Some(RegionSource::Fixed(region)));
+    builder.build(world)
+}
+
+// The chain with this configuration, and devices that answer from these lists.
+fn set_up_over(
+    alloc: Global,
+    config: ProviderConfig,
+    lists: DeviceLists,
+) -> Result<Setup, OutOfMemory>
+    requires { AllFit lists }
+{
+    let devices = ScriptDevices::new(alloc, lists)?;
+    let mut world = World::new(alloc, devices);
+    let region = Region::new(alloc, "eu-west-1")?;
+    let chain = chain_of(alloc, config, Some(region), &mut world)?;
+    let devices = world.into_devices();
+    Ok(Setup { chain, devices })
+}
+
+fn set_up_by(alloc: Global, script: Script) -> Result<Setup, OutOfMemory>
+    requires { AllFit (lists_of (plain script)) }
+{
+    let Script {
+        variables,
+        profiles,
+        selected,
+        region: _,
+        sleep: _,
+        devices,
+    } = script;
+    let config = config(alloc, variables, profiles, selected)?;
+    set_up_over(alloc, config, devices)
+}
+
+/// The chain that a script configures, and the devices that it scripts. None for what is no script.
+pub(crate) fn set_up(alloc: Global, script: &str) -> Result<Option<Setup>, OutOfMemory> {
+    match read_script(alloc, script.as_bytes()) {
+        Ok(script) => Ok(Some(set_up_by(alloc, script)?)),
+        Err(_) => Ok(None),
+    }
+}
+
+// An answer that is let go by one call.
+struct Outcome {
+    answer: Result<Credentials, CredentialsError>,
+}
+
+impl Drop for Outcome {
+    fn drop(self) {
+        let Outcome { answer: _ } = self;
+    }
+}
+
+// An answer, with the secret, the token and the features of credentials.
+fn answer_words(
+    alloc: Global,
+    answer: &Result<Credentials, CredentialsError>,
+) -> Result<String, AllocError> {
+    match answer {
+        Ok(keys) => {
+            let secret = keys.secret_access_key();
+            let token = keys.session_token();
+            let features = keys.features();
+            format!(in alloc; "{keys:?} {secret} {token:?} {features:?}")
+        }
+        Err(error) => format!(in alloc; "{error:?}"),
+    }
+}
+
+fn provided(
+    chain: &DefaultCredentialsChain,
+    world: &mut World<ScriptDevices>,
+) -> Result<Outcome, OutOfMemory> {
+    let mut kept = chain.new_kept()?;
+    Ok(Outcome {
+        answer: chain.provide_credentials(&mut kept, world),
+    })
+}
+
+/// What a call of the chain answers.
+pub(crate) fn answered(
+    alloc: Global,
+    chain: &DefaultCredentialsChain,
+    world: &mut World<ScriptDevices>,
+) -> Result<String, OutOfMemory> {
+    let outcome = provided(chain, world)?;
+    Ok(answer_words(alloc, &outcome.answer)?)
+}
+
+/// What the chain comes to over anything that can be asked, or why it stops.
+pub(crate) fn followed<A: Asking>(
+    alloc: Global,
+    chain: &DefaultCredentialsChain,
+    asking: &mut A,
+) -> Result<String, OutOfMemory> {
+    match chain.follow(asking) {
+        Ok(answer) => {
+            let outcome = Outcome { answer };
+            Ok(answer_words(alloc, &outcome.answer)?)
+        }
+        Err(stop) => Ok(format!(in alloc; "{stop:?}")?),
+    }
+}
+
+/// The questions of a journal.
+pub(crate) fn questions(alloc: Global, journal: &[Entry]) -> Result<String, AllocError> {
+    let mut words = String::new(alloc);
+    for entry in journal {
+        let question = entry.question();
+        let question = format!(in alloc; " {question:?}")?;
+        words.push_str(question.as_str())?;
+    }
+    Ok(words)
+}
