@@ -10,9 +10,11 @@ use Rattle.cfg_profile.specs.declared.chain.RoleArn.{RoleArn}
 use Rattle.cfg_profile.specs.declared.chain.BaseProvider.{BaseProvider}
 use Rattle.cfg_profile.specs.declared.chain.ProfileChain.{ProfileChain}
 use Rattle.cfg_profile.specs.SectionParts.{SectionParts}
+use Rattle.cfg_profile.specs.SectionSets.{SectionSets}
+use Rattle.cfg_profile.specs.NamedSources.{IsPlan, planned}
 use Rattle.cfg_profile.specs.Paths.{End, Keys, Base, NoSource, OwnBase, Loops, Missing}
-use Rattle.cfg_profile.specs.Plans.{role_by, role_of, one_or_none, sections_of, roles_over, chain_over, outcome, no_section, IsPlanAt}
-use Rattle.cfg_profile.specs.Laws.{OnlyPath}
+use Rattle.cfg_profile.specs.Plans.{role_by, role_of, one_or_none, sections_of, roles_over, chain_over, outcome, no_section, IsChainAt, IsChain}
+use Rattle.cfg_profile.specs.Laws.{OnlyPath, OnlyAnswer}
 use Rattle.cfg_profile.proofs.PathTrails.{only_path, some_path, trail_of, no_longer_than}
 
 pub the_path : (profiles : Named SectionParts) (selected : List ℕ) → is_some (get profiles selected) ≡ true → OnlyPath profiles selected
@@ -27,21 +29,30 @@ the_path profiles selected there =
       only = λ b l s e q. only_path profiles selected p.before p.last p.section p.end b l s e p.path q;
     }
 
-pub record PlanAt (profiles : Named SectionParts) (selected : List ℕ) (o : Option SectionParts) : Type 0 where
-  pub answer : Result ProfileChain ProfileFileError
-  pub plan : IsPlanAt profiles selected o answer
-  pub only : (other : Result ProfileChain ProfileFileError) → IsPlanAt profiles selected o other → answer ≡ other
-
-pub the_plan : (profiles : Named SectionParts) (selected : List ℕ) (o : Option SectionParts) → get profiles selected ≡ o → PlanAt profiles selected o
-the_plan profiles selected None h = record { answer = Err (no_section profiles selected); plan = refl; only = λ other e. sym e }
-the_plan profiles selected (Some s) h =
-    let p = the_path profiles selected (ap is_some h) in
+the_chain_at : (sets : SectionSets) (name : List ℕ) (o : Option SectionParts) → get sets.profiles name ≡ o → OnlyAnswer (IsChainAt sets name o)
+the_chain_at sets name None h = record { answer = Err (no_section sets.profiles name); said = refl; only = λ other e. sym e }
+the_chain_at sets name (Some s) h =
+    let p = the_path sets.profiles name (ap is_some h) in
     record {
-      answer = outcome (sections_of profiles p.before) p.before p.last p.section p.end;
-      plan = record { before = p.before; last = p.last; section = p.section; end = p.end; path = p.path; gives = refl };
+      answer = outcome sets.sessions (sections_of sets.profiles p.before) p.before p.last p.section p.end;
+      said = record { before = p.before; last = p.last; section = p.section; end = p.end; path = p.path; gives = refl };
       only = λ other g.
           let same = p.only g.before g.last g.section g.end g.path in
-          (λ i. outcome (sections_of profiles (same.0 i)) (same.0 i) (same.1 i) (same.2 i) (same.3 i)) ∙ sym g.gives;
+          (λ i. outcome sets.sessions (sections_of sets.profiles (same.0 i)) (same.0 i) (same.1 i) (same.2 i) (same.3 i)) ∙ sym g.gives;
+    }
+
+pub the_chain : (sets : SectionSets) (name : List ℕ) → OnlyAnswer (IsChain sets name)
+the_chain sets name =
+    let c = the_chain_at sets name (get sets.profiles name) refl in
+    record { answer = c.answer; said = c.said; only = c.only }
+
+pub the_plan : (sets : SectionSets) (name : List ℕ) (sources : List (List ℕ)) → OnlyAnswer (IsPlan sets name sources)
+the_plan sets name sources =
+    let c = the_chain sets name in
+    record {
+      answer = planned sources c.answer;
+      said = record { resolved = c.answer; chain = c.said; plan = refl };
+      only = λ other g. ap (planned sources) (c.only g.resolved g.chain) ∙ sym g.plan;
     }
 
 few : {X Y : Type 0} (f : X → List Y) → ((x : X) → length (f x) ≤ 1) → (xs : List X) → length (flat_map f xs) ≤ length xs
@@ -66,17 +77,18 @@ roles_are : (roles : List RoleArn) (base : Result BaseProvider ProfileFileError)
 roles_are roles (Ok base) chain e = let r : chain ≡ record { base = base; roles = roles } = cc in ap (λ c. c.roles) r
 roles_are roles (Err e') chain e = absurd cc
 
-few_of_path : (profiles : Named SectionParts) (before : List (List ℕ)) (last : List ℕ) (s : SectionParts) (end : End) (chain : ProfileChain) → Ok chain ≡ outcome (sections_of profiles before) before last s end → length chain.roles ≤ length (before ++ last ∷ [])
-few_of_path profiles before last s Keys chain e = omega (arith, ap length (roles_are _ _ chain e), few_over (sections_of profiles before), few_sections profiles before, length-append before (last ∷ []))
-few_of_path profiles before last s Base chain e = omega (arith, ap length (roles_are _ _ chain e), few_over (sections_of profiles before), few_sections profiles before, length-append before (last ∷ []))
-few_of_path profiles before last s NoSource chain e = absurd cc
-few_of_path profiles before last s OwnBase chain e =
-    omega (arith, ap length (roles_are _ _ chain e), few_over (sections_of profiles before ++ s ∷ []), few_sections profiles before, length-append (sections_of profiles before) (s ∷ []), length-append before (last ∷ []))
-few_of_path profiles before last s (Loops n) chain e = absurd cc
-few_of_path profiles before last s (Missing n) chain e = absurd cc
+few_of_path : (sets : SectionSets) (before : List (List ℕ)) (last : List ℕ) (s : SectionParts) (end : End) (chain : ProfileChain)
+    → Ok chain ≡ outcome sets.sessions (sections_of sets.profiles before) before last s end → length chain.roles ≤ length (before ++ last ∷ [])
+few_of_path sets before last s Keys chain e = omega (arith, ap length (roles_are _ _ chain e), few_over (sections_of sets.profiles before), few_sections sets.profiles before, length-append before (last ∷ []))
+few_of_path sets before last s Base chain e = omega (arith, ap length (roles_are _ _ chain e), few_over (sections_of sets.profiles before), few_sections sets.profiles before, length-append before (last ∷ []))
+few_of_path sets before last s NoSource chain e = absurd cc
+few_of_path sets before last s OwnBase chain e =
+    omega (arith, ap length (roles_are _ _ chain e), few_over (sections_of sets.profiles before ++ s ∷ []), few_sections sets.profiles before, length-append (sections_of sets.profiles before) (s ∷ []), length-append before (last ∷ []))
+few_of_path sets before last s (Loops n) chain e = absurd cc
+few_of_path sets before last s (Missing n) chain e = absurd cc
 
-pub few_roles_at : (profiles : Named SectionParts) (selected : List ℕ) (o : Option SectionParts) (chain : ProfileChain) → get profiles selected ≡ o → IsPlanAt profiles selected o (Ok chain) → length chain.roles ≤ len profiles
-few_roles_at profiles selected None chain h e = absurd cc
-few_roles_at profiles selected (Some s) chain h g =
-    let few_names = no_longer_than profiles selected (g.before ++ g.last ∷ []) (ap is_some h) (trail_of profiles selected (g.before ++ g.last ∷ []) g.path.goes) in
-    omega (arith, few_names, few_of_path profiles g.before g.last g.section g.end chain g.gives)
+pub few_roles_at : (sets : SectionSets) (name : List ℕ) (o : Option SectionParts) (chain : ProfileChain) → get sets.profiles name ≡ o → IsChainAt sets name o (Ok chain) → length chain.roles ≤ len sets.profiles
+few_roles_at sets name None chain h e = absurd cc
+few_roles_at sets name (Some s) chain h g =
+    let few_names = no_longer_than sets.profiles name (g.before ++ g.last ∷ []) (ap is_some h) (trail_of sets.profiles name (g.before ++ g.last ∷ []) g.path.goes) in
+    omega (arith, few_names, few_of_path sets g.before g.last g.section g.end chain g.gives)

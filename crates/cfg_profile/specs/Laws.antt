@@ -1,6 +1,5 @@
 -- Laws of paths, chains and plans.
-use Rattle.std.specs.Prelude.{◌≡◌, ◌⊎◌, ◌↔◌, ℕ, ◌≤◌, List, length, Result, Ok, IsSome, true}
-use Rattle.std.specs.List.{Any}
+use Rattle.std.specs.Prelude.{◌≡◌, ◌⊎◌, ◌↔◌, ℕ, ◌≤◌, List, length, Some, Result, Ok, IsSome, slice_get, true}
 use Rattle.std.specs.FinMap.{get, len}
 use Rattle.std.specs.Str.{encode_utf8_all, str_to_ascii_lowercase}
 use Rattle.cfg_values.specs.TextMap.{Named}
@@ -44,10 +43,17 @@ FewRoles = (sets : SectionSets) (name : List ℕ) (chain : ProfileChain) → IsC
 abbrev pub lowered : List ℕ → List ℕ
 lowered name = str_to_ascii_lowercase (encode_utf8_all name)
 
+-- one of these, so viewed, is this text
+pub record IsAmong (view : List ℕ → List ℕ) (text : List ℕ) (names : List (List ℕ)) : Type 0 where
+  pub place : ℕ
+  pub name : List ℕ
+  pub stands : slice_get names place ≡ Some name
+  pub same : view name ≡ text
+
 -- A name is known exactly where a source has the same bytes, ASCII case of letters apart: blanks count.
 abbrev pub KnownByBytes : Type 0
 KnownByBytes = (sources : List (List ℕ)) (name : List ℕ) →
-    (is_known sources name ≡ true) ↔ (Any (λ source. lowered source ≡ lowered name) sources ⊎ Any (λ source. str_to_ascii_lowercase source ≡ lowered name) built_in)
+    (is_known sources name ≡ true) ↔ (IsAmong lowered (lowered name) sources ⊎ IsAmong str_to_ascii_lowercase (lowered name) built_in)
 
 -- names that are alike but for ASCII case are known together
 abbrev pub KnownInAnyCase : Type 0

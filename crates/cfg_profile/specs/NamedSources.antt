@@ -1,5 +1,5 @@
 -- Plans: chains whose base gives credentials, by a source that is there.
-use Rattle.std.specs.Prelude.{◌≡◌, ℕ, List, [], ◌∷◌, Bool, true, false, ◌&&◌, ◌||◌, not, is_none, Result, Ok, Err, codes, if◌then◌else◌}
+use Rattle.std.specs.Prelude.{◌≡◌, ℕ, List, [], ◌∷◌, Bool, false, ◌&&◌, ◌||◌, is_none, Result, Ok, Err, codes, if◌then◌else◌}
 use Rattle.std.specs.List.{list_any}
 use Rattle.std.specs.Str.{encode_utf8_all, str_eq_ignore_ascii_case}
 use Rattle.cfg_types.specs.declared.errors.ProfileFileError.{ProfileFileError}
@@ -14,15 +14,18 @@ use Rattle.cfg_profile.specs.Plans.{IsChain}
 abbrev pub built_in : List (List ℕ)
 built_in = codes "Environment" ∷ codes "Ec2InstanceMetadata" ∷ codes "EcsContainer" ∷ []
 
--- The source has this name, ASCII case apart. Every other character counts, blanks too.
+-- The bytes are those of the name, ASCII case of letters apart. Every other byte counts, blanks too.
+abbrev pub is_alike : List ℕ → List ℕ → Bool
+is_alike name bytes = str_eq_ignore_ascii_case bytes (encode_utf8_all name)
+
 abbrev pub is_named : List ℕ → List ℕ → Bool
-is_named name source = str_eq_ignore_ascii_case (encode_utf8_all source) (encode_utf8_all name)
+is_named name source = is_alike name (encode_utf8_all source)
 
 abbrev pub is_custom : List (List ℕ) → List ℕ → Bool
 is_custom sources name = list_any (is_named name) sources
 
 abbrev pub is_built_in : List ℕ → Bool
-is_built_in name = list_any (λ source. str_eq_ignore_ascii_case source (encode_utf8_all name)) built_in
+is_built_in name = list_any (is_alike name) built_in
 
 -- whether a source of credentials has this name: one of the given ones, or one that is always there
 abbrev pub is_known : List (List ℕ) → List ℕ → Bool

@@ -1,22 +1,20 @@
 -- What a profile gives credentials by: a base, and roles that are assumed one after another.
-use Rattle.std.specs.Prelude.{◌≡◌, ℕ, List, [], ◌∷◌, ◌++◌, map, reverse, Bool, true, false, ◌==◌, ◌&&◌, ◌||◌, not, Option, Some, None, is_none, Result, Ok, Err, codes, if◌then◌else◌}
-use Rattle.std.specs.List.{flat_map, list_any}
+use Rattle.std.specs.Prelude.{◌≡◌, ℕ, List, [], ◌∷◌, ◌++◌, map, reverse, Bool, ◌==◌, ◌||◌, Option, Some, None, Result, Ok, Err, codes, if◌then◌else◌}
+use Rattle.std.specs.List.{flat_map}
 use Rattle.std.specs.FinMap.{get, len}
-use Rattle.std.specs.Str.{bytes_eq, encode_utf8_all, str_eq_ignore_ascii_case}
+use Rattle.std.specs.Str.{bytes_eq}
 use Rattle.cfg_values.specs.TextMap.{Named}
 use Rattle.cfg_values.specs.Text.{characters}
 use Rattle.cfg_types.specs.ErrorTexts.{profile_text}
 use Rattle.cfg_types.specs.declared.errors.ProfileFileError.{ProfileFileError}
-use Rattle.cfg_types.specs.declared.errors.ProfileFileError.TheVariants.{NoProfilesDefined, CredentialLoop, MissingProfile, UnknownProvider, TokenProviderConfig}
+use Rattle.cfg_types.specs.declared.errors.ProfileFileError.TheVariants.{NoProfilesDefined, CredentialLoop, MissingProfile}
 use Rattle.cfg_profile.specs.declared.chain.RoleArn.{RoleArn}
 use Rattle.cfg_profile.specs.declared.chain.BaseProvider.{BaseProvider}
-use Rattle.cfg_profile.specs.declared.chain.BaseProvider.TheVariants.{NamedSource, Sso}
 use Rattle.cfg_profile.specs.declared.chain.ProfileChain.{ProfileChain}
 use Rattle.cfg_profile.specs.SectionParts.{SectionParts}
 use Rattle.cfg_profile.specs.SectionSets.{SectionSets}
 use Rattle.cfg_profile.specs.Sections.{text_property}
-use Rattle.cfg_profile.specs.Properties.{Source, Both, Neither, Own, source}
-use Rattle.cfg_profile.specs.Properties as properties
+use Rattle.cfg_profile.specs.Properties.{Source, Both, source}
 use Rattle.cfg_profile.specs.StaticKeys.{invalid}
 use Rattle.cfg_profile.specs.Bases.{key_base, base}
 use Rattle.cfg_profile.specs.Paths.{is_empty, IsPath, End, Keys, Base, NoSource, OwnBase, Loops, Missing}

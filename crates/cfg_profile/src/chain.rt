@@ -65,8 +65,13 @@ impl Drop for BaseProvider {
                 sso_account_id: _,
                 sso_role_name: _,
             } => {}
-            BaseProvider::CredentialProcess { command: _, account_id: _ } => {}
-            BaseProvider::LoginSession { login_session_arn: _ } => {}
+            BaseProvider::CredentialProcess {
+                command: _,
+                account_id: _,
+            } => {}
+            BaseProvider::LoginSession {
+                login_session_arn: _,
+            } => {}
         }
     }
 }

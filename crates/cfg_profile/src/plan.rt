@@ -2,7 +2,7 @@
 ghost use Rattle.std.specs.Prelude.{◌≡◌, IfOk, Ok};
 ghost use Rattle.cfg_values.specs.Gives.{Gives};
 ghost use Rattle.cfg_types.specs.declared.errors.ProfileFileError.TheVariants.{OutOfMemory as memory, UnknownProvider};
-ghost use Rattle.cfg_profile.specs.NamedSources.{IsPlan, is_custom as custom, is_built_in as built_in, is_known as known, gives_token as token, planned};
+ghost use Rattle.cfg_profile.specs.NamedSources.{IsPlan, is_alike as alike, is_named as named, is_custom as custom, is_built_in as built_in, is_known as known, gives_token as token, planned};
 
 use crate::chain::{BaseProvider, ProfileChain};
 use crate::resolve::chain_of_profile;
@@ -95,20 +95,36 @@ fn is_known(sources: &[Text], name: &Text) -> bool
 fn is_custom(sources: &[Text], name: &Text) -> bool
     ensures { result ≡ custom sources.now name.now }
 {
-    let name = name.as_str();
     for source in sources {
-        if source.as_str().eq_ignore_ascii_case(name) {
+        if is_named(name, source) {
             return true;
         }
     }
     false
 }
 
+const BUILT_IN: [&str; 3] = ["Environment", "Ec2InstanceMetadata", "EcsContainer"];
+
 fn is_built_in(name: &Text) -> bool
     ensures { result ≡ built_in name.now }
 {
-    let name = name.as_str();
-    "Environment".eq_ignore_ascii_case(name)
-        || "Ec2InstanceMetadata".eq_ignore_ascii_case(name)
-        || "EcsContainer".eq_ignore_ascii_case(name)
+    for source in BUILT_IN.as_slice() {
+        if is_alike(name, source) {
+            return true;
+        }
+    }
+    false
+}
+
+fn is_named(name: &Text, source: &Text) -> bool
+    ensures { result ≡ named name.now source.now }
+{
+    is_alike(name, source.as_str())
+}
+
+// Whether this is the name, ASCII case apart.
+fn is_alike(name: &Text, source: &str) -> bool
+    ensures { result ≡ alike name.now source.now }
+{
+    source.eq_ignore_ascii_case(name.as_str())
 }

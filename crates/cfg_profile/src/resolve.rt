@@ -53,11 +53,7 @@ pub fn chain_of_profile(
 }
 
 // What a path gives credentials by.
-fn chain_of(
-    alloc: Global,
-    set: &ProfileSet,
-    path: &Path,
-) -> Result<ProfileChain, ProfileFileError>
+fn chain_of(alloc: Global, set: &ProfileSet, path: &Path) -> Result<ProfileChain, ProfileFileError>
     ensures { Gives memory result (λ answer. answer ≡ outcome_of set.now.sessions path.now) }
 {
     match path.end {

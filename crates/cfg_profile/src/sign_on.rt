@@ -105,18 +105,10 @@ fn sign_on_by(
     ensures { Gives memory result (λ answer. answer ≡ sign_on_of_settings section.now sso_session_name (text_of place.now (codes "sso_region")) (text_of place.now (codes "sso_start_url"))) }
 {
     let Some(sso_region) = place.text_property(alloc, "sso_region")? else {
-        return Err(missing_setting(
-            alloc,
-            section,
-            "`sso_region` was missing",
-        )?);
+        return Err(missing_setting(alloc, section, "`sso_region` was missing")?);
     };
     let Some(sso_start_url) = place.text_property(alloc, "sso_start_url")? else {
-        return Err(missing_setting(
-            alloc,
-            section,
-            "`sso_start_url` was missing",
-        )?);
+        return Err(missing_setting(alloc, section, "`sso_start_url` was missing")?);
     };
     let sso_account_id = section.text_property(alloc, "sso_account_id")?;
     let sso_role_name = section.text_property(alloc, "sso_role_name")?;
@@ -162,5 +154,8 @@ fn missing_session(
 {
     let profile = Text::of(alloc, section.name())?;
     let sso_session = Text::of(alloc, session)?;
-    Ok(ProfileFileError::MissingSsoSession { profile, sso_session })
+    Ok(ProfileFileError::MissingSsoSession {
+        profile,
+        sso_session,
+    })
 }

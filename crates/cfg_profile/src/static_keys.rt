@@ -10,21 +10,14 @@ use std::alloc::Global;
 /// The keys of a section: `aws_access_key_id`, `aws_secret_access_key`, `aws_session_token` and
 /// `aws_account_id`, as they stand there.
 #[tactic(auto, unfolding(crate::specs::StaticKeys::static_keys))]
-pub(crate) fn static_keys(
-    alloc: Global,
-    section: &Section,
-) -> Result<Credentials, ProfileFileError>
+pub(crate) fn static_keys(alloc: Global, section: &Section) -> Result<Credentials, ProfileFileError>
     ensures { Gives memory result (λ answer. answer ≡ keys_of section.now) }
 {
     let Some(id) = section.get("aws_access_key_id") else {
         return Err(without_access_key(alloc, section)?);
     };
     let Some(secret) = section.get("aws_secret_access_key") else {
-        return Err(invalid(
-            alloc,
-            section,
-            "profile missing aws_secret_access_key",
-        )?);
+        return Err(invalid(alloc, section, "profile missing aws_secret_access_key")?);
     };
     let token = section.text_property(alloc, "aws_session_token")?;
     let account = section.account_property(alloc, "aws_account_id")?;

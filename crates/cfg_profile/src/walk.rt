@@ -4,8 +4,8 @@ ghost use Rattle.std.specs.FinMap.{get as entry_of};
 ghost use Rattle.cfg_profile.specs.Paths.{is_empty};
 ghost use Rattle.cfg_profile.specs.Seen.{IsStep, IsFollowed, IsWalked, on_set};
 
-use crate::sections::{ProfileSet, Section};
 use crate::keys::{Source, has_both_keys, is_role, source_of};
+use crate::sections::{ProfileSet, Section};
 use cfg_types::OutOfMemory;
 use std::alloc::Global;
 use std::collections::HashSet;
