@@ -1,0 +1,16 @@
+pub mod SectionParts
+pub mod Sections
+pub mod LastUnder
+pub mod SectionSets
+pub mod Configuration
+pub mod Selected
+pub mod Properties
+pub mod StaticKeys
+pub mod SignOn
+pub mod Bases
+pub mod Paths
+pub mod Plans
+pub mod NamedSources
+pub mod Regions
+pub mod Seen
+pub mod Laws

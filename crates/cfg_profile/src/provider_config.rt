@@ -1,0 +1,181 @@
+ghost use Rattle.std.specs.Prelude.{◌≡◌, IfOk, Some, None, true, false, [], option_map, MatchOption};
+ghost use Rattle.std.specs.FinMap.{empty};
+ghost use Rattle.cfg_values.specs.Text.{characters};
+ghost use Rattle.cfg_profile.specs.Configuration.{nothing_configured};
+ghost use Rattle.cfg_profile.specs.Selected.{selected_name as selected_name_of};
+
+use crate::sections::{ProfileSet, ProfileSource};
+use cfg_types::{Env, OutOfMemory, Region, TryCopy, copy_option};
+use std::alloc::Global;
+use std::marker::Model;
+
+/// What providers are given: environment variables, sections, the name of a profile, a region, and
+/// whether they may sleep between attempts. Each call changes what it is named for, and nothing else.
+#[derive(Drop)]
+pub struct ProviderConfig {
+    env: Env,
+    profiles: ProfileSource,
+    profile_name: Option<String>,
+    region: Option<Region>,
+    sleep: bool,
+}
+
+impl Model for ProviderConfig {
+    ghost use Rattle.std.specs.Prelude.{option_map, string_bytes};
+    ghost use Rattle.cfg_profile.specs.Configuration.{Configuration, configuration_code};
+
+    ghost Value = { Configuration };
+
+    ghost coded = { configuration_code };
+
+    ghost view = { λ c. record {
+      environment = c.env;
+      profiles = c.profiles;
+      profile_name = option_map (λ s. string_bytes s) c.profile_name;
+      region = c.region;
+      sleep = c.sleep;
+    } };
+}
+
+impl ProviderConfig {
+    /// No variables, no sections, no region, and no sleep.
+    pub fn empty(alloc: Global) -> Result<ProviderConfig, OutOfMemory>
+        ensures { IfOk result (λ c. c ≡ nothing_configured false) }
+    {
+        Ok(ProviderConfig {
+            env: Env::new(alloc, Vec::new(alloc))?,
+            profiles: ProfileSource::Sections(ProfileSet::new(
+                alloc,
+                Vec::new(alloc),
+                Vec::new(alloc),
+                "default",
+            )?),
+            profile_name: None,
+            region: None,
+            sleep: false,
+        })
+    }
+
+    /// No variables, no sections and no region. Providers may sleep.
+    pub fn without_region(alloc: Global) -> Result<ProviderConfig, OutOfMemory>
+        ensures { IfOk result (λ c. c ≡ nothing_configured true) }
+    {
+        let config = ProviderConfig::empty(alloc)?;
+        Ok(config.with_sleep_impl(true))
+    }
+
+    /// With these environment variables.
+    pub fn with_env(mut self, env: Env) -> ProviderConfig
+        ensures { result ≡ record self { environment = env } }
+    {
+        self.env = env;
+        self
+    }
+
+    /// With these sections, or their refusal.
+    pub fn with_profiles(mut self, profiles: ProfileSource) -> ProviderConfig
+        ensures { result ≡ record self { profiles = profiles } }
+    {
+        self.profiles = profiles;
+        self
+    }
+
+    /// With the profile of this name, whatever the environment says.
+    pub fn with_profile_name(
+        mut self,
+        alloc: Global,
+        name: &str,
+    ) -> Result<ProviderConfig, OutOfMemory>
+        ensures { IfOk result (λ c. c ≡ record self { profile_name = Some name.now }) }
+    {
+        self.profile_name = Some(String::from_str(alloc, name)?);
+        Ok(self)
+    }
+
+    /// With this region, or none.
+    pub fn with_region(mut self, region: Option<Region>) -> ProviderConfig
+        ensures { result ≡ record self { region = region } }
+    {
+        self.region = region;
+        self
+    }
+
+    /// Whether providers may sleep between attempts.
+    pub fn with_sleep_impl(mut self, sleep: bool) -> ProviderConfig
+        ensures { result ≡ record self { sleep = sleep } }
+    {
+        self.sleep = sleep;
+        self
+    }
+
+    /// The environment variables.
+    pub fn env(&self) -> &Env
+        ensures { result.now ≡ self.now.environment }
+    {
+        &self.env
+    }
+
+    /// The sections, or their refusal.
+    pub fn profiles(&self) -> &ProfileSource
+        ensures { result.now ≡ self.now.profiles }
+    {
+        &self.profiles
+    }
+
+    /// The name of a profile, where one was given.
+    pub fn profile_name(&self) -> Option<&str>
+        ensures { option_map (λ n. n.now) result ≡ self.now.profile_name }
+    {
+        match &self.profile_name {
+            None => None,
+            Some(name) => Some(name.as_str()),
+        }
+    }
+
+    /// The region, where there is one.
+    pub fn region(&self) -> Option<&Region>
+        ensures { option_map (λ r. r.now) result ≡ self.now.region }
+    {
+        self.region.as_ref()
+    }
+
+    /// Whether providers may sleep between attempts.
+    pub fn sleep_impl(&self) -> bool
+        ensures { result ≡ self.now.sleep }
+    {
+        self.sleep
+    }
+}
+
+/// The name of the selected profile: the configuration's, else the one in `AWS_PROFILE`, else
+/// `default`.
+pub fn selected_name(config: &ProviderConfig) -> &str
+    ensures { result.now ≡ selected_name_of config.now }
+{
+    match config.profile_name() {
+        Some(name) => name,
+        None => match config.env().get("AWS_PROFILE") {
+            Ok(name) => name,
+            Err(_) => "default",
+        },
+    }
+}
+
+impl TryCopy for ProviderConfig {
+    fn copy(&self, alloc: Global) -> Result<ProviderConfig, OutOfMemory> {
+        let env = self.env.copy(alloc)?;
+        let profiles = self.profiles.copy(alloc)?;
+        let profile_name = match self.profile_name() {
+            None => None,
+            Some(name) => Some(String::from_str(alloc, name)?),
+        };
+        let region = copy_option(alloc, &self.region)?;
+        Ok(ProviderConfig {
+            env,
+            profiles,
+            profile_name,
+            region,
+            sleep: self.sleep,
+        })
+    }
+}
