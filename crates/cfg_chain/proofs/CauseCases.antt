@@ -16,7 +16,7 @@ use Rattle.cfg_types.specs.declared.errors.Class.TheVariants as class
 use Rattle.cfg_types.specs.Classes.{class_level, same_class, configuration_cause_level, provider_cause_level}
 use Rattle.cfg_world.specs.Inquiry.{Done, Reads, if_ok}
 use Rattle.cfg_world.proofs.Inquiries.{split_after}
-use Rattle.cfg_chain.specs.declared.profile.plan.ProfileChain.{ProfileChain}
+use Rattle.cfg_chain.specs.declared.profile.plan.KeyPlan.{KeyPlan}
 use Rattle.cfg_chain.specs.profile.Plans.{plan}
 use Rattle.cfg_chain.specs.AssumeRole.{in_role, assumes_roles}
 use Rattle.cfg_chain.specs.profile.Profiles.{refusal, by_profile, follows_plan, profile}
@@ -24,7 +24,7 @@ use Rattle.cfg_chain.specs.declared.kept.Found.{Found}
 use Rattle.cfg_chain.specs.declared.member.Member.{Member}
 use Rattle.cfg_chain.specs.declared.member.Member.TheVariants.{Environment, Profile}
 use Rattle.cfg_chain.specs.declared.member.Turn.TheVariants.{PassedOver, Answers}
-use Rattle.cfg_chain.specs.Configuration.{Configuration}
+use Rattle.cfg_profile.specs.Configuration.{Configuration}
 use Rattle.cfg_values.specs.Gives.{◌>>=◌}
 use Rattle.cfg_chain.specs.EnvironmentKeys.{required_by, secret_or, optional, usable, is_not_unicode, environment}
 use Rattle.cfg_chain.specs.Members.{member_inquiry, is_not_loaded, turn}
@@ -149,7 +149,7 @@ marked journal part [] (Err e) out parts d h =
 marked journal part (x ∷ rest) (Ok keys) out parts d h = absurd h
 marked journal part (x ∷ rest) (Err e) out parts d h = absurd h
 
-by_plan : (conf : Configuration) (p : Result ProfileChain ProfileFileError) (journal : List Pair) (out : Result Keys CredentialsError) → is_memory out ≡ false →
+by_plan : (conf : Configuration) (p : Result KeyPlan ProfileFileError) (journal : List Pair) (out : Result Keys CredentialsError) → is_memory out ≡ false →
     Reads (follows_plan conf p) journal out → Tells out (plan_is_passed_over p) None (fault_of_plan p) (first_failure journal)
 by_plan conf (Err e) [] out m h = subst (λ o. Tells o (plan_is_passed_over (Err e)) None (fault_of_plan (Err e)) None) h (refused e (ap is_memory h ∙ m))
 by_plan conf (Err e) (x ∷ journal) out m h = absurd h
@@ -183,7 +183,7 @@ refusal_line (plan_error.InvalidSsoConfig name message) = refl
 refusal_line plan_error.TokenProviderConfig = refl
 refusal_line plan_error.OutOfMemory = refl
 
-plan_line : (conf : Configuration) (p : Result ProfileChain ProfileFileError) (part : List Pair) (out : Result Keys CredentialsError) → Reads (follows_plan conf p) part out → Line part out (plan_is_passed_over p)
+plan_line : (conf : Configuration) (p : Result KeyPlan ProfileFileError) (part : List Pair) (out : Result Keys CredentialsError) → Reads (follows_plan conf p) part out → Line part out (plan_is_passed_over p)
 plan_line conf (Err e) [] out h = record { not_loaded = subst (λ o. is_not_loaded_answer o ≡ plan_is_passed_over (Err e)) h (refusal_line e); empty = λ passed. refl }
 plan_line conf (Err e) (x ∷ part) out h = absurd h
 plan_line conf (Ok p) part out h =

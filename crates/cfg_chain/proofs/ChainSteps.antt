@@ -11,7 +11,7 @@ use Rattle.cfg_world.proofs.Inquiries.{Leads, leads_start, leads_after, ends_don
 use Rattle.cfg_chain.specs.declared.member.Member.{Member}
 use Rattle.cfg_chain.specs.declared.member.Turn.{Turn}
 use Rattle.cfg_chain.specs.declared.member.Turn.TheVariants.{PassedOver, Answers}
-use Rattle.cfg_chain.specs.Configuration.{Configuration}
+use Rattle.cfg_profile.specs.Configuration.{Configuration}
 use Rattle.cfg_chain.specs.Members.{member_inquiry, turn, attempt}
 use Rattle.cfg_chain.specs.Chains.{Attempts, chain, go_on, none_loaded}
 

@@ -8,4 +8,4 @@ pub mod Providing
 pub mod RoleCauses
 pub mod CauseCases
 pub mod Validity
-pub mod Later
+pub mod OnePlan

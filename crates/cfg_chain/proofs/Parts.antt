@@ -12,7 +12,7 @@ use Rattle.cfg_world.specs.Script.{Place, Given}
 use Rattle.cfg_chain.specs.declared.member.Member.{Member}
 use Rattle.cfg_chain.specs.declared.member.Turn.{Turn}
 use Rattle.cfg_chain.specs.declared.member.Turn.TheVariants.{PassedOver, Answers}
-use Rattle.cfg_chain.specs.Configuration.{Configuration}
+use Rattle.cfg_profile.specs.Configuration.{Configuration}
 use Rattle.cfg_chain.specs.Members.{member_inquiry, is_not_loaded, turn, attempt}
 use Rattle.cfg_chain.specs.Chains.{Attempts, chain, go_on, none_loaded}
 use Rattle.cfg_chain.specs.Resolves.{AreParts, AreBegunParts, Resolves, default_members}

@@ -4,7 +4,7 @@ use Rattle.cfg_types.specs.Keys.{Keys}
 use Rattle.cfg_types.specs.declared.errors.CredentialsError.{CredentialsError}
 use Rattle.cfg_world.specs.Fits.{Pair}
 use Rattle.cfg_world.specs.Inquiry.{Reads}
-use Rattle.cfg_chain.specs.Configuration.{Configuration}
+use Rattle.cfg_profile.specs.Configuration.{Configuration}
 use Rattle.cfg_chain.specs.Chains.{chain}
 use Rattle.cfg_chain.specs.Resolves.{Resolves, default_members}
 use Rattle.cfg_chain.proofs.Parts.{chain_parts}

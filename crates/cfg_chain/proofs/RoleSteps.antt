@@ -13,8 +13,8 @@ use Rattle.cfg_world.specs.declared.asking.Asking.{Ghosts}
 use Rattle.cfg_world.specs.Inquiry.{Inquiry, Done, after, if_ok, ◌>>=◌}
 use Rattle.cfg_world.specs.Follows.{Ends, Waits, Breaks}
 use Rattle.cfg_world.proofs.Inquiries.{Leads, leads_start, leads_after, ends_after, ends_done, waits_first, breaks_first, breaks_here}
-use Rattle.cfg_chain.specs.declared.profile.plan.RoleArn.{RoleArn}
-use Rattle.cfg_chain.specs.Configuration.{Configuration}
+use Rattle.cfg_profile.specs.declared.chain.RoleArn.{RoleArn}
+use Rattle.cfg_profile.specs.Configuration.{Configuration}
 use Rattle.cfg_chain.specs.profile.Profiles.{by_profile}
 use Rattle.cfg_chain.specs.AssumeRole.{default_session_name, session_name, request, granted, in_role, exchange, assumes, assumes_roles}
 

@@ -22,11 +22,11 @@ use Rattle.cfg_world.specs.declared.ask.Answer.{Answer}
 use Rattle.cfg_world.specs.declared.leaves.NotGranted.{NotGranted}
 use Rattle.cfg_world.specs.Leaves.{granted_of}
 use Rattle.cfg_world.specs.Fits.{Pair}
-use Rattle.cfg_chain.specs.declared.profile.plan.ProfileChain.{ProfileChain}
+use Rattle.cfg_chain.specs.declared.profile.plan.KeyPlan.{KeyPlan}
 use Rattle.cfg_chain.specs.Sts.{behind_colon, before_colon, fifth_part, account_of, account_or, keys_in, into_credentials}
 use Rattle.cfg_chain.specs.AssumeRole.{or_unhandled, granted}
 use Rattle.cfg_chain.specs.EnvironmentKeys.{usable, is_not_unicode}
-use Rattle.cfg_chain.specs.Configuration.{Configuration}
+use Rattle.cfg_profile.specs.Configuration.{Configuration}
 use Rattle.cfg_chain.specs.profile.Plans.{plan}
 use Rattle.cfg_chain.specs.Resolves.{default_members}
 use Rattle.cfg_chain.specs.PassedOver.{is_passed_over, environment_is_passed_over, plan_is_passed_over}
@@ -137,7 +137,7 @@ record HasSource (conf : Configuration) : Type 0 where
   loaded : list_all (is_passed_over conf) default_members ≡ false
   right : fault conf ≡ None
 
-passed_plan : (environment : Bool) (p : Result ProfileChain ProfileFileError) → IsOk p → ((environment && (plan_is_passed_over p && true)) ≡ false) × ((if environment then fault_of_plan p else None) ≡ None)
+passed_plan : (environment : Bool) (p : Result KeyPlan ProfileFileError) → IsOk p → ((environment && (plan_is_passed_over p && true)) ≡ false) × ((if environment then fault_of_plan p else None) ≡ None)
 passed_plan true (Ok p) h = (refl, refl)
 passed_plan false (Ok p) h = (refl, refl)
 passed_plan environment (Err e) h = cc

@@ -15,8 +15,8 @@ use Rattle.cfg_world.specs.Inquiry.{Inquiry, Done, after, ◌>>=◌}
 use Rattle.cfg_world.specs.declared.leaves.NotGranted.{NotGranted}
 use Rattle.cfg_world.specs.declared.leaves.NotGranted.TheVariants.{Failed, Refused}
 use Rattle.cfg_world.specs.Leaves.{clock, assuming}
-use Rattle.cfg_chain.specs.declared.profile.plan.RoleArn.{RoleArn}
-use Rattle.cfg_chain.specs.Configuration.{Configuration}
+use Rattle.cfg_profile.specs.declared.chain.RoleArn.{RoleArn}
+use Rattle.cfg_profile.specs.Configuration.{Configuration}
 use Rattle.cfg_chain.specs.Sts.{into_credentials}
 
 -- a name for a session, with the milliseconds since the epoch

@@ -21,8 +21,8 @@ use Rattle.cfg_world.specs.declared.ask.Answer.{Answer}
 use Rattle.cfg_world.specs.Fits.{Pair}
 use Rattle.cfg_types.specs.Replies.{sts_in}
 use Rattle.cfg_world.specs.Leaves.{granted_of}
-use Rattle.cfg_chain.specs.declared.profile.plan.ProfileChain.{ProfileChain}
-use Rattle.cfg_chain.specs.Configuration.{Configuration}
+use Rattle.cfg_chain.specs.declared.profile.plan.KeyPlan.{KeyPlan}
+use Rattle.cfg_profile.specs.Configuration.{Configuration}
 use Rattle.cfg_chain.specs.Members.{is_not_loaded}
 use Rattle.cfg_chain.specs.Resolves.{default_members}
 use Rattle.cfg_chain.specs.profile.Plans.{plan}
@@ -36,7 +36,7 @@ abbrev pub is_unreadable : Variables → List ℕ → Bool
 is_unreadable env name = is_none (usable (variable env name)) && is_not_unicode (variable env name)
 
 -- what is wrong with the selected profile
-abbrev pub fault_of_plan : Result ProfileChain ProfileFileError → Option ProfileFileError
+abbrev pub fault_of_plan : Result KeyPlan ProfileFileError → Option ProfileFileError
 fault_of_plan (Ok p) = None
 fault_of_plan (Err e) = if is_not_loaded_error e then None else Some e
 

@@ -9,7 +9,7 @@ use Rattle.cfg_world.specs.Inquiry.{Inquiry, Done, after}
 use Rattle.cfg_chain.specs.declared.member.Member.{Member}
 use Rattle.cfg_chain.specs.declared.member.Turn.{Turn}
 use Rattle.cfg_chain.specs.declared.member.Turn.TheVariants.{PassedOver, Answers}
-use Rattle.cfg_chain.specs.Configuration.{Configuration}
+use Rattle.cfg_profile.specs.Configuration.{Configuration}
 use Rattle.cfg_chain.specs.Members.{member_inquiry, turn, attempt}
 
 -- members that were not loaded, each with its answer

@@ -1,4 +1,3 @@
-pub mod Configuration
 pub mod Gives
 pub mod EnvironmentKeys
 pub mod Sts

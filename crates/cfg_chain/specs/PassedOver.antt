@@ -4,8 +4,8 @@ use Rattle.cfg_types.specs.declared.errors.ProfileFileError.{ProfileFileError}
 use Rattle.cfg_types.specs.Environment.{Variables, variable}
 use Rattle.cfg_chain.specs.declared.member.Member.{Member}
 use Rattle.cfg_chain.specs.declared.member.Member.TheVariants.{Environment, Profile}
-use Rattle.cfg_chain.specs.declared.profile.plan.ProfileChain.{ProfileChain}
-use Rattle.cfg_chain.specs.Configuration.{Configuration}
+use Rattle.cfg_chain.specs.declared.profile.plan.KeyPlan.{KeyPlan}
+use Rattle.cfg_profile.specs.Configuration.{Configuration}
 use Rattle.cfg_chain.specs.profile.Plans.{plan}
 use Rattle.cfg_chain.specs.profile.Profiles.{is_not_loaded_error}
 use Rattle.cfg_chain.specs.EnvironmentKeys.{usable, is_not_unicode}
@@ -25,7 +25,7 @@ abbrev pub environment_is_passed_over : Variables → Bool
 environment_is_passed_over env = is_missing env (codes "AWS_ACCESS_KEY_ID") || (needs_older_secret env && is_missing env (codes "SECRET_ACCESS_KEY"))
 
 -- The profile is passed over exactly where there is none, or where it has no credentials.
-abbrev pub plan_is_passed_over : Result ProfileChain ProfileFileError → Bool
+abbrev pub plan_is_passed_over : Result KeyPlan ProfileFileError → Bool
 plan_is_passed_over (Ok p) = false
 plan_is_passed_over (Err e) = is_not_loaded_error e
 

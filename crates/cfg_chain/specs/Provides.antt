@@ -8,7 +8,7 @@ use Rattle.cfg_world.specs.Held.{Held}
 use Rattle.cfg_world.specs.Grows.{Grows, Stays}
 use Rattle.cfg_world.specs.Inquiry.{Begun}
 use Rattle.cfg_chain.specs.KeptStates.{KeptStates}
-use Rattle.cfg_chain.specs.Configuration.{Configuration}
+use Rattle.cfg_profile.specs.Configuration.{Configuration}
 use Rattle.cfg_chain.specs.Chains.{chain}
 use Rattle.cfg_chain.specs.Resolves.{Resolves, found_by, default_members}
 use Rattle.cfg_chain.specs.Causes.{HasCause}

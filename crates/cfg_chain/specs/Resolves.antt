@@ -9,7 +9,7 @@ use Rattle.cfg_chain.specs.KeptStates.{KeptStates}
 use Rattle.cfg_chain.specs.declared.member.Member.{Member}
 use Rattle.cfg_chain.specs.declared.member.Member.TheVariants.{Environment, Profile}
 use Rattle.cfg_chain.specs.declared.member.Turn.TheVariants.{Answers}
-use Rattle.cfg_chain.specs.Configuration.{Configuration}
+use Rattle.cfg_profile.specs.Configuration.{Configuration}
 use Rattle.cfg_chain.specs.Members.{member_inquiry, is_not_loaded, turn, attempt}
 use Rattle.cfg_chain.specs.Chains.{Attempts, none_loaded}
 

@@ -4,7 +4,7 @@ use Rattle.std.specs.Coded.{Coded, code_by, coded×, coded_option}
 use Rattle.cfg_chain.specs.declared.default_provider.credentials.RegionSource.{RegionSource}
 use Rattle.cfg_chain.specs.declared.default_provider.credentials.RegionSource.TheVariants.{Fixed}
 use Rattle.cfg_chain.specs.contracts.default_provider.credentials.RegionSource as source
-use Rattle.cfg_chain.specs.Configuration.{Configuration, configuration_code, nothing_configured}
+use Rattle.cfg_profile.specs.Configuration.{Configuration, configuration_code, nothing_configured}
 
 pub record Setup : Type 0 where
   pub configuration : Configuration

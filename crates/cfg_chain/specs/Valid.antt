@@ -14,7 +14,7 @@ use Rattle.cfg_world.specs.declared.leaves.NotGranted.{NotGranted}
 use Rattle.cfg_world.specs.Leaves.{granted_of}
 use Rattle.cfg_world.specs.Fits.{Pair}
 use Rattle.cfg_chain.specs.EnvironmentKeys.{usable}
-use Rattle.cfg_chain.specs.Configuration.{Configuration}
+use Rattle.cfg_profile.specs.Configuration.{Configuration}
 use Rattle.cfg_chain.specs.profile.Plans.{plan}
 
 -- the number of colons, each the byte 58

@@ -4,7 +4,7 @@ ghost use Rattle.cfg_chain.specs.Members.{attempt};
 ghost use Rattle.cfg_chain.specs.Chains.{chain};
 
 use crate::member::{Member, Turn, follow_member, turn_of};
-use crate::provider_config::ProviderConfig;
+use cfg_profile::ProviderConfig;
 use cfg_types::{
     Credentials, CredentialsError, NotLoadedCause, OutOfMemory, ProviderAttempt,
     ProviderChainError, Seq, Text,

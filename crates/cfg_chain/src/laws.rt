@@ -1,8 +1,5 @@
 //! Laws of chains, each on a call that carries it.
 ghost use Rattle.std.specs.Prelude.{◌≡◌, ◌↔◌, ℕ, List, [], ◌∷◌, ◌++◌, Some, None, true, false, Result};
-ghost use Rattle.std.specs.List.{All};
-ghost use Rattle.std.specs.FinMap.{get};
-ghost use Rattle.std.specs.Str.{bytes_eq};
 ghost use Rattle.cfg_types.specs.Keys.{Keys};
 ghost use Rattle.cfg_types.specs.declared.errors.CredentialsError.{CredentialsError as Refusal};
 ghost use Rattle.cfg_world.specs.Fits.{Pair};
@@ -10,11 +7,10 @@ ghost use Rattle.cfg_world.specs.declared.script.DeviceLists.{DeviceLists as Lis
 ghost use Rattle.cfg_world.specs.Script.{Place, Given};
 ghost use Rattle.cfg_world.specs.Inquiry.{Reads, Begun};
 ghost use Rattle.cfg_chain.specs.declared.member.Member.{Member as Asked};
-ghost use Rattle.cfg_chain.specs.Configuration.{Configuration};
-ghost use Rattle.cfg_chain.specs.profile.SectionParts.{SectionParts};
-ghost use Rattle.cfg_chain.specs.profile.Sections.{property};
-ghost use Rattle.cfg_chain.specs.profile.SectionSets.{sections_by_name};
-ghost use Rattle.cfg_chain.specs.profile.LastUnder.{IsOther, IsLastUnder};
+ghost use Rattle.cfg_profile.specs.Configuration.{Configuration};
+ghost use Rattle.cfg_profile.specs.NamedSources.{IsPlan};
+ghost use Rattle.cfg_profile.specs.SectionSets.{SectionSets};
+ghost use Rattle.cfg_chain.specs.profile.Plans.{Planned, profile_plan};
 ghost use Rattle.cfg_chain.specs.Causes.{is_not_loaded_answer};
 ghost use Rattle.cfg_chain.specs.Members.{member_inquiry};
 ghost use Rattle.cfg_chain.specs.PassedOver.{is_passed_over};
@@ -51,14 +47,9 @@ pub fn members_are_passed_over_by_the_table()
         is_passed_over conf member ≡ true → Reads (member_inquiry conf member) part out → (is_not_loaded_answer out ≡ true) × (part ≡ []) }
 {}
 
-/// A key of a section has the last value that stands under it, and none where none stands there.
-pub fn the_last_value_of_a_key_counts()
-    ensures last { (section : SectionParts) (key value : List ℕ) → (property section key ≡ Some value) ↔ IsLastUnder key section.properties value }
-    ensures none { (section : SectionParts) (key : List ℕ) → (property section key ≡ None) ↔ All (IsOther key) section.properties }
-{}
-
-/// Of two sections of one name the later counts.
-pub fn the_later_of_two_sections_counts()
-    ensures { (before behind : List SectionParts) (section : SectionParts) → All (λ other. bytes_eq section.name other.name ≡ false) behind →
-        get (sections_by_name (before ++ section ∷ behind)) section.name ≡ Some section }
+/// The plan of a profile is what its path gives, where the caller has no sources of its own. There is
+/// no other such answer.
+pub fn the_plan_is_that_of_the_path()
+    ensures path { (sets : SectionSets) (name : List ℕ) → IsPlan sets name [] (profile_plan sets name) }
+    ensures only { (sets : SectionSets) (name : List ℕ) (answer : Planned) → IsPlan sets name [] answer → profile_plan sets name ≡ answer }
 {}

@@ -1,4 +1,4 @@
-//! Chains of credentials providers. It stands on cfg_types and cfg_world. The layers above may use
+//! Chains of credentials providers. It stands on cfg_profile and cfg_world. The layers above may use
 //! that a call's journal is the parts of the members up to the one that answered, in order, and that
 //! every earlier one was not loaded.
 #![tactic(auto)]
@@ -11,12 +11,10 @@ pub mod kept;
 pub mod laws;
 mod member;
 pub mod profile;
-pub mod provider_config;
 mod sts;
 
+pub use cfg_profile::{ProfileSet, ProfileSource, ProviderConfig, Section};
 pub use cfg_types::{CredentialsError, OutOfMemory};
 pub use default_provider::credentials::{DefaultCredentialsChain, RegionSource};
 pub use kept::{Found, Kept};
-pub use profile::plan::{has_other_source, is_built};
-pub use profile::sections::{ProfileSet, ProfileSource, Section};
-pub use provider_config::ProviderConfig;
+pub use profile::plan::is_built;

@@ -7,7 +7,7 @@ ghost use Rattle.cfg_chain.specs.EnvironmentKeys.{environment};
 
 use crate::environment::environment_credentials;
 use crate::profile::provider::follow_profile;
-use crate::provider_config::ProviderConfig;
+use cfg_profile::ProviderConfig;
 use cfg_types::{Credentials, CredentialsError};
 use cfg_world::{Asking, Halt, Stop};
 use std::alloc::Global;

@@ -1,5 +1,6 @@
 //! What a profile gives credentials by.
 ghost use Rattle.std.specs.Prelude.{◌≡◌};
+ghost use Rattle.cfg_profile.specs.Bases.{keys_in};
 
 use cfg_types::{CommandWithSensitiveArgs, Credentials, Seq, Text};
 
@@ -72,6 +73,18 @@ impl Drop for BaseProvider {
             BaseProvider::LoginSession {
                 login_session_arn: _,
             } => {}
+        }
+    }
+}
+
+impl BaseProvider {
+    /// The keys, where these give the first credentials.
+    pub fn into_keys(self) -> Option<Credentials>
+        ensures { result ≡ keys_in self }
+    {
+        match self {
+            BaseProvider::AccessKey(keys) => Some(keys),
+            _ => None,
         }
     }
 }

@@ -11,13 +11,24 @@ use std::marker::Model;
 
 /// What providers are given: environment variables, sections, the name of a profile, a region, and
 /// whether they may sleep between attempts. Each call changes what it is named for, and nothing else.
-#[derive(Drop)]
 pub struct ProviderConfig {
     env: Env,
     profiles: ProfileSource,
     profile_name: Option<String>,
     region: Option<Region>,
     sleep: bool,
+}
+
+impl Drop for ProviderConfig {
+    fn drop(self) {
+        let ProviderConfig {
+            env: _,
+            profiles: _,
+            profile_name: _,
+            region: _,
+            sleep: _,
+        } = self;
+    }
 }
 
 impl Model for ProviderConfig {

@@ -11,10 +11,18 @@ use std::marker::Model;
 
 /// A section: a name, and properties by keys. Keys are compared without regard to ASCII case, and of
 /// two equal keys the later counts.
-#[derive(Drop)]
 pub struct Section {
     name: String,
     properties: Vec<(String, String)>,
+}
+
+impl Drop for Section {
+    fn drop(self) {
+        let Section {
+            name: _,
+            properties: _,
+        } = self;
+    }
 }
 
 impl Model for Section {
@@ -132,11 +140,20 @@ fn is_same_key(a: &str, b: &str) -> bool
 
 /// Sections by name, profiles and sessions apart, and the name of the selected profile. Names are
 /// compared exactly, and of two sections of one name the later counts.
-#[derive(Drop)]
 pub struct ProfileSet {
     profiles: TextMap<Section>,
     sessions: TextMap<Section>,
     selected: String,
+}
+
+impl Drop for ProfileSet {
+    fn drop(self) {
+        let ProfileSet {
+            profiles: _,
+            sessions: _,
+            selected: _,
+        } = self;
+    }
 }
 
 impl Model for ProfileSet {
@@ -245,10 +262,18 @@ fn by_name(alloc: Global, sections: Vec<Section>) -> Result<TextMap<Section>, Ou
 }
 
 /// Sections, or why they were refused.
-#[derive(Drop)]
 pub enum ProfileSource {
     Sections(ProfileSet),
     Refused(Text),
+}
+
+impl Drop for ProfileSource {
+    fn drop(self) {
+        match self {
+            ProfileSource::Sections(_) => {}
+            ProfileSource::Refused(_) => {}
+        }
+    }
 }
 
 impl TryCopy for ProfileSource {

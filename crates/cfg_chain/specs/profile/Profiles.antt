@@ -9,8 +9,8 @@ use Rattle.cfg_types.specs.declared.errors.CredentialsError.TheVariants as error
 use Rattle.cfg_types.specs.declared.errors.ProfileFileError.{ProfileFileError}
 use Rattle.cfg_types.specs.declared.errors.ProfileFileError.TheVariants as plan_error
 use Rattle.cfg_world.specs.Inquiry.{Inquiry, Done, ◌>>=◌}
-use Rattle.cfg_chain.specs.declared.profile.plan.ProfileChain.{ProfileChain}
-use Rattle.cfg_chain.specs.Configuration.{Configuration}
+use Rattle.cfg_chain.specs.declared.profile.plan.KeyPlan.{KeyPlan}
+use Rattle.cfg_profile.specs.Configuration.{Configuration}
 use Rattle.cfg_chain.specs.profile.Plans.{plan}
 use Rattle.cfg_chain.specs.AssumeRole.{assumes_roles}
 
@@ -33,7 +33,7 @@ refusal e = if is_not_loaded_error e then error.CredentialsNotLoaded (not_loaded
 abbrev pub by_profile : Keys → Keys
 by_profile keys = record keys { features = keys.features ++ CredentialsProfile ∷ [] }
 
-abbrev pub follows_plan : Configuration → Result ProfileChain ProfileFileError → Inquiry (Result Keys CredentialsError)
+abbrev pub follows_plan : Configuration → Result KeyPlan ProfileFileError → Inquiry (Result Keys CredentialsError)
 follows_plan conf (Err e) = Done (Err (refusal e))
 follows_plan conf (Ok p) = assumes_roles conf p.roles p.base >>= λ keys. Done (Ok (by_profile keys))
 

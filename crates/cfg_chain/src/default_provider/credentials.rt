@@ -11,7 +11,7 @@ ghost use Rattle.cfg_chain.specs.Setups.{nothing_set, built_by};
 use crate::chain::follow_chain;
 use crate::kept::Kept;
 use crate::member::Member;
-use crate::provider_config::ProviderConfig;
+use cfg_profile::ProviderConfig;
 use cfg_types::{Credentials, CredentialsError, OutOfMemory, Region};
 use cfg_world::{Asking, Devices, Stop, World};
 use std::alloc::Global;
@@ -108,7 +108,7 @@ impl Drop for DefaultCredentialsChain {
 }
 
 impl Model for DefaultCredentialsChain {
-    ghost use Rattle.cfg_chain.specs.Configuration.{Configuration, configuration_code};
+    ghost use Rattle.cfg_profile.specs.Configuration.{Configuration, configuration_code};
 
     ghost Value = { Configuration };
 

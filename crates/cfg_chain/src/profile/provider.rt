@@ -3,8 +3,8 @@ ghost use Rattle.cfg_world.specs.Follows.{Follows};
 ghost use Rattle.cfg_chain.specs.profile.Profiles.{refusal as refusal_of, by_profile, profile, follows_plan};
 
 use crate::assume_role::assume_roles;
-use crate::profile::plan::{ProfileChain, plan_of};
-use crate::provider_config::ProviderConfig;
+use crate::profile::plan::{KeyPlan, plan_of};
+use cfg_profile::ProviderConfig;
 use cfg_types::{
     AwsCredentialFeature, ConfigCause, Credentials, CredentialsError, NotLoadedCause, OutOfMemory,
     ProfileFileError,
@@ -32,12 +32,12 @@ pub fn follow_profile<A: Asking>(
 fn follow_plan<A: Asking>(
     alloc: Global,
     config: &ProviderConfig,
-    plan: ProfileChain,
+    plan: KeyPlan,
     asking: &mut A,
 ) -> Result<Result<Credentials, CredentialsError>, Stop>
     ensures { Follows ⟦<A as Asking>⟧ (follows_plan config.now (Ok plan)) asking.old asking.new result }
 {
-    let ProfileChain { base, roles } = plan;
+    let KeyPlan { base, roles } = plan;
     match assume_roles(alloc, config, roles.as_slice(), base, asking)? {
         Ok(credentials) => {
             let credentials = mark(credentials)?;

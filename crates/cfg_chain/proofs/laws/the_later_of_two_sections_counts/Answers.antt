@@ -1,5 +1,0 @@
-use Rattle.cfg_chain.proofs.Later.{later_section}
-use Rattle.cfg_chain.proofs.laws.the_later_of_two_sections_counts.Goals as goal
-
-pub returns : goal.returns
-returns c = later_section
