@@ -4,8 +4,8 @@ use Rattle.cfg_values.specs.TextMap.{Named}
 use Rattle.cfg_values.specs.Entries.{each_set}
 use Rattle.cfg_types.specs.declared.environment.EnvText.{EnvText}
 use Rattle.cfg_values.specs.declared.memory.OutOfMemory.{OutOfMemory}
-use Rattle.cfg_chain.specs.declared.profile.sections.ProfileSource.{ProfileSource}
-use Rattle.cfg_chain.specs.Configuration.{Configuration, nothing_configured}
+use Rattle.cfg_profile.specs.declared.sections.ProfileSource.{ProfileSource}
+use Rattle.cfg_profile.specs.Configuration.{Configuration, nothing_configured}
 use Rattle.cfg_program.specs.Calls.{configured_by}
 
 -- the name comes last

@@ -10,11 +10,11 @@ use Rattle.cfg_world.specs.Fits.{Pair}
 use Rattle.cfg_world.specs.Held.{Held}
 use Rattle.cfg_world.specs.Script as devices
 use Rattle.cfg_world.specs.Script.{Given, start, no_faults}
-use Rattle.cfg_chain.specs.declared.profile.sections.ProfileSource.{ProfileSource}
-use Rattle.cfg_chain.specs.declared.profile.sections.ProfileSource.TheVariants as source
-use Rattle.cfg_chain.specs.profile.SectionParts.{SectionParts}
-use Rattle.cfg_chain.specs.profile.SectionSets.{sections_by_name}
-use Rattle.cfg_chain.specs.Configuration.{Configuration}
+use Rattle.cfg_profile.specs.declared.sections.ProfileSource.{ProfileSource}
+use Rattle.cfg_profile.specs.declared.sections.ProfileSource.TheVariants as source
+use Rattle.cfg_profile.specs.SectionParts.{SectionParts}
+use Rattle.cfg_profile.specs.SectionSets.{sections_by_name}
+use Rattle.cfg_profile.specs.Configuration.{Configuration}
 use Rattle.cfg_chain.specs.Resolves.{Resolves}
 use Rattle.cfg_chain.specs.Causes.{HasCause}
 use Rattle.cfg_chain.specs.Valid.{IsValid}

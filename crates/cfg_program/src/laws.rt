@@ -1,7 +1,7 @@
 //! Laws of runs, each on a call that carries it.
 ghost use Rattle.std.specs.Prelude.{◌≡◌, ℕ, List, Bool, Option, Some, IsSome, IsTrue};
 ghost use Rattle.cfg_world.specs.declared.script.DeviceLists.{DeviceLists as Lists};
-ghost use Rattle.cfg_chain.specs.Configuration.{Configuration};
+ghost use Rattle.cfg_profile.specs.Configuration.{Configuration};
 ghost use Rattle.cfg_script.specs.Script.{Plain};
 ghost use Rattle.cfg_program.specs.declared.status.Status.{Status as Ended};
 ghost use Rattle.cfg_program.specs.declared.words.Word.{Word as Asked};

@@ -1,6 +1,5 @@
-ghost use Rattle.std.specs.Prelude.{◌≡◌, ◌&&◌, not, true, false, is_ok, IfOk, Err, map, option_map, string_bytes};
+ghost use Rattle.std.specs.Prelude.{◌≡◌, true, false, is_ok, IfOk, Err, map, option_map, string_bytes};
 ghost use Rattle.cfg_program.specs.Lines.{shown};
-ghost use Rattle.std.specs.List.{list_any};
 ghost use Rattle.cfg_values.specs.Text.{characters};
 ghost use Rattle.cfg_values.specs.TextMap.{named};
 ghost use Rattle.cfg_values.specs.Entries.{each_set};
@@ -8,14 +7,14 @@ ghost use Rattle.cfg_world.specs.Script.{AllFit};
 ghost use Rattle.cfg_chain.specs.Causes.{is_memory};
 ghost use Rattle.cfg_script.specs.Script.{plain, plain_profiles, section_bytes};
 ghost use Rattle.cfg_script.specs.Devices.{lists_of};
-ghost use Rattle.cfg_chain.specs.profile.Plans.{has_other_source as has_other_source_of, is_built as is_built_of};
-ghost use Rattle.cfg_program.specs.Calls.{section_parts, profiles_of, source_of, configured_by, IsFresh, AnswersOver, Answers};
-ghost use Rattle.cfg_program.specs.Plans.{names_other_source, plan_is_built};
+ghost use Rattle.cfg_chain.specs.profile.Plans.{is_built as is_built_of};
+ghost use Rattle.cfg_program.specs.Calls.{section_parts, source_of, configured_by, IsFresh, AnswersOver, Answers};
+ghost use Rattle.cfg_program.specs.Plans.{plan_is_built};
 
 use crate::lines::line_of;
 use cfg_chain::{
     DefaultCredentialsChain, ProfileSet, ProfileSource, ProviderConfig, RegionSource, Section,
-    has_other_source, is_built,
+    is_built,
 };
 use cfg_script::{Script, ScriptProfiles};
 use cfg_types::{Credentials, CredentialsError, Env, EnvText, OutOfMemory, Region};
@@ -109,10 +108,9 @@ fn configuration(
     selected: Option<String>,
     sleep: bool,
 ) -> Result<ProviderConfig, Unresolved>
-    ensures other { IfOk result (λ c. names_other_source (profiles_of (plain_profiles profiles)) ≡ false) }
     ensures built { IfOk result (λ c. is_built_of c ≡ true) }
     ensures value { IfOk result (λ c. c ≡ configured_by (map named variables.items) (source_of (plain_profiles profiles)) (option_map (λ t. string_bytes t) selected) sleep) }
-    ensures not_built { result ≡ Err Unresolved.NotBuilt → (not (names_other_source (profiles_of (plain_profiles profiles))) && is_built_of (configured_by (map named variables.items) (source_of (plain_profiles profiles)) (option_map (λ t. string_bytes t) selected) sleep)) ≡ false }
+    ensures not_built { result ≡ Err Unresolved.NotBuilt → is_built_of (configured_by (map named variables.items) (source_of (plain_profiles profiles)) (option_map (λ t. string_bytes t) selected) sleep) ≡ false }
 {
     let source = source(alloc, profiles)?;
     let config = configured_with(alloc, variables, source, selected, sleep)?;
@@ -122,35 +120,19 @@ fn configuration(
     Ok(config)
 }
 
-// The sections that the script says, or their refusal, where no section names another source.
-fn source(alloc: Global, profiles: ScriptProfiles) -> Result<ProfileSource, Unresolved>
-    ensures other { IfOk result (λ s. names_other_source (profiles_of (plain_profiles profiles)) ≡ false) }
-    ensures value { IfOk result (λ s. s ≡ source_of (plain_profiles profiles)) }
-    ensures not_built { result ≡ Err Unresolved.NotBuilt → names_other_source (profiles_of (plain_profiles profiles)) ≡ true }
+// The sections that the script says, or their refusal.
+fn source(alloc: Global, profiles: ScriptProfiles) -> Result<ProfileSource, OutOfMemory>
+    ensures { IfOk result (λ s. s ≡ source_of (plain_profiles profiles)) }
 {
-    let (profiles, sessions) = match profiles {
-        ScriptProfiles::Refused(reason) => return Ok(ProfileSource::Refused(reason)),
-        ScriptProfiles::Sections { profiles, sessions } => (profiles, sessions),
-    };
-    let profiles = sections(alloc, profiles)?;
-    if names_other(profiles.as_slice()) {
-        return Err(Unresolved::NotBuilt);
-    }
-    let sessions = sections(alloc, sessions)?;
-    let set = ProfileSet::new(alloc, profiles, sessions, "default")?;
-    Ok(ProfileSource::Sections(set))
-}
-
-// Whether one of the sections names a provider that is not built.
-fn names_other(sections: &[Section]) -> bool
-    ensures { result ≡ list_any has_other_source_of sections.now }
-{
-    for section in sections {
-        if has_other_source(section) {
-            return true;
+    match profiles {
+        ScriptProfiles::Refused(reason) => Ok(ProfileSource::Refused(reason)),
+        ScriptProfiles::Sections { profiles, sessions } => {
+            let profiles = sections(alloc, profiles)?;
+            let sessions = sections(alloc, sessions)?;
+            let set = ProfileSet::new(alloc, profiles, sessions, "default")?;
+            Ok(ProfileSource::Sections(set))
         }
     }
-    false
 }
 
 // These variables, sections and selected name, and whether providers may sleep. The region comes to
