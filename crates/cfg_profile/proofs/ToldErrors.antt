@@ -99,7 +99,7 @@ pub base_told : (sessions : Named SectionParts) (s : SectionParts) → IsTold (b
 unfolding base
 base_told sessions s = source_told sessions s (text_property s (codes "credential_source"))
 
-error_told : {X : Type 0} (r : Result X ProfileFileError) → IsTold r → (e : ProfileFileError) → Err e ≡ r → is_some (profile_text e) ≡ true
+pub error_told : {X : Type 0} (r : Result X ProfileFileError) → IsTold r → (e : ProfileFileError) → Err e ≡ r → is_some (profile_text e) ≡ true
 error_told (Ok x) h e same = absurd cc
 error_told (Err d) h e same = let is : e ≡ d = cc in ap (λ x. is_some (profile_text x)) is ∙ h
 

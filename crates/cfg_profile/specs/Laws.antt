@@ -1,13 +1,15 @@
 -- Laws of paths, chains and plans.
-use Rattle.std.specs.Prelude.{◌≡◌, ◌⊎◌, ◌↔◌, ℕ, ◌≤◌, List, length, Some, Result, Ok, IsSome, slice_get, true}
+use Rattle.std.specs.Prelude.{◌≡◌, ◌⊎◌, ◌↔◌, ℕ, ◌≤◌, List, length, Some, Result, Ok, Err, IsSome, slice_get, true}
 use Rattle.std.specs.FinMap.{get, len}
 use Rattle.std.specs.Str.{encode_utf8_all, str_to_ascii_lowercase}
 use Rattle.cfg_values.specs.TextMap.{Named}
+use Rattle.cfg_types.specs.ErrorTexts.{profile_text}
 use Rattle.cfg_types.specs.declared.errors.ProfileFileError.{ProfileFileError}
 use Rattle.cfg_profile.specs.declared.chain.ProfileChain.{ProfileChain}
 use Rattle.cfg_profile.specs.SectionParts.{SectionParts}
 use Rattle.cfg_profile.specs.SectionSets.{SectionSets}
 use Rattle.cfg_profile.specs.Paths.{IsPath, End}
+use Rattle.cfg_profile.specs.Bases.{base}
 use Rattle.cfg_profile.specs.Plans.{IsChain}
 use Rattle.cfg_profile.specs.NamedSources.{IsPlan, is_known, built_in}
 
@@ -38,6 +40,10 @@ OnePlan = (sets : SectionSets) (name : List ℕ) (sources : List (List ℕ)) →
 
 abbrev pub FewRoles : Type 0
 FewRoles = (sets : SectionSets) (name : List ℕ) (chain : ProfileChain) → IsChain sets name (Ok chain) → length chain.roles ≤ len sets.profiles
+
+-- an error of a base has a text
+abbrev pub TellsBases : Type 0
+TellsBases = (sessions : Named SectionParts) (section : SectionParts) (error : ProfileFileError) → base sessions section ≡ Err error → IsSome (profile_text error)
 
 -- the bytes of a name, its ASCII letters in lower case
 abbrev pub lowered : List ℕ → List ℕ

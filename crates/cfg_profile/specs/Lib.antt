@@ -14,3 +14,4 @@ pub mod NamedSources
 pub mod Regions
 pub mod Seen
 pub mod Laws
+pub mod Generated

@@ -7,7 +7,7 @@ ghost use Rattle.cfg_profile.specs.SectionParts.{SectionParts};
 ghost use Rattle.cfg_profile.specs.Sections.{property};
 ghost use Rattle.cfg_profile.specs.SectionSets.{sections_by_name};
 ghost use Rattle.cfg_profile.specs.LastUnder.{IsOther, IsLastUnder};
-ghost use Rattle.cfg_profile.specs.Laws.{OnePath, OneChain, OnePlan, FewRoles, KnownByBytes, KnownInAnyCase};
+ghost use Rattle.cfg_profile.specs.Laws.{OnePath, OneChain, OnePlan, FewRoles, TellsBases, KnownByBytes, KnownInAnyCase};
 
 /// From each profile there is one path, and one end.
 pub fn one_path()
@@ -22,6 +22,11 @@ pub fn one_chain()
 /// Each name in a set of profiles has one plan, or one error.
 pub fn one_plan()
     ensures { OnePlan }
+{}
+
+/// Each error of a base has a text, so that an error around it tells it.
+pub fn errors_of_bases_are_told()
+    ensures { TellsBases }
 {}
 
 /// A chain has no more roles than there are profiles.

@@ -5,6 +5,7 @@
 
 mod bases;
 pub mod chain;
+pub mod generated;
 mod keys;
 pub mod laws;
 pub mod plan;
@@ -18,6 +19,7 @@ mod walk;
 
 pub use cfg_types::{OutOfMemory, ProfileFileError};
 pub use chain::{BaseProvider, ProfileChain, RoleArn};
+pub use generated::generated_set;
 pub use plan::{plan_of, plan_of_profile};
 pub use provider_config::{ProviderConfig, selected_name};
 pub use region::{region_of, region_of_profile};
