@@ -26,11 +26,6 @@ use Rattle.cfg_program.specs.Lines.{shown}
 abbrev pub section_parts : Section → SectionParts
 section_parts s = record { name = s.0; properties = s.1 }
 
--- the profiles that a script says, none where they are refused
-abbrev pub profiles_of : PlainProfiles → List Section
-profiles_of (Sections profiles sessions) = profiles
-profiles_of (RefusedSections reason) = []
-
 -- the sections that a script says, or their refusal
 abbrev pub source_of : PlainProfiles → ProfileSource
 source_of (Sections profiles sessions) = source.Sections (record {
