@@ -1,5 +1,5 @@
 // One script of devices with every list filled.
-ghost use Rattle.std.specs.Prelude.{IfOk, All};
+ghost use Rattle.std.specs.Prelude.{IfOk, All, pos, ◌≤ℤ◌};
 ghost use Rattle.cfg_world.specs.Script.{AllFit, FailsByIo, IsSentAs, IsHttp, IsSts, IsRole, IsToken, IsSignIn};
 
 use cfg_types::{
@@ -123,14 +123,29 @@ const FILES: &[(&str, Option<&str>)] = &[
     ("c", None),
 ];
 
+// A moment so many seconds behind the epoch.
+fn moment(seconds: u32) -> Instant
+    ensures { pos 0 ≤ℤ result.seconds }
+{
+    match Instant::new(i64::from(seconds), 0) {
+        Some(moment) => moment,
+        None => Instant::epoch(),
+    }
+}
+
+fn clock(alloc: Global) -> Result<Seq<Instant>, OutOfMemory>
+    ensures { IfOk result (λ clock. All (λ m. pos 0 ≤ℤ m.seconds) clock) }
+{
+    Ok(Seq::of(vec![in alloc; moment(5), moment(7)]?))
+}
+
 // Empty lists, but for files, the clock and the jitter.
 fn local(alloc: Global) -> Result<DeviceLists, OutOfMemory>
     ensures { IfOk result (λ lists. AllFit lists) }
 {
     let files = files(alloc, FILES)?;
     let unwritable = Seq::of(vec![in alloc; Text::of(alloc, "b")?]?);
-    let readings = [Instant::epoch().plus(5), Instant::epoch().plus(7)];
-    let clock = Seq::of_slice(alloc, &readings)?;
+    let clock = clock(alloc)?;
     let jitter = Seq::of_slice(alloc, &[8, 9])?;
     let mut lists = DeviceLists::empty(alloc);
     lists.files = files;
