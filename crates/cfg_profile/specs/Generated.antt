@@ -16,9 +16,9 @@ abbrev pub generated_role : ℕ → SectionParts
 generated_role i = record {
   name = profile_name i;
   properties =
-    (codes "role_arn", codes "arn:aws:iam::" ++ (in_twelve_digits i ++ (codes ":role/r" ++ decimal i)))
-    ∷ (codes "source_profile", profile_name (i + 1))
-    ∷ (codes "role_session_name", codes "s" ++ decimal i) ∷ [];
+      (codes "role_arn", codes "arn:aws:iam::" ++ (in_twelve_digits i ++ (codes ":role/r" ++ decimal i)))
+      ∷ (codes "source_profile", profile_name (i + 1))
+      ∷ (codes "role_session_name", codes "s" ++ decimal i) ∷ [];
 }
 
 -- the profile of this number, with keys
