@@ -1,4 +1,5 @@
-//! From the path of a profile to what it gives credentials by.
+//! From the path of a profile to what it gives credentials by. The rules are those of the crate
+//! aws-config 1.13.0 (`profile/credentials/repr.rs`).
 ghost use Rattle.std.specs.Prelude.{◌≡◌, ◌++◌, IfOk, IsTrue, is_some, map, reverse, string_bytes};
 ghost use Rattle.std.specs.List.{flat_map};
 ghost use Rattle.cfg_values.specs.Gives.{Gives};
@@ -30,11 +31,11 @@ pub fn resolve_chain(alloc: Global, set: &ProfileSet) -> Result<ProfileChain, Pr
 /// | answer | where |
 /// |---|---|
 /// | `NoProfilesDefined` | there is no profile, or none is called `default` and this one is asked for |
-/// | `MissingProfile` | another profile is not there, this one or a source of the path, or an SSO setting is missing |
+/// | `MissingProfile` | another profile is not there, this one or a source on its path, or it lacks its SSO region or start URL |
 /// | `CredentialLoop` | the path comes back to one of its profiles |
-/// | `ProfileDidNotContainCredentials` | the one profile of the path has no keys, and nothing else |
-/// | `InvalidCredentialSource` | keys of a profile do not go together, or the base behind a role has an error |
-/// | `MissingSsoSession`, `InvalidSsoConfig` | the SSO settings of the one profile of the path are at fault |
+/// | `ProfileDidNotContainCredentials` | a profile has no keys, and nothing else: the one of this name, or a role that is its own source |
+/// | `MissingSsoSession`, `InvalidSsoConfig` | the SSO settings of such a profile are at fault |
+/// | `InvalidCredentialSource` | keys of a profile do not go together, a role has both sources or none, or the base behind a role has one of these errors |
 /// | `OutOfMemory` | memory ran out |
 pub fn chain_of_profile(
     alloc: Global,
