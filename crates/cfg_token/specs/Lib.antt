@@ -1,0 +1,4 @@
+pub mod ShownTokens
+pub mod Paths
+pub mod SsoFile
+pub mod SsoText

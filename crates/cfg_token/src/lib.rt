@@ -1,0 +1,20 @@
+//! Tokens that files keep: the cached token of IAM Identity Center, its file and the file's path.
+//! It stands on cfg_types, cfg_world and cfg_json. The layers above may use that a file is read and
+//! written exactly as its format says.
+#![tactic(auto)]
+
+mod lookup;
+mod paths;
+mod sso_file;
+mod sso_token;
+mod sso_writing;
+mod token_key;
+
+pub use cfg_types::{
+    CachedSsoTokenError, Field, IoStep, OutOfMemory, Region, SsoTokenProviderError,
+};
+pub use paths::cached_sso_token_path;
+pub use sso_file::parse_cached_sso_token;
+pub use sso_token::CachedSsoToken;
+pub use sso_writing::write_cached_sso_token;
+pub use token_key::TokenKey;
