@@ -24,7 +24,7 @@ use Rattle.cfg_token.specs.declared.sso_token.CachedSsoToken.{CachedSsoToken}
 
 -- ---- no reading runs out of memory
 
-IsNot : {Y : Type 0} → Result Y JsonError → Type 0
+abbrev IsNot : {Y : Type 0} → Result Y JsonError → Type 0
 IsNot r = r ≡ Err json.OutOfMemory → ⊥
 
 ok_is_not : {Y : Type 0} (y : Y) → IsNot (let r : Result Y JsonError = Ok y in r)
@@ -63,10 +63,10 @@ has_memory bytes = end_not (length bytes) (only_answer bytes) (only_not bytes (o
 
 -- ---- what the public reader answers is that reading
 
-abbrev itself : MemberList → MemberList
+abbrev pub itself : MemberList → MemberList
 itself r = r
 
-same_answer : (bytes : List ℕ) (a : Result MemberList JsonError) → Answers itself a a
+pub same_answer : (bytes : List ℕ) (a : Result MemberList JsonError) → Answers itself a a
 same_answer bytes (Ok r) = refl
 same_answer bytes (Err e) = inr refl
 
@@ -93,20 +93,13 @@ is_reading v bytes r only other broken followed = by_answer (only_list_answer by
 
 fault_said : (a : Result MemberList JsonError) (error : JsonError) (e : CachedSsoTokenError) → Answers member_list (Err error) a → IsFaultOf error e →
     (e ≡ OutOfMemory) ⊎ (or_fault a ≡ Err e)
-fault_said a json.OutOfMemory e h k = inl (elim k [
-  | inl m ↦ m
-  | inr s ↦ s
-])
 fault_said a error e h k = elim k [
   | inl m ↦ inl m
   | inr s ↦ elim h [
     | inl m ↦ inl (s ∙ ap text_fault m)
-    | inr is ↦ inr (ap or_fault is ∙ ap err (sym s))
+    | inr is ↦ inr (ap or_fault is ∙ ap (λ (x : CachedSsoTokenError). let r : Read (List Member) = Err x in r) (sym s))
   ]
 ]
-  where
-    err : CachedSsoTokenError → Read (List Member)
-    err e = Err e
 
 pub members_said : (bytes : List ℕ) (m : Members) → Answers member_list (Ok m) (only_list_answer bytes) → ReadsMembers bytes (Ok m)
 unfolding members_of_file
@@ -166,9 +159,9 @@ file_answers bytes = by_answer (only_list_answer bytes) refl
   where
     by_answer : (a : Result MemberList JsonError) → only_list_answer bytes ≡ a → AnswersFile bytes (or_fault a >>= token_of)
     by_answer (Ok p) is = let h = only_found_is itself bytes (Ok p) (subst (Answers itself (Ok p)) (sym is) (same_answer bytes (Ok p))) in of_fields bytes p.0 (token_of p.0) (p.1, h.0, h.1) refl (token_fields p.0)
-    by_answer (Err json.NotObject) is = inl (only_not_object_is itself bytes (Err json.NotObject) (subst (Answers itself (Err json.NotObject)) (sym is) (same_answer bytes _)) refl, refl)
-    by_answer (Err json.Syntax) is = only_syntax_is itself bytes (Err json.Syntax) (subst (Answers itself (Err json.Syntax)) (sym is) (same_answer bytes _)) refl
-    by_answer (Err json.More) is = inr (only_more_is itself bytes (Err json.More) (subst (Answers itself (Err json.More)) (sym is) (same_answer bytes _)) refl, refl)
+    by_answer (Err json.NotObject) is = inl (only_not_object_is itself bytes (Err json.NotObject) (subst (Answers itself (Err json.NotObject)) (sym is) (same_answer bytes (Err json.NotObject))) refl, refl)
+    by_answer (Err json.Syntax) is = only_syntax_is itself bytes (Err json.Syntax) (subst (Answers itself (Err json.Syntax)) (sym is) (same_answer bytes (Err json.Syntax))) refl
+    by_answer (Err json.More) is = inr (only_more_is itself bytes (Err json.More) (subst (Answers itself (Err json.More)) (sym is) (same_answer bytes (Err json.More))) refl, refl)
     by_answer (Err json.OutOfMemory) is = absurd (has_memory bytes is)
 
 -- what a reader answers
@@ -178,3 +171,15 @@ answers_file bytes (Err e) h = elim h [
   | inl m ↦ subst (λ (x : CachedSsoTokenError). AnswersFile bytes (Err x)) (sym m) tt
   | inr s ↦ subst (AnswersFile bytes) s (file_answers bytes)
 ]
+
+-- a file whose text is at fault, and one with members
+pub file_fails : (bytes : List ℕ) (e : CachedSsoTokenError) → ReadsMembers bytes (Err e) → UnlessMemory (Err e) (sso_file bytes)
+unfolding sso_file
+file_fails bytes e h = elim h [
+  | inl m ↦ inl m
+  | inr s ↦ inr (ap (λ (r : Read (List Member)). r >>= token_of) s)
+]
+
+pub file_reads : (bytes : List ℕ) (m : Members) (r : Read CachedSsoToken) → ReadsMembers bytes (Ok m) → UnlessMemory r (token_of m.list) → UnlessMemory r (sso_file bytes)
+unfolding sso_file
+file_reads bytes m r h t = subst (UnlessMemory r) (sym (ap (λ (x : Read (List Member)). x >>= token_of) h)) t

@@ -1,5 +1,5 @@
 -- The file of a token of IAM Identity Center.
-use Rattle.std.specs.Prelude.{◌≡◌, ◌⊎◌, ℕ, List, Option, Some, None, Result, Ok, Err, codes, if◌then◌else◌}
+use Rattle.std.specs.Prelude.{◌≡◌, ◌⊎◌, ℕ, List, Bool, Option, Some, None, Result, Ok, Err, codes, if◌then◌else◌}
 use Rattle.std.specs.Str.{encode_utf8_all, str_eq_ignore_ascii_case}
 use Rattle.cfg_values.specs.Gives.{Gives, IsSaid, ◌>>=◌}
 use Rattle.cfg_values.specs.Moment.{Moment}
@@ -20,13 +20,20 @@ use Rattle.cfg_token.specs.declared.sso_token.CachedSsoToken.{CachedSsoToken}
 abbrev pub Read : Type 0 → Type 0
 Read A = Result A CachedSsoTokenError
 
--- the text of a member that has the field's name, without regard to the case of ASCII letters
-abbrev pub text_under_name : Field → Member → Option (List ℕ)
-text_under_name f m = if str_eq_ignore_ascii_case (encode_utf8_all m.key) (field_name f) then text_in m.value else None
+-- the key is the name, without regard to the case of ASCII letters
+abbrev pub is_named : List ℕ → List ℕ → Bool
+is_named name key = str_eq_ignore_ascii_case (encode_utf8_all key) name
 
--- the last text of a field
+-- the text of a member of this name
+abbrev pub text_under_name : List ℕ → Member → Option (List ℕ)
+text_under_name name m = if is_named name m.key then text_in m.value else None
+
+-- the last text under a name, and that of a field
+abbrev pub last_text : List ℕ → List Member → Option (List ℕ)
+last_text name ms = last_given (text_under_name name) ms
+
 abbrev pub text_of : List Member → Field → Option (List ℕ)
-text_of ms f = last_given (text_under_name f) ms
+text_of ms f = last_text (field_name f) ms
 
 abbrev pub required : Field → Option (List ℕ) → Read (List ℕ)
 required f None = Err (MissingField f)

@@ -1,8 +1,7 @@
-ghost use Rattle.std.specs.Prelude.{◌≡◌, option_map};
+ghost use Rattle.std.specs.Prelude.{◌≡◌, IfOk};
 ghost use Rattle.cfg_values.specs.Gives.{IsSaid};
-ghost use Rattle.cfg_json.specs.Answers.{MemberList, member_list, only_list_answer};
 ghost use Rattle.cfg_json.specs.Documents.{date_in};
-ghost use Rattle.cfg_token.specs.SsoFile.{text_of, required as required_text, dated, optional_date, token_of, of_members, sso_file, UnlessMemory, AnswersFile, IsFaultOf, ReadsMembers};
+ghost use Rattle.cfg_token.specs.SsoFile.{text_of, required as required_text, dated, optional_date, token_of, sso_file, UnlessMemory, AnswersFile, IsFaultOf, ReadsMembers};
 
 use crate::lookup::{copy_text, find_text};
 use crate::sso_token::CachedSsoToken;
@@ -33,6 +32,12 @@ pub fn parse_cached_sso_token(
     ensures answers { AnswersFile bytes.now result }
     ensures exact { UnlessMemory result (sso_file bytes.now) }
 {
+    read(alloc, bytes)
+}
+
+fn read(alloc: Global, bytes: &[u8]) -> Result<CachedSsoToken, CachedSsoTokenError>
+    ensures { UnlessMemory result (sso_file bytes.now) }
+{
     let members = file_members(alloc, bytes)?;
     token(alloc, members.list.as_slice())
 }
@@ -52,15 +57,26 @@ fn text_fault(alloc: Global, error: JsonError) -> CachedSsoTokenError
     ensures { IsFaultOf error result }
 {
     match error {
-        JsonError::NotObject => other(alloc, "expected a JSON document starting with `{`"),
+        JsonError::NotObject => not_object_fault(alloc),
         JsonError::Syntax => CachedSsoTokenError::JsonError,
-        JsonError::More => other(alloc, "found more JSON tokens after completing parsing"),
+        JsonError::More => more_fault(alloc),
         JsonError::OutOfMemory => CachedSsoTokenError::OutOfMemory,
     }
 }
 
-fn other(alloc: Global, words: &str) -> CachedSsoTokenError {
-    match Text::of(alloc, words) {
+fn not_object_fault(alloc: Global) -> CachedSsoTokenError
+    ensures { IsFaultOf JsonError.NotObject result }
+{
+    match Text::of(alloc, "expected a JSON document starting with `{`") {
+        Ok(text) => CachedSsoTokenError::Other(text),
+        Err(_) => CachedSsoTokenError::OutOfMemory,
+    }
+}
+
+fn more_fault(alloc: Global) -> CachedSsoTokenError
+    ensures { IsFaultOf JsonError.More result }
+{
+    match Text::of(alloc, "found more JSON tokens after completing parsing") {
         Ok(text) => CachedSsoTokenError::Other(text),
         Err(_) => CachedSsoTokenError::OutOfMemory,
     }
