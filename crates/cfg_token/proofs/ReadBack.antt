@@ -278,5 +278,5 @@ written_token token text texts w =
     let is : text ≡ braced (members_text object) = w.is ∙ ap braced (sym (whole_text token w.expiry w.registration)) in
     let bytes : List ℕ = encode_utf8_all (braced (members_text object)) in
     let back : sso_file bytes ≡ Ok token = file_of bytes h.0 h.1 token (only_object bytes h.0 h.1 h.2 (nothing_left bytes h.1 h.3))
-        (is_token token w.expiry w.registration h.0 h.4 (date_back w.expiry token.expires_at w.is_expiry) (back_if_there field.RegistrationExpiresAt w.registration token.registration_expires_at w.is_registration)) in
+    (is_token token w.expiry w.registration h.0 h.4 (date_back w.expiry token.expires_at w.is_expiry) (back_if_there field.RegistrationExpiresAt w.registration token.registration_expires_at w.is_registration)) in
     ap (λ (t : List ℕ). sso_file (encode_utf8_all t)) is ∙ back

@@ -11,7 +11,9 @@ pub enum TokenKey {
         start_url: Text,
     },
     /// A session of `aws login`.
-    Login { session: Text },
+    Login {
+        session: Text,
+    },
 }
 
 impl Drop for TokenKey {

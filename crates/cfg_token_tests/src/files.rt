@@ -18,7 +18,9 @@ fn token_words(alloc: Global, token: &CachedSsoToken) -> Result<String, AllocErr
     };
     let region = &token.region;
     let url = &token.start_url;
-    format!(in alloc; "{access} {end} {nanos} {refresh:?} {id:?} {secret:?} {registration} {region:?} {url:?}")
+    format!(in alloc;
+        "{access} {end} {nanos} {refresh:?} {id:?} {secret:?} {registration} {region:?} {url:?}"
+    )
 }
 
 fn words_of_file(alloc: Global, bytes: &[u8]) -> Result<String, AllocError> {
@@ -107,8 +109,14 @@ const FILES: &[(&str, &str)] = &[
     ),
     ("", "expected a JSON document starting with `{`"),
     ("[]", "expected a JSON document starting with `{`"),
-    ("404: not found", "expected a JSON document starting with `{`"),
-    ("{\"accessToken\":\"t\"", "invalid JSON in cached SSO token file"),
+    (
+        "404: not found",
+        "expected a JSON document starting with `{`",
+    ),
+    (
+        "{\"accessToken\":\"t\"",
+        "invalid JSON in cached SSO token file",
+    ),
     ("{'accessToken':1}", "invalid JSON in cached SSO token file"),
     (
         "{\"accessToken\":\"t\",\"expiresAt\":\"1970-01-01T01:00:00Z\"} x",
@@ -194,7 +202,8 @@ fn a_registration_without_a_date_is_not_written(rt: HostRuntime) -> Result<(), F
 
 #[test]
 fn what_is_written_is_read_back(rt: HostRuntime) -> Result<(), Fail> {
-    let text = "{\"accessToken\":\"\\\"\\\\\\u0001\u{e9}\",\"expiresAt\":\"2009-02-13T23:31:30.25Z\",\"refreshToken\":\"r\",\"clientId\":\"i\",\"clientSecret\":\"s\",\"registrationExpiresAt\":\"1970-01-01T00:00:09Z\",\"region\":\"us\",\"startUrl\":\"u\"}";
+    let text =
+        "{\"accessToken\":\"\\\"\\\\\\u0001\u{e9}\",\"expiresAt\":\"2009-02-13T23:31:30.25Z\",\"refreshToken\":\"r\",\"clientId\":\"i\",\"clientSecret\":\"s\",\"registrationExpiresAt\":\"1970-01-01T00:00:09Z\",\"region\":\"us\",\"startUrl\":\"u\"}";
     let token = match parse_cached_sso_token(rt.alloc(), text.as_bytes()) {
         Ok(token) => token,
         Err(_) => return Err(Fail),
@@ -208,7 +217,8 @@ fn what_is_written_is_read_back(rt: HostRuntime) -> Result<(), Fail> {
 
 #[test]
 fn debug_texts_show_no_secret(rt: HostRuntime) -> Result<(), Fail> {
-    let text = "{\"accessToken\":\"t\",\"expiresAt\":\"1970-01-01T01:00:00.5Z\",\"refreshToken\":\"r\",\"clientSecret\":\"s\"}";
+    let text =
+        "{\"accessToken\":\"t\",\"expiresAt\":\"1970-01-01T01:00:00.5Z\",\"refreshToken\":\"r\",\"clientSecret\":\"s\"}";
     let token = match parse_cached_sso_token(rt.alloc(), text.as_bytes()) {
         Ok(token) => token,
         Err(_) => return Err(Fail),

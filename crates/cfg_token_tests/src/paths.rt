@@ -35,8 +35,16 @@ fn paths_of_sessions(rt: HostRuntime) -> Result<(), Fail> {
             "h",
             "h/.aws/sso/cache/b435d1009ac9e481ad4061233aa8f735c8042535.json",
         ),
-        ("a/../b", "h", "h/.aws/sso/cache/b2f10bc2fc49584f6f277ffe817319ede1530fb1.json"),
-        ("\u{e9}\u{1f600}\n", "h", "h/.aws/sso/cache/fab3eca87761dd776a0a44a7c934ef2b8d8c8bc0.json"),
+        (
+            "a/../b",
+            "h",
+            "h/.aws/sso/cache/b2f10bc2fc49584f6f277ffe817319ede1530fb1.json",
+        ),
+        (
+            "\u{e9}\u{1f600}\n",
+            "h",
+            "h/.aws/sso/cache/fab3eca87761dd776a0a44a7c934ef2b8d8c8bc0.json",
+        ),
         (
             "ABC",
             "\u{e9}",
