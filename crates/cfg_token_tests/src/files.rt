@@ -178,13 +178,17 @@ const ENDS: &[(i64, u32, &str)] = &[
     (-62_135_596_801, 999_999_999, "failed to format date time"),
 ];
 
+fn moment(seconds: i64, nanos: u32) -> Instant {
+    match Instant::new(seconds, nanos) {
+        Some(moment) => moment,
+        None => Instant::epoch(),
+    }
+}
+
 #[test]
 fn tokens_are_written(rt: HostRuntime) -> Result<(), Fail> {
     for (seconds, nanos, words) in ENDS {
-        let Some(end) = Instant::new(*seconds, *nanos) else {
-            return Err(Fail);
-        };
-        let token = bare(rt.alloc(), end)?;
+        let token = bare(rt.alloc(), moment(*seconds, *nanos))?;
         let found = words_written(rt.alloc(), &token)?;
         assert_eq!(rt; found.as_str(), *words);
     }
@@ -200,33 +204,37 @@ fn a_registration_without_a_date_is_not_written(rt: HostRuntime) -> Result<(), F
     Ok(())
 }
 
+// What is written for the token that was read, and its Debug text.
+fn words_again(alloc: Global, text: &str) -> Result<String, AllocError> {
+    match parse_cached_sso_token(alloc, text.as_bytes()) {
+        Ok(token) => words_written(alloc, &token),
+        Err(error) => format!(in alloc; "{error}"),
+    }
+}
+
+fn words_shown(alloc: Global, text: &str) -> Result<String, AllocError> {
+    match parse_cached_sso_token(alloc, text.as_bytes()) {
+        Ok(token) => format!(in alloc; "{token:?}"),
+        Err(error) => format!(in alloc; "{error}"),
+    }
+}
+
+const WHOLE: &str =
+    "{\"accessToken\":\"\\\"\\\\\\u0001\u{e9}\",\"expiresAt\":\"2009-02-13T23:31:30.25Z\",\"refreshToken\":\"r\",\"clientId\":\"i\",\"clientSecret\":\"s\",\"registrationExpiresAt\":\"1970-01-01T00:00:09Z\",\"region\":\"us\",\"startUrl\":\"u\"}";
+
 #[test]
-fn what_is_written_is_read_back(rt: HostRuntime) -> Result<(), Fail> {
-    let text =
-        "{\"accessToken\":\"\\\"\\\\\\u0001\u{e9}\",\"expiresAt\":\"2009-02-13T23:31:30.25Z\",\"refreshToken\":\"r\",\"clientId\":\"i\",\"clientSecret\":\"s\",\"registrationExpiresAt\":\"1970-01-01T00:00:09Z\",\"region\":\"us\",\"startUrl\":\"u\"}";
-    let token = match parse_cached_sso_token(rt.alloc(), text.as_bytes()) {
-        Ok(token) => token,
-        Err(_) => return Err(Fail),
-    };
-    let written = words_written(rt.alloc(), &token)?;
-    assert_eq!(rt; written.as_str(), text);
-    let again = parse_cached_sso_token(rt.alloc(), written.as_bytes());
-    assert!(rt; again == Ok(token));
+fn what_was_read_is_written_again(rt: HostRuntime) -> Result<(), Fail> {
+    let written = words_again(rt.alloc(), WHOLE)?;
+    assert_eq!(rt; written.as_str(), WHOLE);
     Ok(())
 }
 
 #[test]
 fn debug_texts_show_no_secret(rt: HostRuntime) -> Result<(), Fail> {
-    let text =
-        "{\"accessToken\":\"t\",\"expiresAt\":\"1970-01-01T01:00:00.5Z\",\"refreshToken\":\"r\",\"clientSecret\":\"s\"}";
-    let token = match parse_cached_sso_token(rt.alloc(), text.as_bytes()) {
-        Ok(token) => token,
-        Err(_) => return Err(Fail),
-    };
-    let shown = format!(in rt.alloc(); "{token:?}")?;
+    let shown = words_shown(rt.alloc(), WHOLE)?;
     assert_eq!(rt;
         shown.as_str(),
-        "CachedSsoToken { secrets: \"** redacted **\", expires_at: 3600 s 500000000 ns }"
+        "CachedSsoToken { secrets: \"** redacted **\", expires_at: 1234567890 s 250000000 ns }"
     );
     Ok(())
 }
