@@ -1,0 +1,79 @@
+ghost use Rattle.std.specs.Prelude.{◌≡◌};
+ghost use Rattle.cfg_values.specs.Instant.{number as number_of_moment, nanos_in};
+ghost use Rattle.cfg_token.specs.Moments.{is_before as before, more, has_passed};
+ghost use Rattle.cfg_token.specs.Decisions.{decision, is_expired};
+
+use crate::file_token::FileToken;
+use cfg_types::Instant;
+
+/// What is done with the token of a file.
+#[derive(Clone, Copy, Debug, PartialEq, Eq)]
+pub enum Decision {
+    /// It is handed out.
+    Use,
+    /// It is refreshed first.
+    Refresh,
+    /// It has expired, and cannot be refreshed now.
+    Refuse,
+}
+
+// No sum of seconds passes the end of 128 bits.
+fn number_of(moment: Instant) -> i128
+    ensures { result ≡ number_of_moment moment }
+{
+    i128::from(moment.seconds()) * 1_000_000_000 + i128::from(moment.nanos())
+}
+
+fn nanos_of(seconds: u64) -> i128
+    ensures { result ≡ nanos_in seconds }
+{
+    i128::from(seconds) * 1_000_000_000
+}
+
+/// One moment is before another.
+pub fn is_before(moment: Instant, other: Instant) -> bool
+    ensures { result ≡ before moment other }
+{
+    number_of(moment) < number_of(other)
+}
+
+/// One moment is more than so many seconds after another.
+pub fn is_more(moment: Instant, other: Instant, seconds: u64) -> bool
+    ensures { result ≡ more moment other seconds }
+{
+    number_of(other) + nanos_of(seconds) < number_of(moment)
+}
+
+// There was no attempt, or it is at least 30 seconds ago.
+fn passed(last: Option<Instant>, now: Instant) -> bool
+    ensures { result ≡ has_passed last now }
+{
+    match last {
+        Some(last) => number_of(last) + nanos_of(30) <= number_of(now),
+        None => true,
+    }
+}
+
+/// The token has ended.
+pub fn has_expired<T: FileToken>(token: &T, now: Instant) -> bool
+    ensures { result ≡ is_expired T.rules token.now now }
+{
+    !is_before(now, token.expires_at())
+}
+
+/// What is done with a file's token at a reading of the clock. It is refused where it has expired and
+/// cannot be refreshed, refreshed where at most 300 seconds of it are left and it can be, and else
+/// used. It can be refreshed where its kind says so, and the last attempt is at least 30 seconds ago.
+pub fn decide<T: FileToken>(token: &T, last: Option<Instant>, now: Instant) -> Decision
+    ensures { result ≡ decision T.rules token.now last now }
+{
+    let refreshable = token.can_refresh(now) && passed(last, now);
+    let soon = !is_more(token.expires_at(), now, 300);
+    if has_expired(token, now) && !refreshable {
+        Decision::Refuse
+    } else if soon && refreshable {
+        Decision::Refresh
+    } else {
+        Decision::Use
+    }
+}

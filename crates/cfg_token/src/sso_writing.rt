@@ -1,0 +1,94 @@
+ghost use Rattle.std.specs.Prelude.{◌≡◌, IfOk, OnOk};
+ghost use Rattle.cfg_json.specs.Dates.{IsWrittenDate, IsOutside};
+ghost use Rattle.cfg_json.specs.Writing.{braced};
+ghost use Rattle.cfg_token.specs.SsoText.{with_text, with_text_if_there, dated_members, IsWrittenIfThere, IsSsoText, IsOutsideIfThere, HasNoText, Writes, FailsToFormat};
+
+use crate::sso_token::CachedSsoToken;
+use cfg_json::{ObjectWriter, write_date};
+use cfg_types::{CachedSsoTokenError, Field, Instant, OutOfMemory, Text};
+use std::alloc::Global;
+
+/// The text of a token's file: one JSON object without spaces, with the fields `accessToken`,
+/// `expiresAt`, and where they are there `refreshToken`, `clientId`, `clientSecret`,
+/// `registrationExpiresAt`, `region` and `startUrl`, in this order.
+///
+/// # Errors
+///
+/// - `FailedToFormatDateTime`: one of both dates is outside the years 1 to 9999.
+/// - `OutOfMemory`: memory runs out.
+pub fn write_cached_sso_token(
+    alloc: Global,
+    token: &CachedSsoToken,
+) -> Result<Text, CachedSsoTokenError>
+    ensures answers { Writes (IsSsoText token.now) (HasNoText token.now) result }
+    ensures outside { HasNoText token.now → FailsToFormat result }
+{
+    let expiry = date(alloc, token.expires_at)?;
+    let registration = date_if_there(alloc, token.registration_expires_at)?;
+    Ok(file_text(alloc, token, &expiry, &registration)?)
+}
+
+fn date(alloc: Global, moment: Instant) -> Result<Text, CachedSsoTokenError>
+    ensures answers { Writes (λ text. IsWrittenDate text moment) (IsOutside moment.seconds) result }
+    ensures outside { IsOutside moment.seconds → FailsToFormat result }
+{
+    match write_date(alloc, moment)? {
+        Some(text) => Ok(text),
+        None => Err(CachedSsoTokenError::FailedToFormatDateTime),
+    }
+}
+
+fn date_if_there(
+    alloc: Global,
+    moment: Option<Instant>,
+) -> Result<Option<Text>, CachedSsoTokenError>
+    ensures answers { Writes (λ text. IsWrittenIfThere text moment) (IsOutsideIfThere moment) result }
+    ensures outside { IsOutsideIfThere moment → FailsToFormat result }
+{
+    match moment {
+        None => Ok(None),
+        Some(moment) => {
+            let text = date(alloc, moment)?;
+            Ok(Some(text))
+        }
+    }
+}
+
+fn file_text(
+    alloc: Global,
+    token: &CachedSsoToken,
+    expiry: &Text,
+    registration: &Option<Text>,
+) -> Result<Text, OutOfMemory>
+    ensures { IfOk result (λ text. text ≡ braced (dated_members token.now expiry.now registration.now)) }
+{
+    let mut file = ObjectWriter::new(alloc);
+    push_text(&mut file, Field::AccessToken, &token.access_token)?;
+    push_text(&mut file, Field::LowerExpiresAt, expiry)?;
+    push_if_there(&mut file, Field::RefreshToken, &token.refresh_token)?;
+    push_if_there(&mut file, Field::ClientId, &token.client_id)?;
+    push_if_there(&mut file, Field::ClientSecret, &token.client_secret)?;
+    push_if_there(&mut file, Field::RegistrationExpiresAt, registration)?;
+    push_if_there(&mut file, Field::Region, &token.region)?;
+    push_if_there(&mut file, Field::StartUrl, &token.start_url)?;
+    file.finish()
+}
+
+fn push_text(file: &mut ObjectWriter, field: Field, text: &Text) -> Result<(), OutOfMemory>
+    ensures { OnOk result (file.new ≡ with_text field text.now file.old) }
+{
+    file.text(field.as_str(), text.as_str())
+}
+
+fn push_if_there(
+    file: &mut ObjectWriter,
+    field: Field,
+    text: &Option<Text>,
+) -> Result<(), OutOfMemory>
+    ensures { OnOk result (file.new ≡ with_text_if_there field text.now file.old) }
+{
+    match text {
+        Some(text) => push_text(file, field, text),
+        None => Ok(()),
+    }
+}

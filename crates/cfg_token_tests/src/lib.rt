@@ -1,0 +1,9 @@
+//! The tests of cfg_token, over public calls: what no clause says, and worked examples.
+#![tactic(auto)]
+
+#[cfg(test)]
+mod decisions;
+#[cfg(test)]
+mod files;
+#[cfg(test)]
+mod paths;
