@@ -1,5 +1,5 @@
 //! Tokens that files keep: the cached token of IAM Identity Center, its file, the
-//! file's path, and what is done with a token. It stands on cfg_types, cfg_world and cfg_json. The layers
+//! file's path, and what is done with a token. It stands on cfg_types and cfg_json. The layers
 //! above may use that a file is read and written exactly as its format says, and that a token is used,
 //! refreshed or refused exactly by its rules.
 #![tactic(auto)]
