@@ -1,0 +1,8 @@
+pub mod Pieces
+pub mod Repeats
+pub mod Numerals
+pub mod Utf8
+pub mod Said
+pub mod Hosts
+pub mod SafeTargets
+pub mod Causes
