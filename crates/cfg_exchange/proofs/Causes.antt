@@ -36,7 +36,7 @@ use Rattle.cfg_exchange.specs.Attempts.{attempts, Attempts}
 use Rattle.cfg_exchange.specs.Classifiers.{credentials_repeats, is_repeated}
 use Rattle.cfg_exchange.specs.HeaderValues.{is_header_value}
 use Rattle.cfg_exchange.specs.Targets.{Checked, allowed_if, looked_up, at_name, full_target}
-use Rattle.cfg_exchange.specs.Containers.{checked_token, token_of_file, token_of_bytes, token_by, token_file, token_text, auth_token, or_full_uri, container_target, answer_keys, credentials_request, credentials_attempts, attempt_limit, fetched_keys, container}
+use Rattle.cfg_exchange.specs.Containers.{checked_token, token_of_file, token_of_bytes, token_by, token_file, token_text, auth_token, or_full_uri, container_target, answer_keys, credentials_request, credentials_attempts, attempt_limit, fetched_keys, with_token, container}
 use Rattle.cfg_exchange.specs.ContainerCauses.{error_of, file_read, host_found, last_answer, sent_or, or_later, bytes_fault, held_fault, token_fault_by, found_fault, full_fault, address_fault, fault_of_answer, answer_fault, why_container}
 use Rattle.cfg_exchange.proofs.Pieces.{attempts_piece}
 
@@ -130,33 +130,46 @@ module _ (settings : ContainerSettings) (token : Option (List ℕ)) (out : Given
 
 -- ---- the token
 
-module _ (settings : ContainerSettings) (named : ContainerUri) (out : Given) where
-  -- what follows the token
-  abbrev sending : Option (List ℕ) → Inquiry Given
-  sending token = container_target settings.dns named >>= fetched_keys settings token
+-- a reading of a file says nothing of the address
+past_full : (dns : Bool) (named : FullUri) (path : List ℕ) (a : Answer) (rest : List Pair) → full_fault dns named ((Read path, a) ∷ rest) ≡ full_fault dns named rest
+past_full dns Unreadable path a rest = refl
+past_full dns Hostless path a rest = refl
+past_full dns Schemeless path a rest = refl
+past_full dns (Secure target) path a rest = refl
+past_full dns (AtAddress target address) path a rest = refl
+past_full dns (AtName target host) path a rest = refl
 
+past_file : (dns : Bool) (named : ContainerUri) (path : List ℕ) (a : Answer) (rest : List Pair) → address_fault dns named ((Read path, a) ∷ rest) ≡ address_fault dns named rest
+past_file dns uri.NotSet path a rest = refl
+past_file dns (uri.Relative target) path a rest = refl
+past_file dns (uri.NoRelative text) path a rest = refl
+past_file dns (uri.Full text named) path a rest = ap (option_map (λ e. InvalidConfiguration (config.FullUri e text))) (past_full dns named path a rest)
+
+module _ (settings : ContainerSettings) (named : ContainerUri) (out : Given) where
   abbrev others : List Pair → Option CredentialsError
   others part = option_or (address_fault settings.dns named part) (answer_fault part)
 
   checked_cause : (bytes : List ℕ) (b : Bool) (rest : List Pair) →
-      Reads (if_ok sending (if b then Ok (Some bytes) else Err (InvalidConfiguration config.AuthToken))) rest out →
+      Reads (if_ok (with_token settings named) (if b then Ok (Some bytes) else Err (InvalidConfiguration config.AuthToken))) rest out →
       error_of out ≡ option_or (if b then None else Some (InvalidConfiguration config.AuthToken)) (others rest)
   checked_cause bytes true rest h = address_cause settings (Some bytes) out named rest h
   checked_cause bytes false [] h = ap error_of (sym h)
   checked_cause bytes false (x ∷ rest) h = absurd h
 
-  held_cause : (path : List ℕ) (held : Result (List ℕ) FailKind) (rest : List Pair) → Reads (if_ok sending (token_of_file path held)) rest out →
+  held_cause : (path : List ℕ) (held : Result (List ℕ) FailKind) (rest : List Pair) → Reads (if_ok (with_token settings named) (token_of_file path held)) rest out →
       error_of out ≡ option_or (held_fault path (Some held)) (others rest)
   held_cause path (Ok bytes) rest h = checked_cause bytes (is_header_value bytes) rest h
   held_cause path (Err kind) [] h = ap error_of (sym h)
   held_cause path (Err kind) (x ∷ rest) h = absurd h
 
-  token_cause : (file text : Option (List ℕ)) (part : List Pair) → Reads (token_by file text >>= sending) part out →
+  token_cause : (file text : Option (List ℕ)) (part : List Pair) → Reads (token_by file text >>= with_token settings named) part out →
       error_of out ≡ option_or (token_fault_by file text part) (others part)
   unfolding reading_file
   token_cause (Some path) text [] h = absurd h
   token_cause (Some path) text (x ∷ rest) h =
-      subst (λ q. error_of out ≡ option_or (token_fault_by (Some path) text ((q, x.1) ∷ rest)) (others ((q, x.1) ∷ rest))) (sym h.0) (held_cause path (contents_of x.1) rest h.1)
+      subst (λ q. error_of out ≡ option_or (token_fault_by (Some path) text ((q, x.1) ∷ rest)) (others ((q, x.1) ∷ rest))) (sym h.0)
+      (held_cause path (contents_of x.1) rest h.1
+      ∙ ap (λ f. option_or (held_fault path (Some (contents_of x.1))) (option_or f (answer_fault rest))) (sym (past_file settings.dns named path x.1 rest)))
   token_cause None (Some text) part h = checked_cause (encode_utf8_all text) (is_header_value (encode_utf8_all text)) part h
   token_cause None None part h = address_cause settings None out named part h
 

@@ -6,3 +6,5 @@ pub mod Said
 pub mod Hosts
 pub mod SafeTargets
 pub mod Causes
+pub mod ContainerSteps
+pub mod Checks

@@ -1,6 +1,6 @@
 -- A target that a check gives is allowed.
 use Rattle.std.proofs.Common.{◌≡◌, ◌⊎◌, inl, inr, ℕ, List, [], ◌∷◌, Bool, true, false, Option, Some, None, refl, sym, ap, subst, ◌∙◌}
-use Rattle.std.specs.Prelude.{Result, Ok, Err, codes, if◌then◌else◌}
+use Rattle.std.specs.Prelude.{Result, Ok, Err, IfOk, codes, if◌then◌else◌}
 use Rattle.std.specs.Str.{bytes_eq}
 use Rattle.std.specs.List.{list_all}
 use Rattle.std.proofs.lemmas.Slice.Eq.{bytes_eq-Decides}
@@ -136,3 +136,7 @@ module _ (text : List ℕ) (dns : Bool) (target : Target) where
   pub target_is_allowed : (named : FullUri) (part : List Pair) → IsFullUri text named → Reads (full_target dns named) part (Ok target) → IsAllowedTarget text part target
   target_is_allowed named part (inl n) h = refused_target named part h (inl n.1)
   target_is_allowed named part (inr n) h = by_parts n.scheme n.authority n.kept named part n.uri n.names h
+
+pub given_is_allowed : (text : List ℕ) (dns : Bool) (named : FullUri) (part : List Pair) (out : Checked) → IsFullUri text named → Reads (full_target dns named) part out → IfOk out (IsAllowedTarget text part)
+given_is_allowed text dns named part (Ok target) n h = target_is_allowed text dns target named part n h
+given_is_allowed text dns named part (Err e) n h = tt

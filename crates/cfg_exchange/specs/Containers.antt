@@ -162,9 +162,13 @@ credentials_attempts settings call = attempts (attempt_limit settings.sleep - 1)
 unfoldable pub fetched_keys : ContainerSettings → Option (List ℕ) → Target → Inquiry (Read Keys)
 fetched_keys settings token target = after (credentials_attempts settings (credentials_request settings token target)) (λ last. Done (answer_keys last.1))
 
--- A container's credentials: first the token, then the target, then the attempts.
+-- what follows the token: the target, and the attempts
+abbrev pub with_token : ContainerSettings → ContainerUri → Option (List ℕ) → Inquiry (Read Keys)
+with_token settings named token = container_target settings.dns named >>= fetched_keys settings token
+
+-- a container's credentials: first the token, then the target, then the attempts
 unfoldable pub container : Variables → ContainerSettings → ContainerUri → Inquiry (Read Keys)
-container env settings named = auth_token env >>= λ token. container_target settings.dns named >>= λ target. fetched_keys settings token target
+container env settings named = auth_token env >>= with_token settings named
 
 -- A call that follows what the variables name; or memory ran out before that was known, and nothing was
 -- asked.

@@ -1,5 +1,5 @@
 -- What the check of a full address leaves of the world's journal.
-use Rattle.std.specs.Prelude.{◌≡◌, ◌⊎◌, ℕ, List, Bool, true, false, Result, Ok, Err}
+use Rattle.std.specs.Prelude.{◌≡◌, ◌⊎◌, ℕ, List, Bool, true, false, Result, Ok, Err, IfOk}
 use Rattle.cfg_types.specs.declared.errors.container.InvalidFullUriError.{InvalidFullUriError}
 use Rattle.cfg_types.specs.declared.errors.container.InvalidFullUriError.TheVariants as invalid
 use Rattle.cfg_world.specs.declared.devices.Devices.{Ghosts}
@@ -14,6 +14,7 @@ use Rattle.cfg_world.specs.Follows.{Follows}
 use Rattle.cfg_exchange.specs.declared.full_uri.FullUri.{FullUri}
 use Rattle.cfg_exchange.specs.FullUris.{IsFullUri}
 use Rattle.cfg_exchange.specs.Targets.{Checked, full_target}
+use Rattle.cfg_exchange.specs.AllowedTargets.{IsAllowedTarget}
 
 -- A call that follows the check of what the text names; or memory ran out before that was known, and
 -- nothing was asked.
@@ -35,6 +36,8 @@ pub record Validates {D : Type 0} (d : Ghosts D) (text : List ℕ) (dns : Bool) 
   pub part : List Pair
   pub grows : Grows d part old new
   pub reads : Reads (full_target dns named) part out
+  -- a target is allowed by what was looked up in this part
+  pub allowed : IfOk out (IsAllowedTarget text part)
 
 -- It grew by the beginning of such a part.
 pub record Unfinished {D : Type 0} (d : Ghosts D) (text : List ℕ) (dns : Bool) (old new : Held D) : Type 0 where

@@ -113,7 +113,7 @@ fn token_of_text(
 }
 
 // The token that is sent, or none.
-#[tactic(auto, using(cfg_world::proofs::Inquiries::asking_steps), unfolding(crate::specs::Containers::auth_token))]
+#[tactic(auto, using(crate::proofs::ContainerSteps::token_steps))]
 fn auth_token<A: Asking>(
     alloc: Global,
     env: &Env,
@@ -334,7 +334,7 @@ fn attempt<A: Asking>(
 }
 
 // What the attempts give.
-#[tactic(auto, using(cfg_world::proofs::Inquiries::asking_steps), unfolding(crate::specs::Containers::fetched_keys))]
+#[tactic(auto, using(crate::proofs::ContainerSteps::fetch_steps))]
 fn fetch_keys<A: Asking>(
     alloc: Global,
     settings: &ContainerSettings,
@@ -350,9 +350,9 @@ fn fetch_keys<A: Asking>(
     Ok(outcome)
 }
 
-// The credentials, where it is known what the variables name.
-#[tactic(auto, using(cfg_world::proofs::Inquiries::asking_steps), unfolding(crate::specs::Containers::container))]
-fn follow_container<A: Asking>(
+/// The credentials, where it is known what the variables name, as `container_credentials` gives them.
+#[tactic(auto, using(crate::proofs::ContainerSteps::container_steps))]
+pub fn follow_container<A: Asking>(
     alloc: Global,
     env: &Env,
     settings: &ContainerSettings,
@@ -369,7 +369,8 @@ fn follow_container<A: Asking>(
         Ok(target) => target,
         Err(error) => return Ok(Err(error)),
     };
-    fetch_keys(alloc, settings, token, target, asking)
+    let outcome = fetch_keys(alloc, settings, token, target, asking)?;
+    Ok(outcome)
 }
 
 /// The credentials that a container's agent gives (Amazon ECS and EKS), by the provider's name

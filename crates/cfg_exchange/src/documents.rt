@@ -9,7 +9,10 @@ use std::alloc::Global;
 pub fn is_utf8(bytes: &[u8]) -> bool
     ensures { result ≡ is_utf8_of bytes.now }
 {
-    str::from_utf8(bytes).is_ok()
+    match str::from_utf8(bytes) {
+        Ok(_) => true,
+        Err(_) => false,
+    }
 }
 
 // What a document of credentials says, or why the text is none.

@@ -4,7 +4,8 @@ ghost use Rattle.cfg_values.specs.Text.{characters};
 ghost use Rattle.http_uri.specs.Grammar.{authority_host};
 ghost use Rattle.http_uri.specs.Uri.{uri_scheme, uri_authority, uri_data};
 ghost use Rattle.cfg_world.specs.Follows.{Follows};
-ghost use Rattle.cfg_exchange.specs.Addresses.{is_allowed};
+ghost use Rattle.std.specs.List.{list_all};
+ghost use Rattle.cfg_exchange.specs.Addresses.{is_allowed as is_allowed_of};
 ghost use Rattle.cfg_exchange.specs.FullUris.{IsBareHost, IsAddressOf, IsHostNamed, IsNamed, IsFullUri};
 ghost use Rattle.cfg_exchange.specs.Targets.{allowed_if as allowed_if_of, looked_up as looked_up_of, at_name as at_name_of, full_target as full_target_of};
 ghost use Rattle.cfg_exchange.specs.Validates.{FollowsText, is_memory, Validates, Unchecked};
@@ -120,6 +121,18 @@ fn allowed_if(target: Target, is_allowed: bool) -> Result<Target, InvalidFullUri
     }
 }
 
+fn is_allowed(address: Address) -> bool
+    ensures { result ≡ is_allowed_of address }
+{
+    is_full_uri_ip_allowed(&address)
+}
+
+fn all_allowed(addresses: &[Address]) -> bool
+    ensures { result ≡ list_all is_allowed_of addresses.now }
+{
+    addresses.iter().all(|address| is_allowed(*address))
+}
+
 fn looked_up(
     target: Target,
     found: Result<Seq<Address>, FailKind>,
@@ -127,13 +140,7 @@ fn looked_up(
     ensures { result ≡ looked_up_of target found }
 {
     match found {
-        Ok(addresses) => {
-            let all_allowed = addresses
-                .as_slice()
-                .iter()
-                .all(|address| is_full_uri_ip_allowed(address));
-            allowed_if(target, all_allowed)
-        }
+        Ok(addresses) => allowed_if(target, all_allowed(addresses.as_slice())),
         Err(_) => Err(InvalidFullUriError::DnsLookupFailed),
     }
 }

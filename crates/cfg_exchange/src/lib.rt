@@ -20,7 +20,9 @@ pub mod target;
 pub use addresses::is_full_uri_ip_allowed;
 pub use attempts::exchange;
 pub use classify::{ClassifyRetry, HttpCredentialRetryClassifier, ImdsResponseRetryClassifier};
-pub use container::{ContainerSettings, ContainerUri, container_credentials, container_uri};
+pub use container::{
+    ContainerSettings, ContainerUri, container_credentials, container_uri, follow_container,
+};
 pub use full_uri::{FullUri, read_full_uri, validate_full_uri};
 pub use header_value::is_header_value;
 pub use reading::{Reading, ReplyKind};
