@@ -3,8 +3,4 @@ pub mod Repeats
 pub mod Numerals
 pub mod Utf8
 pub mod Said
-pub mod Hosts
-pub mod SafeTargets
-pub mod Causes
-pub mod ContainerSteps
-pub mod Checks
+pub mod Bodies

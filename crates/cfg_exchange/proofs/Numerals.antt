@@ -1,13 +1,13 @@
 -- The number that `parse` reads, as a function of the text.
-use Rattle.std.proofs.Common.{◌≡◌, ℕ, ◌<◌, ◌^◌, List, [], ◌∷◌, length, Bool, true, false, Option, Some, None, refl, sym, ap, arith, IsTrue, lt-ltb, le-ltb}
+use Rattle.std.proofs.Common.{◌≡◌, ℕ, ◌<◌, ◌^◌, List, [], ◌∷◌, length, Bool, true, false, Option, Some, None, refl, sym, ap, arith, tests, lt-ltb}
 use Rattle.std.specs.Prelude.{◌&&◌, not, nat_lt, nat_eq, if◌then◌else◌}
 use Rattle.std.specs.List.{list_all}
 use Rattle.std.specs.Char.{is_digit, digit_value}
 use Rattle.std.specs.Str.Parse.{AllDigits, IsNumeral, digits_value, without_leading_plus}
 use Rattle.cfg_exchange.specs.Lifetimes.{are_digits, below_64_bits, number}
 
-below : (n : ℕ) → nat_lt n 10 ≡ true → n < 10
-below n h = omega (arith, h)
+less : (n m : ℕ) → nat_lt n m ≡ true → n < m
+less n m h = grind (arith, tests)
 
 both : (a b : Bool) → (a && b) ≡ true → (a ≡ true) × (b ≡ true)
 both true b h = (refl, h)
@@ -19,7 +19,7 @@ all_true (c ∷ cs) h = rw (lt-ltb (digit_value c) 10 h.0) (all_true cs h.1)
 
 true_all : (ds : List ℕ) → list_all (λ c. is_digit c 10) ds ≡ true → AllDigits 10 ds
 true_all [] h = tt
-true_all (c ∷ cs) h = let p = both (nat_lt (digit_value c) 10) (list_all (λ c. is_digit c 10) cs) h in (below (digit_value c) p.0, true_all cs p.1)
+true_all (c ∷ cs) h = let p = both (nat_lt (digit_value c) 10) (list_all (λ c. is_digit c 10) cs) h in (less (digit_value c) 10 p.0, true_all cs p.1)
 
 digits_are : (ds : List ℕ) → IsNumeral 10 ds → are_digits ds ≡ true
 digits_are [] h = absurd (omega (arith, h.0))
@@ -37,7 +37,7 @@ no_number text h = by_digits (are_digits ds) refl where
   ds : List ℕ
   ds = without_leading_plus text
   by_bound : (b : Bool) → nat_lt (digits_value 10 ds) (2 ^ 64) ≡ b → are_digits ds ≡ true → None ≡ (if b then Some (digits_value 10 ds) else None)
-  by_bound true e d = absurd (h (are_numeral ds d, omega (arith, e)))
+  by_bound true e d = absurd (h (are_numeral ds d, less (digits_value 10 ds) (2 ^ 64) e))
   by_bound false e d = refl
   by_digits : (b : Bool) → are_digits ds ≡ b → None ≡ (if b && nat_lt (digits_value 10 ds) (2 ^ 64) then Some (digits_value 10 ds) else None)
   by_digits true e = by_bound (nat_lt (digits_value 10 ds) (2 ^ 64)) refl e

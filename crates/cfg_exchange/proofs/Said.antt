@@ -13,7 +13,7 @@ use Rattle.cfg_json.specs.Documents.{Read, document_of, more_tokens, AnswersDocu
 use Rattle.cfg_json.specs.declared.credentials.JsonCredentials.{JsonCredentials}
 use Rattle.cfg_json.proofs.AnswerLaws.{only_found_is, only_only_is, only_not_object_is, only_opens_other_is, only_syntax_is, only_broken_is, only_more_is, followed_is}
 use Rattle.cfg_json.proofs.DocumentLaws.{document_fields, fields_answer}
-use Rattle.cfg_exchange.specs.Documents.{by_members, document}
+use Rattle.cfg_exchange.specs.Documents.{is_memory, by_members, document}
 
 abbrev Listed : Type 0
 Listed = Result MemberList JsonError
@@ -108,3 +108,9 @@ by_list bytes (Err json.OutOfMemory) e h = absurd (list_stays bytes e)
 pub said_answers : (bytes : List ℕ) → AnswersDocument IsTable bytes (document bytes)
 unfolding document
 said_answers bytes = by_list bytes (only_list_answer bytes) refl (itself _)
+
+memory_is : (r : Read JsonCredentials) → is_memory r ≡ false → r ≡ memory → ⊥
+memory_is r f e = let t = subst (λ (x : Read JsonCredentials). is_memory x ≡ false) e f in absurd cc
+
+pub says_unless_memory : (bytes : List ℕ) (r : Read JsonCredentials) → AnswersDocument IsTable bytes r → is_memory r ≡ false → r ≡ document bytes
+says_unless_memory bytes r h f = says_one_thing bytes r h (memory_is r f)

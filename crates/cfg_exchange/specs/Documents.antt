@@ -1,5 +1,5 @@
 -- What a body says that is to hold a document of credentials.
-use Rattle.std.specs.Prelude.{ℕ, List, Result, Ok, Err, if◌then◌else◌}
+use Rattle.std.specs.Prelude.{ℕ, List, Bool, true, false, Result, Ok, Err, if◌then◌else◌}
 use Rattle.std.specs.Str.{is_utf8}
 use Rattle.cfg_types.specs.declared.document.JsonError.{JsonError}
 use Rattle.cfg_types.specs.declared.document.JsonError.TheVariants as json
@@ -19,6 +19,11 @@ by_members (Err e) = Err (invalid.JsonError e)
 -- of `parse_json_credentials`.
 unfoldable pub document : List ℕ → Read JsonCredentials
 document text = by_members (only_list_answer text)
+
+-- whether memory ran out
+abbrev pub is_memory : Read JsonCredentials → Bool
+is_memory (Err invalid.OutOfMemory) = true
+is_memory _ = false
 
 abbrev pub or_no_document : Read JsonCredentials → Result JsonCredentials UnhandledCause
 or_no_document (Ok said) = Ok said

@@ -1,6 +1,6 @@
 ghost use Rattle.std.specs.Prelude.{◌≡◌, IfOk};
 ghost use Rattle.std.specs.Str.{is_utf8 as is_utf8_of};
-ghost use Rattle.cfg_exchange.specs.Documents.{document as document_of, body_document as body_document_of};
+ghost use Rattle.cfg_exchange.specs.Documents.{is_memory as is_memory_of, document as document_of, body_document as body_document_of};
 
 use cfg_json::{InvalidJsonCredentials, JsonCredentials, parse_json_credentials};
 use cfg_types::{OutOfMemory, UnhandledCause};
@@ -15,6 +15,15 @@ pub fn is_utf8(bytes: &[u8]) -> bool
     }
 }
 
+fn is_memory(said: &Result<JsonCredentials, InvalidJsonCredentials>) -> bool
+    ensures { result ≡ is_memory_of said.now }
+{
+    match said {
+        Err(InvalidJsonCredentials::OutOfMemory) => true,
+        _ => false,
+    }
+}
+
 // What a document of credentials says, or why the text is none.
 fn document(
     alloc: Global,
@@ -23,10 +32,10 @@ fn document(
     ensures { IfOk result (λ said. said ≡ document_of text.now) }
 {
     let said = parse_json_credentials(alloc, text);
-    match &said {
-        Err(InvalidJsonCredentials::OutOfMemory) => Err(OutOfMemory),
-        _ => Ok(said),
+    if is_memory(&said) {
+        return Err(OutOfMemory);
     }
+    Ok(said)
 }
 
 // What a body says that is to hold such a document, or why it holds none.

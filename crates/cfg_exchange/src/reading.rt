@@ -69,15 +69,17 @@ fn document_reading(alloc: Global, reply: &HttpReply) -> Result<Reading, OutOfMe
 }
 
 #[tactic(auto, unfolding(crate::specs::Readings::token_reading))]
-fn token_reading(reply: &HttpReply) -> Reading
-    ensures { result ≡ token_reading_of reply.now }
+fn token_reading(alloc: Global, reply: &HttpReply) -> Result<Reading, OutOfMemory>
+    ensures { IfOk result (λ r. r ≡ token_reading_of reply.now) }
 {
     if reply.status == 400 || reply.status == 403 {
-        Reading::Refused
-    } else if is_header_value(reply.body.as_slice()) && lifetime(reply).is_some() {
-        Reading::Fine
+        return Ok(Reading::Refused);
+    }
+    let is_timed = lifetime(alloc, reply)?.is_some();
+    if is_header_value(reply.body.as_slice()) && is_timed {
+        Ok(Reading::Fine)
     } else {
-        Reading::Unreadable
+        Ok(Reading::Unreadable)
     }
 }
 
@@ -110,7 +112,7 @@ impl ReplyKind {
     {
         match self {
             ReplyKind::Document => document_reading(alloc, reply),
-            ReplyKind::MetadataToken => Ok(token_reading(reply)),
+            ReplyKind::MetadataToken => token_reading(alloc, reply),
             ReplyKind::MetadataText => Ok(text_reading(reply)),
         }
     }

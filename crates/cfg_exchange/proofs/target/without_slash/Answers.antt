@@ -1,7 +1,0 @@
-use Rattle.std.proofs.Common.{arith}
-use Rattle.std.proofs.lemmas.Str.Pattern.{strip_prefix_char}
-use Rattle.cfg_exchange.proofs.Hosts.{no_slash}
-use Rattle.cfg_exchange.proofs.target.without_slash.Goals as goal
-
-pub returns-in-None : goal.returns-in-None
-returns-in-None c = ?
