@@ -1,10 +1,10 @@
 -- The number that `parse` reads, as a function of the text.
-use Rattle.std.proofs.Common.{◌≡◌, ℕ, ◌<◌, ◌^◌, List, [], ◌∷◌, length, Bool, true, false, Option, Some, None, refl, sym, ap, arith, tests, lt-ltb}
-use Rattle.std.specs.Prelude.{◌&&◌, not, nat_lt, nat_eq, if◌then◌else◌}
+use Rattle.std.proofs.Common.{◌≡◌, ℕ, ◌<◌, ◌^◌, List, [], ◌∷◌, Bool, true, false, Some, None, refl, ap, arith, tests, lt-ltb}
+use Rattle.std.specs.Prelude.{◌&&◌, nat_lt, if◌then◌else◌}
 use Rattle.std.specs.List.{list_all}
 use Rattle.std.specs.Char.{is_digit, digit_value}
 use Rattle.std.specs.Str.Parse.{AllDigits, IsNumeral, digits_value, without_leading_plus}
-use Rattle.cfg_exchange.specs.Lifetimes.{are_digits, below_64_bits, number}
+use Rattle.cfg_exchange.specs.Lifetimes.{are_digits, number}
 
 less : (n m : ℕ) → nat_lt n m ≡ true → n < m
 less n m h = grind (arith, tests)
@@ -36,9 +36,11 @@ pub no_number : (text : List ℕ) → (IsNumeral 10 (without_leading_plus text) 
 no_number text h = by_digits (are_digits ds) refl where
   ds : List ℕ
   ds = without_leading_plus text
+
   by_bound : (b : Bool) → nat_lt (digits_value 10 ds) (2 ^ 64) ≡ b → are_digits ds ≡ true → None ≡ (if b then Some (digits_value 10 ds) else None)
   by_bound true e d = absurd (h (are_numeral ds d, less (digits_value 10 ds) (2 ^ 64) e))
   by_bound false e d = refl
+
   by_digits : (b : Bool) → are_digits ds ≡ b → None ≡ (if b && nat_lt (digits_value 10 ds) (2 ^ 64) then Some (digits_value 10 ds) else None)
   by_digits true e = by_bound (nat_lt (digits_value 10 ds) (2 ^ 64)) refl e
   by_digits false e = refl

@@ -1,12 +1,11 @@
 -- The tree of attempts, judged as a finished piece.
-use Rattle.std.proofs.Common.{◌≡◌, ℕ, zero, suc, ◌+◌, ◌<◌, Bool, true, false, List, [], ◌∷◌, ◌++◌, length, ◌⊎◌, inl, inr, refl, sym, ◌∙◌, ap, subst, rules, arith}
+use Rattle.std.proofs.Common.{◌≡◌, ℕ, zero, suc, ◌+◌, ◌<◌, Bool, true, false, List, [], ◌∷◌, ◌++◌, length, ◌⊎◌, inl, inr, refl, sym, ◌∙◌, ap, subst, arith}
 use Rattle.std.specs.Prelude.{if◌then◌else◌}
 use Rattle.std.specs.List.{AllByRecursion}
 use Rattle.cfg_world.specs.declared.ask.Question.{Question}
 use Rattle.cfg_world.specs.declared.ask.Answer.{Answer}
 use Rattle.cfg_world.specs.Fits.{Pair}
-use Rattle.cfg_world.specs.Inquiry.{Inquiry, Done, Reads}
-
+use Rattle.cfg_world.specs.Inquiry.{Done, Reads}
 use Rattle.cfg_exchange.specs.Attempts.{asked, attempts, Attempts}
 
 same_answer : (q : Question) (e : Pair) (last : Pair) → e.0 ≡ q → (q, e.1) ≡ last → e ≡ last

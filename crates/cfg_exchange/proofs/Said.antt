@@ -1,15 +1,14 @@
 -- What a document says, by its grammar.
-use Rattle.std.proofs.Common.{◌≡◌, ◌⊎◌, inl, inr, ℕ, List, [], ◌∷◌, Bool, true, false, Option, Some, None, refl, sym, ap, subst, ◌∙◌}
+use Rattle.std.proofs.Common.{◌≡◌, inl, inr, ℕ, List, [], ◌∷◌, Bool, true, false, Option, Some, None, refl, sym, ap, subst, ◌∙◌}
 use Rattle.std.specs.Prelude.{Result, Ok, Err, ◌==◌, if◌then◌else◌, length}
 use Rattle.cfg_types.specs.declared.document.JsonError.{JsonError}
 use Rattle.cfg_types.specs.declared.document.JsonError.TheVariants as json
-use Rattle.cfg_types.specs.declared.document.InvalidJsonCredentials.{InvalidJsonCredentials}
 use Rattle.cfg_types.specs.declared.document.InvalidJsonCredentials.TheVariants as invalid
 use Rattle.cfg_json.specs.Ascii.{left_curly_bracket}
 use Rattle.cfg_json.specs.Reading.{after_white_space}
 use Rattle.cfg_json.specs.ReadingObjects.{ReadMembers, Answer as Given, answer_of, opened, object_at, object_answer}
 use Rattle.cfg_json.specs.Answers.{Answers, MemberList, only_white_space, only_from, only_answer, with_end, only_list_answer}
-use Rattle.cfg_json.specs.Documents.{Read, document_of, more_tokens, AnswersDocument, IsTable, UnlessMemory}
+use Rattle.cfg_json.specs.Documents.{Read, document_of, AnswersDocument, IsTable, UnlessMemory}
 use Rattle.cfg_json.specs.declared.credentials.JsonCredentials.{JsonCredentials}
 use Rattle.cfg_json.proofs.AnswerLaws.{only_found_is, only_only_is, only_not_object_is, only_opens_other_is, only_syntax_is, only_broken_is, only_more_is, followed_is}
 use Rattle.cfg_json.proofs.DocumentLaws.{document_fields, fields_answer}

@@ -1,5 +1,5 @@
 -- The addresses to which a container's credentials may be asked for without HTTPS.
-use Rattle.std.specs.Prelude.{ℕ, ◌+◌, ◌*◌, ◌/◌, List, [], ◌∷◌, Bool, ◌||◌, nat_eq}
+use Rattle.std.specs.Prelude.{ℕ, ◌+◌, ◌*◌, ◌/◌, [], ◌∷◌, Bool, ◌||◌, nat_eq}
 use Rattle.cfg_values.specs.Addresses.{number_of}
 use Rattle.cfg_values.specs.declared.address.Address.{Address}
 use Rattle.cfg_values.specs.declared.address.Address.TheVariants.{V4, V6}

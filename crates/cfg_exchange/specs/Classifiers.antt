@@ -1,12 +1,11 @@
 -- Which attempts a classifier repeats.
 use Rattle.std.specs.Prelude.{ℕ, Bool, true, false, ◌||◌, ◌&&◌, nat_le, nat_eq, Option, Some, None}
-use Rattle.cfg_types.specs.declared.reply.Reply.{Reply}
 use Rattle.cfg_types.specs.Replies.{http_in}
 use Rattle.cfg_types.specs.declared.reply.http.HttpReply.{HttpReply}
 use Rattle.cfg_world.specs.declared.ask.Answer.{Answer}
 use Rattle.cfg_world.specs.declared.ask.Answer.TheVariants.{Replied, Failed}
 use Rattle.cfg_exchange.specs.declared.reading.Reading.{Reading}
-use Rattle.cfg_exchange.specs.declared.reading.Reading.TheVariants.{Fine, Refused, Unreadable}
+use Rattle.cfg_exchange.specs.declared.reading.Reading.TheVariants.{Fine, Unreadable}
 use Rattle.cfg_exchange.specs.declared.reading.ReplyKind.{ReplyKind}
 use Rattle.cfg_exchange.specs.declared.classify.ImdsResponseRetryClassifier.{ImdsResponseRetryClassifier}
 use Rattle.cfg_exchange.specs.Readings.{is_success, reading}

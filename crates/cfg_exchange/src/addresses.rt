@@ -8,6 +8,7 @@ const ECS_AGENT: u32 = 0xa9fe_aa02;
 
 // 169.254.170.23 and fd00:ec2::23, where the Amazon EKS Pod Identity agent answers.
 const EKS_AGENT: u32 = 0xa9fe_aa17;
+
 const EKS_AGENT_V6: u128 = 0xfd00_0ec2_0000_0000_0000_0000_0000_0023;
 
 /// Whether a container's credentials may be asked for at this address without HTTPS. Allowed are the

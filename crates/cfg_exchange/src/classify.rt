@@ -69,7 +69,9 @@ impl ImdsResponseRetryClassifier {
     ) -> ImdsResponseRetryClassifier
         ensures { result ≡ record { retry_connect_timeouts = retry_connect_timeouts } }
     {
-        ImdsResponseRetryClassifier { retry_connect_timeouts }
+        ImdsResponseRetryClassifier {
+            retry_connect_timeouts,
+        }
     }
 }
 
@@ -85,9 +87,7 @@ impl ClassifyRetry for ImdsResponseRetryClassifier {
     fn repeats(&self, reply: Option<&HttpReply>, _reading: Reading) -> bool {
         match reply {
             None => self.retry_connect_timeouts,
-            Some(reply) => {
-                (reply.status >= 500 && reply.status <= 599) || reply.status == 401
-            }
+            Some(reply) => { (reply.status >= 500 && reply.status <= 599) || reply.status == 401 }
         }
     }
 }

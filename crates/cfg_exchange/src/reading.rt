@@ -42,17 +42,21 @@ fn said_reading(said: &Result<JsonCredentials, UnhandledCause>) -> Reading
     ensures { result ≡ said_reading_of said.now }
 {
     match said {
-        Ok(JsonCredentials::RefreshableCredentials {
-            access_key_id: _,
-            secret_access_key: _,
-            session_token: _,
-            account_id: _,
-            expiration: _,
-        }) => Reading::Fine,
-        Ok(JsonCredentials::Error {
-            code: _,
-            message: _,
-        }) => Reading::Refused,
+        Ok(
+            JsonCredentials::RefreshableCredentials {
+                access_key_id: _,
+                secret_access_key: _,
+                session_token: _,
+                account_id: _,
+                expiration: _,
+            },
+        ) => Reading::Fine,
+        Ok(
+            JsonCredentials::Error {
+                code: _,
+                message: _,
+            },
+        ) => Reading::Refused,
         Err(_) => Reading::Unreadable,
     }
 }

@@ -1,5 +1,5 @@
 -- The attempt was repeated, and one less is left.
-use Rattle.std.proofs.Common.{rules, ◌≡◌, ◌≢◌, true}
+use Rattle.std.proofs.Common.{rules, ◌≡◌, true}
 use Rattle.cfg_world.specs.declared.ask.Question.TheVariants.{Send}
 use Rattle.cfg_exchange.specs.Classifiers.{is_repeated}
 use Rattle.cfg_exchange.proofs.Repeats.{attempts_go}

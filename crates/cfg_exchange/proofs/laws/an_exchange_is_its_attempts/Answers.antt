@@ -1,4 +1,4 @@
-use Rattle.std.proofs.Common.{add-one, ◌+◌}
+use Rattle.std.proofs.Common.{add-one}
 use Rattle.cfg_exchange.proofs.Pieces.{attempts_piece, piece_attempts}
 use Rattle.cfg_exchange.proofs.laws.an_exchange_is_its_attempts.Goals as goal
 
