@@ -1,0 +1,56 @@
+ghost use Rattle.std.specs.Prelude.{◌≡◌, IfOk};
+ghost use Rattle.std.specs.Str.{is_utf8 as is_utf8_of};
+ghost use Rattle.cfg_exchange.specs.Documents.{is_memory as is_memory_of, document as document_of, body_document as body_document_of};
+
+use cfg_json::{InvalidJsonCredentials, JsonCredentials, parse_json_credentials};
+use cfg_types::{OutOfMemory, UnhandledCause};
+use std::alloc::Global;
+
+pub fn is_utf8(bytes: &[u8]) -> bool
+    ensures { result ≡ is_utf8_of bytes.now }
+{
+    match str::from_utf8(bytes) {
+        Ok(_) => true,
+        Err(_) => false,
+    }
+}
+
+fn is_memory(said: &Result<JsonCredentials, InvalidJsonCredentials>) -> bool
+    ensures { result ≡ is_memory_of said.now }
+{
+    match said {
+        Err(InvalidJsonCredentials::OutOfMemory) => true,
+        _ => false,
+    }
+}
+
+// What a document of credentials says, or why the text is none.
+fn document(
+    alloc: Global,
+    text: &str,
+) -> Result<Result<JsonCredentials, InvalidJsonCredentials>, OutOfMemory>
+    ensures { IfOk result (λ said. said ≡ document_of text.now) }
+{
+    let said = parse_json_credentials(alloc, text);
+    if is_memory(&said) {
+        return Err(OutOfMemory);
+    }
+    Ok(said)
+}
+
+// What a body says that is to hold such a document, or why it holds none.
+#[tactic(auto, unfolding(crate::specs::Documents::body_document))]
+pub fn body_document(
+    alloc: Global,
+    body: &[u8],
+) -> Result<Result<JsonCredentials, UnhandledCause>, OutOfMemory>
+    ensures { IfOk result (λ said. said ≡ body_document_of body.now) }
+{
+    let Ok(text) = str::from_utf8(body) else {
+        return Ok(Err(UnhandledCause::NotUtf8));
+    };
+    match document(alloc, text)? {
+        Ok(said) => Ok(Ok(said)),
+        Err(error) => Ok(Err(UnhandledCause::NoDocument(error))),
+    }
+}

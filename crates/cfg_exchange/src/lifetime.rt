@@ -1,0 +1,28 @@
+ghost use Rattle.std.specs.Prelude.{◌≡◌, IfOk};
+ghost use Rattle.cfg_exchange.specs.Lifetimes.{number as number_of, lifetime as lifetime_of};
+
+use cfg_types::{HttpReply, OutOfMemory, Text};
+use std::alloc::Global;
+
+fn number(text: &str) -> Option<u64>
+    ensures { result ≡ number_of text.now }
+{
+    match text.parse::<u64>() {
+        Ok(number) => Some(number),
+        Err(_) => None,
+    }
+}
+
+// The seconds that the metadata token of a reply lives, where the reply tells them.
+#[tactic(auto, unfolding(crate::specs::Lifetimes::lifetime))]
+pub fn lifetime(alloc: Global, reply: &HttpReply) -> Result<Option<u64>, OutOfMemory>
+    ensures { IfOk result (λ seconds. seconds ≡ lifetime_of reply.now) }
+{
+    match reply.header("x-aws-ec2-metadata-token-ttl-seconds") {
+        Some(seconds) => {
+            let seconds = Text::of(alloc, seconds)?;
+            Ok(number(seconds.as_str()))
+        }
+        None => Ok(None),
+    }
+}

@@ -1,0 +1,123 @@
+//! How a reply reads.
+ghost use Rattle.std.specs.Prelude.{◌≡◌, IfOk};
+ghost use Rattle.cfg_exchange.specs.Readings.{is_success as is_success_of, said_reading as said_reading_of, document_reading as document_reading_of, token_reading as token_reading_of, text_reading as text_reading_of, reading as reading_of};
+
+use crate::documents::{body_document, is_utf8};
+use crate::header_value::is_header_value;
+use crate::lifetime::lifetime;
+use cfg_json::JsonCredentials;
+use cfg_types::{HttpReply, OutOfMemory, UnhandledCause};
+use std::alloc::Global;
+
+/// How a reply reads.
+#[derive(Clone, Copy, Debug, PartialEq, Eq)]
+pub enum Reading {
+    /// It holds what was asked for.
+    Fine,
+    /// It says why it does not.
+    Refused,
+    /// It holds something else.
+    Unreadable,
+}
+
+/// What a reply is to hold.
+#[derive(Clone, Copy, Debug, PartialEq, Eq)]
+pub enum ReplyKind {
+    /// A document of credentials.
+    Document,
+    /// A token of the instance metadata service, and how many seconds it lives.
+    MetadataToken,
+    /// A text.
+    MetadataText,
+}
+
+/// Whether it is a status of success (RFC 9110, section 15.3).
+pub fn is_success(status: u16) -> bool
+    ensures { result ≡ is_success_of status }
+{
+    status >= 200 && status <= 299
+}
+
+fn said_reading(said: &Result<JsonCredentials, UnhandledCause>) -> Reading
+    ensures { result ≡ said_reading_of said.now }
+{
+    match said {
+        Ok(
+            JsonCredentials::RefreshableCredentials {
+                access_key_id: _,
+                secret_access_key: _,
+                session_token: _,
+                account_id: _,
+                expiration: _,
+            },
+        ) => Reading::Fine,
+        Ok(
+            JsonCredentials::Error {
+                code: _,
+                message: _,
+            },
+        ) => Reading::Refused,
+        Err(_) => Reading::Unreadable,
+    }
+}
+
+#[tactic(auto, unfolding(crate::specs::Readings::document_reading))]
+fn document_reading(alloc: Global, reply: &HttpReply) -> Result<Reading, OutOfMemory>
+    ensures { IfOk result (λ r. r ≡ document_reading_of reply.now) }
+{
+    if !is_success(reply.status) {
+        return Ok(Reading::Refused);
+    }
+    let said = body_document(alloc, reply.body.as_slice())?;
+    Ok(said_reading(&said))
+}
+
+#[tactic(auto, unfolding(crate::specs::Readings::token_reading))]
+fn token_reading(alloc: Global, reply: &HttpReply) -> Result<Reading, OutOfMemory>
+    ensures { IfOk result (λ r. r ≡ token_reading_of reply.now) }
+{
+    if reply.status == 400 || reply.status == 403 {
+        return Ok(Reading::Refused);
+    }
+    let is_timed = lifetime(alloc, reply)?.is_some();
+    if is_header_value(reply.body.as_slice()) && is_timed {
+        Ok(Reading::Fine)
+    } else {
+        Ok(Reading::Unreadable)
+    }
+}
+
+#[tactic(auto, unfolding(crate::specs::Readings::text_reading))]
+fn text_reading(reply: &HttpReply) -> Reading
+    ensures { result ≡ text_reading_of reply.now }
+{
+    if !is_success(reply.status) {
+        return Reading::Refused;
+    }
+    if is_utf8(reply.body.as_slice()) {
+        Reading::Fine
+    } else {
+        Reading::Unreadable
+    }
+}
+
+impl ReplyKind {
+    /// How a reply reads that is to hold this.
+    ///
+    /// | it is to hold | refused | unreadable |
+    /// |---|---|---|
+    /// | a document | no success, or an error document | a success that is not UTF-8, or no document |
+    /// | a metadata token | the statuses 400 and 403 | a body that is no header value, or no lifetime that is a number of 64 bits |
+    /// | a text | no success | a success that is not UTF-8 |
+    ///
+    /// All else is fine.
+    pub fn reading(&self, alloc: Global, reply: &HttpReply) -> Result<Reading, OutOfMemory>
+        ensures { IfOk result (λ r. r ≡ reading_of self.now reply.now) }
+    {
+        match self {
+            ReplyKind::Document => document_reading(alloc, reply),
+            ReplyKind::MetadataToken => token_reading(alloc, reply),
+            ReplyKind::MetadataText => Ok(text_reading(reply)),
+        }
+    }
+}
