@@ -1,0 +1,9 @@
+//! The tests of cfg_exchange, over public calls: what no clause says.
+#![tactic(auto)]
+
+#[cfg(test)]
+mod addresses;
+#[cfg(test)]
+mod attempts;
+#[cfg(test)]
+mod readings;
