@@ -76,6 +76,11 @@ fn run_in_pieces(
     run_over(alloc, words, &mut source, most, sink_fails)
 }
 
+// How a run of `generate` ends whose source fails where it is read.
+fn generated(alloc: Global, number: &str) -> Result<String, OutOfMemory> {
+    run_in_pieces(alloc, &["generate", number], b"{}", 4096, 1, 0)
+}
+
 fn resolved(alloc: Global, script: &str) -> Result<String, OutOfMemory> {
     run_in_pieces(alloc, &["resolve"], script.as_bytes(), 4096, 0, 0)
 }
@@ -331,6 +336,33 @@ fn texts_are_told(rt: HostRuntime) -> Result<(), Fail> {
     Ok(())
 }
 
+#[test]
+fn numbers_of_profiles(rt: HostRuntime) -> Result<(), Fail> {
+    let table: &[(&str, &str)] = &[
+        ("1", "Done generate 1 0 =AK\n"),
+        ("2", "Done generate 2 1 =K1\n"),
+        ("3", "Done generate 3 2 =K2\n"),
+        ("10", "Done generate 10 9 =K9\n"),
+        ("101", "Done generate 101 100 =K100\n"),
+        ("1000", "Done generate 1000 999 =K999\n"),
+        ("", "Words "),
+        ("0", "Words "),
+        ("01", "Words "),
+        ("+1", "Words "),
+        ("-1", "Words "),
+        ("1 ", "Words "),
+        ("1a", "Words "),
+        ("1.0", "Words "),
+        ("1001", "Words "),
+        ("18446744073709551617", "Words "),
+    ];
+    for (number, want) in table {
+        let told = generated(rt.alloc(), number)?;
+        assert_eq!(rt; told.as_str(), *want, "{number}");
+    }
+    Ok(())
+}
+
 // Neither the source nor the sink is called, of which the first calls fail.
 #[test]
 fn unknown_commands_come_before_the_input(rt: HostRuntime) -> Result<(), Fail> {
@@ -341,6 +373,10 @@ fn unknown_commands_come_before_the_input(rt: HostRuntime) -> Result<(), Fail> {
         &["Resolve"],
         &["resolve", ""],
         &["resolve", "resolve"],
+        &["resolve", "1"],
+        &["generate"],
+        &["generate", "1", "1"],
+        &["Generate", "1"],
         &["--help", "--version"],
     ];
     for words in table {
