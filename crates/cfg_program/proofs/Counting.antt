@@ -1,9 +1,9 @@
 -- What `parse` reads is the number of a text.
-use Rattle.std.proofs.Common.{◌≡◌, ℕ, ◌<◌, ◌≤◌, ◌^◌, List, [], ◌∷◌, length, Bool, true, false, cond, Option, Some, None, Result, Ok, Err, refl, ap, sym, ◌∙◌, arith}
+use Rattle.std.proofs.Common.{◌≡◌, ℕ, ◌<◌, ◌≤◌, ◌^◌, List, [], ◌∷◌, length, Bool, true, false, cond, Option, Some, None, Result, Ok, Err, refl, ap, sym, ◌∙◌, arith, rules}
 use Rattle.std.specs.Prelude.{◌≢◌, not, ◌&&◌, ◌==◌, nat_lt, slice_get, slice_index}
 use Rattle.std.specs.Str.{all_ascii_digits}
 use Rattle.std.specs.Str.Parse.{ParsesUnsigned}
-use Rattle.std.proofs.lemmas.Str.Parse.{IsNumeralModel, numerals_by_fold, parse_plain, rules}
+use Rattle.std.proofs.lemmas.Str.Parse.{IsNumeralModel, numerals_by_fold, parse_plain}
 use Rattle.std.proofs.lemmas.Bool.{ltb-false, le-ltb, lt-ltb, ne_eqb, and_parts, and_from}
 use Rattle.cfg_program.specs.declared.words.TheConstants.{MOST_PROFILES}
 use Rattle.cfg_program.specs.Words.{number_after, is_numeral, up_to_most, count_of}
@@ -28,13 +28,13 @@ unread : (d : ℕ) (ds : List ℕ) → ¬ ((all_ascii_digits (d ∷ ds) ≡ true
 unread d ds h false e = refl
 unread d ds h true e =
     let digits = and_parts (not (d == 48)) (all_ascii_digits (d ∷ ds)) e in
-    too_much (number_after 0 (d ∷ ds)) (λ small. h (digits.1, (omega arith, small))) (nat_lt MOST_PROFILES (number_after 0 (d ∷ ds))) refl
+    too_much (number_after 0 (d ∷ ds)) (λ small. h (digits.1, omega arith, small)) (nat_lt MOST_PROFILES (number_after 0 (d ∷ ds))) refl
 
 read_is : {E : Type 0} (d : ℕ) (ds : List ℕ) (r : Result ℕ E) → ParsesUnsigned 64 10 (d ∷ ds) r → d ≢ 48 → d ≢ 43 → count_of (d ∷ ds) ≡ counted r
-read_is d ds (Ok n) h zero_first plus_first =
-    let p = parse_plain own 64 (d ∷ ds) (Ok n) h plus_first in
+read_is {E} d ds (Ok n) h zero_first plus_first =
+    let p = parse_plain own {E = E} 64 (d ∷ ds) (Ok n) h plus_first in
     ap (λ b. cond b (up_to_most (number_after 0 (d ∷ ds))) None) (numeral_is d ds zero_first p.0.0) ∙ ap up_to_most (sym p.1)
-read_is d ds (Err e) h zero_first plus_first = unread d ds (parse_plain own 64 (d ∷ ds) (Err e) h plus_first) (is_numeral (d ∷ ds)) refl
+read_is {E} d ds (Err e) h zero_first plus_first = unread d ds (parse_plain own {E = E} 64 (d ∷ ds) (Err e) h plus_first) (is_numeral (d ∷ ds)) refl
 
 -- the number of a text that does not begin with `0` or `+`
 pub count_is : {E : Type 0} (bs : List ℕ) (first : ℕ) (r : Result ℕ E) → Some first ≡ slice_get bs 0 → ParsesUnsigned 64 10 bs r → first ≢ 48 → first ≢ 43 → count_of bs ≡ counted r
