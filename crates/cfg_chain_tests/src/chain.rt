@@ -2,8 +2,8 @@
 // configuration and devices stand in a script, as the program reads them.
 use crate::setup::{Setup, answered, chain_of, questions, set_up};
 use cfg_chain::{DefaultCredentialsChain, ProfileSource, ProviderConfig, is_built};
-use cfg_types::{OutOfMemory, Text};
-use cfg_world::{DeviceLists, ScriptDevices, World};
+use cfg_types::{OutOfMemory, Request, Text};
+use cfg_world::{DeviceLists, Entry, Question, ScriptDevices, World};
 use std::alloc::{AllocError, Global};
 use std::test::Fail;
 
@@ -84,7 +84,19 @@ fn errors_of_scripts(rt: HostRuntime) -> Result<(), Fail> {
         ),
         (
             r#"{"profiles":[["default",[["role_arn","x"]]]]}"#,
-            r#"InvalidConfiguration(Profile(FeatureNotEnabled { feature: "profile-providers", message: None }))"#,
+            r#"InvalidConfiguration(Profile(InvalidCredentialSource { profile: "default", message: "profile must contain `source_profile` or `credential_source` but neither were defined" }))"#,
+        ),
+        (
+            r#"{"selected":"A","profiles":[["A",[["role_arn","x"],["source_profile","B"]]],["B",[["role_arn","y"],["source_profile","A"]]]]}"#,
+            r#"InvalidConfiguration(Profile(CredentialLoop { profiles: ["A", "B"], next: "A" }))"#,
+        ),
+        (
+            r#"{"selected":"A","profiles":[["A",[["role_arn","x"],["source_profile","B"],["aws_access_key_id","K"],["aws_secret_access_key","S"]]],["B",[["role_arn","y"],["source_profile","A"]]]]}"#,
+            r#"InvalidConfiguration(Profile(CredentialLoop { profiles: ["A", "B"], next: "A" }))"#,
+        ),
+        (
+            r#"{"profiles":[["default",[["credential_source","floozle"],["role_arn","x"]]]]}"#,
+            r#"InvalidConfiguration(Profile(UnknownProvider { name: "floozle" }))"#,
         ),
     ];
     for (script, want) in table {
@@ -126,6 +138,21 @@ fn scripts_without_keys(rt: HostRuntime) -> Result<(), Fail> {
             r#"MissingProfile { profile: "e", message: "could not find source profile e referenced from the root profile" }"#,
         ),
         (
+            r#"{"selected":"A","profiles":[["A",[["role_arn","x"],["source_profile","B"]]],["B",[["role_arn","y"],["source_profile","B"]]]]}"#,
+            "AWS_ACCESS_KEY_ID",
+            r#"ProfileDidNotContainCredentials { profile: "B" }"#,
+        ),
+        (
+            r#"{"profiles":[["default",[["role_arn","x"],["source_profile","gone"]]]]}"#,
+            "AWS_ACCESS_KEY_ID",
+            r#"MissingProfile { profile: "gone", message: "could not find source profile gone referenced from default" }"#,
+        ),
+        (
+            r#"{"profiles":[["default",[["sso_account_id","1"],["sso_role_name","r"],["sso_start_url","u"]]]]}"#,
+            "AWS_ACCESS_KEY_ID",
+            r#"MissingProfile { profile: "default", message: "`sso_region` was missing" }"#,
+        ),
+        (
             r#"{"selected":"c","variables":[["AWS_PROFILE","e"]],"profiles":[["other",[]]]}"#,
             "AWS_ACCESS_KEY_ID",
             r#"MissingProfile { profile: "c", message: "could not find source profile c referenced from the root profile" }"#,
@@ -153,6 +180,52 @@ fn roles_are_signed_by_the_keys_of_their_source(rt: HostRuntime) -> Result<(), F
     ];
     for (script, want) in table {
         let words = words_of(rt.alloc(), script)?;
+        assert_eq!(rt; words.as_str(), *want, "{script}");
+    }
+    Ok(())
+}
+
+// The exchange of an entry: the role, who signs, and the name of the session.
+fn exchange_words(alloc: Global, entry: &Entry) -> Result<String, AllocError> {
+    match entry.question() {
+        Question::Send(Request::AssumeRole(call)) => {
+            let role = call.role_arn.as_str();
+            let signer = call.signer.access_key_id();
+            let session = call.session_name.as_str();
+            format!(in alloc; "{role} by {signer} as {session}; ")
+        }
+        _ => Ok(String::new(alloc)),
+    }
+}
+
+fn exchanges(alloc: Global, script: &str) -> Result<String, OutOfMemory> {
+    let Some(Setup { chain, devices }) = set_up(alloc, script)? else {
+        return Ok(String::from_str(alloc, "no script")?);
+    };
+    let mut world = World::new(alloc, devices);
+    let answer = answered(alloc, &chain, &mut world)?;
+    let mut words = String::new(alloc);
+    for entry in world.journal() {
+        words.push_str(exchange_words(alloc, entry)?.as_str())?;
+    }
+    words.push_str(answer.as_str())?;
+    Ok(words)
+}
+
+#[test]
+fn roles_of_a_path_are_assumed_from_its_end(rt: HostRuntime) -> Result<(), Fail> {
+    let table: &[(&str, &str)] = &[
+        (
+            r#"{"profiles":[["default",[["role_arn","arn:aws:iam::1:role/A"],["source_profile","b"]]],["b",[["role_arn","arn:aws:iam::1:role/B"],["source_profile","c"],["role_session_name","sb"]]],["c",[["aws_access_key_id","KC"],["aws_secret_access_key","SC"],["role_arn","arn:aws:iam::1:role/C"]]]],"clock":[5],"replies":{"assume-role":[{"id":"KB","secret":"SB","token":"TB","expires":1000},{"id":"KA","secret":"SA","token":"TA","expires":2000,"arn":"arn:aws:sts::111122223333:assumed-role/A/x"}]}}"#,
+            r#"arn:aws:iam::1:role/B by KC as sb; arn:aws:iam::1:role/A by KB as assume-role-from-profile-5000; Credentials { provider_name: "AssumeRoleProvider", access_key_id: "KA", secret_access_key: "** redacted **", expires_after: 2000 s 0 ns, account_id: "111122223333" } SA Some("TA") [CredentialsProfile]"#,
+        ),
+        (
+            r#"{"profiles":[["default",[["role_arn","r"],["source_profile","default"],["aws_access_key_id","K"],["aws_secret_access_key","S"],["role_session_name","s"]]]],"replies":{"assume-role":[{"id":"KA","secret":"SA","token":"TA","expires":9}]}}"#,
+            r#"r by K as s; Credentials { provider_name: "AssumeRoleProvider", access_key_id: "KA", secret_access_key: "** redacted **", expires_after: 9 s 0 ns } SA Some("TA") [CredentialsProfile]"#,
+        ),
+    ];
+    for (script, want) in table {
+        let words = exchanges(rt.alloc(), script)?;
         assert_eq!(rt; words.as_str(), *want, "{script}");
     }
     Ok(())

@@ -1,0 +1,15 @@
+//! The tests of cfg_profile, over public calls: what no clause says.
+#![tactic(auto)]
+
+#[cfg(test)]
+mod chains;
+#[cfg(test)]
+mod configurations;
+#[cfg(test)]
+mod generated;
+#[cfg(test)]
+mod plans;
+#[cfg(test)]
+mod regions;
+#[cfg(test)]
+mod sets;
