@@ -1,6 +1,6 @@
 -- What `parse` reads is the number of a text.
 use Rattle.std.proofs.Common.{◌≡◌, ℕ, ◌<◌, ◌≤◌, ◌^◌, List, [], ◌∷◌, length, Bool, true, false, cond, Option, Some, None, Result, Ok, Err, refl, ap, sym, ◌∙◌, arith, rules}
-use Rattle.std.specs.Prelude.{◌≢◌, not, ◌&&◌, ◌==◌, nat_lt, slice_get, slice_index}
+use Rattle.std.specs.Prelude.{◌≢◌, not, ◌==◌, nat_lt, slice_get}
 use Rattle.std.specs.Str.{all_ascii_digits}
 use Rattle.std.specs.Str.Parse.{ParsesUnsigned}
 use Rattle.std.proofs.lemmas.Str.Parse.{IsNumeralModel, numerals_by_fold, parse_plain}

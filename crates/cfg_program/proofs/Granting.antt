@@ -1,5 +1,5 @@
 -- What the generated devices answer fits.
-use Rattle.std.proofs.Common.{ℕ, zero, suc, ◌-◌, List, [], ◌∷◌}
+use Rattle.std.proofs.Common.{ℕ, zero, suc, ◌-◌, [], ◌∷◌}
 use Rattle.std.proofs.lemmas.List.Elements.{All-append, All-nil, All-from_recursion}
 use Rattle.std.specs.Prelude.{All}
 use Rattle.cfg_world.specs.Script.{AllFit, IsSentAs, IsSts}

@@ -179,6 +179,16 @@ fn scripts_with_credentials(rt: HostRuntime) -> Result<(), Fail> {
             r#"{"profiles":[["default",[["role_arn","r"],["source_profile","b"]]],["b",[["aws_access_key_id","K"],["aws_secret_access_key","S"]]]],"clock":[7],"replies":{"assume-role":[{"id":"KA","secret":"SA","token":"TA","expires":2000}]},"region":"eu-west-1"}"#,
             "Done credentials =KA =AssumeRoleProvider 2000.000000000 now,assume-role\n",
         ),
+        // What is not selected may need what is not built.
+        (
+            r#"{"profiles":[["other",[["SSO_Session","x"]]],["default",[["aws_access_key_id","K"],["aws_secret_access_key","S"]]]]}"#,
+            "Done credentials =K =ProfileFile none -\n",
+        ),
+        // So may what a later section hides.
+        (
+            r#"{"profiles":[["default",[["login_session","x"]]],["default",[["aws_access_key_id","K"],["aws_secret_access_key","S"]]]]}"#,
+            "Done credentials =K =ProfileFile none -\n",
+        ),
         // A role that is not selected may have any source.
         (
             r#"{"profiles":[["other",[["role_arn","r"]]],["default",[["aws_access_key_id","K"],["aws_secret_access_key","S"]]]]}"#,
@@ -234,6 +244,21 @@ fn scripts_with_an_error(rt: HostRuntime) -> Result<(), Fail> {
         (
             r#"{"profiles":[["default",[["aws_access_key_id","K"]]]]}"#,
             "Refused error InvalidConfiguration -\n",
+        ),
+        // A role without a source.
+        (
+            r#"{"profiles":[["default",[["role_arn","r"]]]]}"#,
+            "Refused error InvalidConfiguration -\n",
+        ),
+        // A role whose source is missing.
+        (
+            r#"{"profiles":[["default",[["role_arn","r"],["source_profile","gone"]]]]}"#,
+            "Refused error CredentialsNotLoaded -\n",
+        ),
+        // A role over its own keys, without a reply.
+        (
+            r#"{"profiles":[["default",[["role_arn","r"],["source_profile","default"],["aws_access_key_id","K"],["aws_secret_access_key","S"]]]]}"#,
+            "Refused error ProviderError now,assume-role!\n",
         ),
         // An access key is missing.
         (
@@ -292,26 +317,6 @@ fn scripts_without_a_call(rt: HostRuntime) -> Result<(), Fail> {
         (r#"{"replies":{"http":[],"bogus":1}}"#, "NoScript "),
         (
             r#"{"profiles":[["default",[["credential_process","x"]]]]}"#,
-            "NotBuilt ",
-        ),
-        (
-            r#"{"profiles":[["other",[["SSO_Session","x"]]],["default",[["aws_access_key_id","K"],["aws_secret_access_key","S"]]]]}"#,
-            "NotBuilt ",
-        ),
-        (
-            r#"{"profiles":[["default",[["login_session","x"]]],["default",[["aws_access_key_id","K"],["aws_secret_access_key","S"]]]]}"#,
-            "NotBuilt ",
-        ),
-        (
-            r#"{"profiles":[["default",[["role_arn","r"]]]]}"#,
-            "NotBuilt ",
-        ),
-        (
-            r#"{"profiles":[["default",[["role_arn","r"],["source_profile","gone"]]]]}"#,
-            "NotBuilt ",
-        ),
-        (
-            r#"{"profiles":[["default",[["role_arn","r"],["source_profile","default"],["aws_access_key_id","K"],["aws_secret_access_key","S"]]]]}"#,
             "NotBuilt ",
         ),
         (

@@ -1,6 +1,5 @@
 -- The replies of all numbers.
-use Rattle.std.proofs.Common.{◌∙◌, ap, subst, sym, rules}
-use Rattle.cfg_world.specs.Script.{AllFit}
+use Rattle.std.proofs.Common.{rules}
 use Rattle.cfg_program.proofs.Granting.{lists_fit}
 use Rattle.cfg_program.proofs.generated.lists.Goals as goal
 
