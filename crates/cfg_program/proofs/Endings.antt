@@ -1,10 +1,11 @@
--- How a run ends whose script was read and whose call was made.
-use Rattle.std.proofs.Common.{ℕ, List, Bool, subst, inr}
+-- How a run ends whose call was made.
+use Rattle.std.proofs.Common.{ℕ, List, Bool, Option, subst, inr}
 use Rattle.cfg_script.specs.Script.{Plain}
 use Rattle.cfg_program.specs.declared.status.Status.{Status}
 use Rattle.cfg_program.specs.declared.status.Status.TheVariants as status
 use Rattle.cfg_program.specs.Calls.{Answers}
 use Rattle.cfg_program.specs.Written.{LineWritten}
+use Rattle.cfg_program.specs.Generated.{GeneratedAnswers, GeneratedLineWritten, GeneratedWritten}
 use Rattle.cfg_program.specs.Run.{Seen, IsScript, EndsResolving}
 
 pub line_ends : (seen : Seen) (p : Plain) (b : Bool) (line : List ℕ) (ended : Status) → IsScript seen p → Answers p b line
@@ -19,3 +20,19 @@ line_ends seen p b line status.OutOfMemory i a w = inr (record { p = p; input = 
 line_ends seen p b line status.TooLong i a w = absurd w
 line_ends seen p b line status.HistoryDiffers i a w = absurd w
 line_ends seen p b line status.NotBuilt i a w = absurd w
+
+module _ (before after : Option (List ℕ)) (faults faults_after n : ℕ) (b : Bool) (line : List ℕ) (a : GeneratedAnswers n b line) where
+  generated_line : (ended : Status) → LineWritten before after faults faults_after b line ended → GeneratedLineWritten before after faults faults_after n ended
+  generated_line ended w = record { is_credentials = b; line = line; answers = a; written = w }
+
+  pub generated_ends : (ended : Status) → LineWritten before after faults faults_after b line ended → GeneratedWritten before after faults faults_after n ended
+  generated_ends status.Done w = generated_line status.Done w
+  generated_ends status.Refused w = generated_line status.Refused w
+  generated_ends status.Words w = generated_line status.Words w
+  generated_ends status.NoScript w = generated_line status.NoScript w
+  generated_ends status.SourceFault w = generated_line status.SourceFault w
+  generated_ends status.SinkFault w = generated_line status.SinkFault w
+  generated_ends status.OutOfMemory w = inr (generated_line status.OutOfMemory w)
+  generated_ends status.TooLong w = generated_line status.TooLong w
+  generated_ends status.HistoryDiffers w = generated_line status.HistoryDiffers w
+  generated_ends status.NotBuilt w = generated_line status.NotBuilt w

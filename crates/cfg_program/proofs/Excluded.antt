@@ -9,13 +9,15 @@ use Rattle.cfg_script.specs.Devices.{lists_of}
 use Rattle.cfg_program.specs.declared.status.Status.{Status}
 use Rattle.cfg_program.specs.declared.status.Status.TheVariants as status
 use Rattle.cfg_program.specs.declared.words.Word.{Word}
-use Rattle.cfg_program.specs.declared.words.Word.TheVariants.{Help, Version, Resolve}
+use Rattle.cfg_program.specs.declared.words.Word.TheVariants.{Help, Version, Resolve, Generate}
+use Rattle.cfg_program.specs.declared.lines.LineForm.TheVariants.{Call, Generated}
 use Rattle.cfg_program.specs.declared.input.TheConstants.{LIMIT}
 use Rattle.cfg_program.specs.Texts.{help_text, version_text}
 use Rattle.cfg_program.specs.Inputs.{IsTooLong}
 use Rattle.cfg_program.specs.Calls.{Answers, configuration_of}
 use Rattle.cfg_program.specs.Plans.{plan_is_built}
-use Rattle.cfg_program.specs.Run.{Seen, IsInput, NeedsMore, WasRead, IsScript, WritesLine, WritesNothing, EndsResolving, EndsForWords, EndsTelling, EndsRun}
+use Rattle.cfg_program.specs.Generated.{generated_configuration, generated_lists, GeneratedLineWritten}
+use Rattle.cfg_program.specs.Run.{Seen, IsInput, NeedsMore, WasRead, IsScript, WritesLine, WritesNothing, EndsResolving, EndsForWords, EndsTelling, EndsGenerating, EndsRun}
 use Rattle.cfg_program.specs.Exclusion.{depends_on_input, BytesAreKnown, AppendTheSame, CallsFor}
 use Rattle.cfg_program.proofs.Pieces.{none_grown}
 use Rattle.cfg_program.proofs.OneLine.{one_line}
@@ -136,7 +138,7 @@ same_script one other all e f p q is also =
 same_lines : (one other : Seen) (all : List ℕ) → one.left ≡ Some all → other.left ≡ Some all → (a b : Bool) → WritesLine one a → WritesLine other b → (a ≡ b) × AppendTheSame one other
 same_lines one other all e f a b x y =
     let script : y.p ≡ x.p = same_script other one all f e y.p x.p y.input x.input in
-    let same = one_line (configuration_of x.p) (lists_of x.p) a b x.line y.line x.answers (subst (λ p. Answers p b y.line) script y.answers) in
+    let same = one_line (configuration_of x.p) (lists_of x.p) Call a b x.line y.line x.answers (subst (λ p. Answers p b y.line) script y.answers) in
     (same.0, (x.line, x.written, subst (λ l. Appends other.written other.written_after l) (sym same.1) y.written))
 
 none_is_some : {s : Status} → ◌≡◌ {A = Option Status} None (Some s) → ⊥
@@ -210,12 +212,38 @@ alike_for_words one other s t a b =
     let second = command_is_unknown other t b in
     (first.0 ∙ sym second.0, both_nothing one other first.1 second.1)
 
+-- a call over generated profiles ends by its line
+record HasGenerated (seen : Seen) (n : ℕ) (ended : Status) : Type 0 where
+  answered : GeneratedLineWritten seen.written seen.written_after seen.sink_faults seen.sink_faults_after n ended
+  is : ended ≡ status_of answered.is_credentials
+  written : Appends seen.written seen.written_after answered.line
+
+generated_ends : (seen : Seen) (n : ℕ) (s : Status) → IsTrue (depends_on_input s) → EndsGenerating seen n s → HasGenerated seen n s
+generated_ends seen n status.Done t ends = record { answered = ends; is = ap status_of (sym ends.written.0); written = ends.written.1 }
+generated_ends seen n status.Refused t ends = record { answered = ends; is = ap status_of (sym ends.written.0); written = ends.written.1 }
+generated_ends seen n status.Words t ends = absurd ends.written
+generated_ends seen n status.NoScript t ends = absurd ends.written
+generated_ends seen n status.SourceFault t ends = absurd ends.written
+generated_ends seen n status.SinkFault t ends = cc
+generated_ends seen n status.OutOfMemory t ends = cc
+generated_ends seen n status.TooLong t ends = absurd ends.written
+generated_ends seen n status.HistoryDiffers t ends = absurd ends.written
+generated_ends seen n status.NotBuilt t ends = absurd ends.written
+
+alike_generating : (one other : Seen) (n : ℕ) (s t : Status) → IsTrue (depends_on_input s) → IsTrue (depends_on_input t) → EndsGenerating one n s → EndsGenerating other n t → (s ≡ t) × AppendTheSame one other
+alike_generating one other n s t u v a b =
+    let x = generated_ends one n s u a in
+    let y = generated_ends other n t v b in
+    let same = one_line (generated_configuration n) (generated_lists n) (Generated n) x.answered.is_credentials y.answered.is_credentials x.answered.line y.answered.line x.answered.answers y.answered.answers in
+    (x.is ∙ ap status_of same.0 ∙ sym y.is, (x.answered.line, x.written, subst (λ l. Appends other.written other.written_after l) (sym same.1) y.written))
+
 pub alike : (one other : Seen) (word : Option Word) (s t : Status) → BytesAreKnown one → one.left ≡ other.left → IsTrue (depends_on_input s) → IsTrue (depends_on_input t)
     → EndsRun one word s → EndsRun other word t → (s ≡ t) × AppendTheSame one other
 alike one other None s t known same u v a b = alike_for_words one other s t a b
 alike one other (Some Help) s t known same u v a b = alike_telling one other help_text s t u v a b
 alike one other (Some Version) s t known same u v a b = alike_telling one other version_text s t u v a b
 alike one other (Some Resolve) s t known same u v a b = alike_resolving one other s t known same u v a b
+alike one other (Some (Generate n)) s t known same u v a b = alike_generating one other n s t u v a b
 
 pub exclude_one_another : (seen : Seen) (word : Option Word) (one other : Status) → BytesAreKnown seen → IsTrue (depends_on_input one) → IsTrue (depends_on_input other) → EndsRun seen word one → EndsRun seen word other → one ≡ other
 exclude_one_another seen word one other known t u a b = (alike seen seen word one other known refl t u a b).0

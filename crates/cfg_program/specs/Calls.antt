@@ -20,7 +20,9 @@ use Rattle.cfg_chain.specs.Causes.{HasCause}
 use Rattle.cfg_chain.specs.Valid.{IsValid}
 use Rattle.cfg_script.specs.Script.{Plain, PlainProfiles, Sections, RefusedSections, Section}
 use Rattle.cfg_script.specs.Devices.{lists_of}
-use Rattle.cfg_program.specs.Lines.{shown}
+use Rattle.cfg_program.specs.declared.lines.LineForm.{LineForm}
+use Rattle.cfg_program.specs.declared.lines.LineForm.TheVariants.{Call}
+use Rattle.cfg_program.specs.Lines.{shown_as}
 
 -- a section that a script says, as the chain sees it
 abbrev pub section_parts : Section → SectionParts
@@ -59,8 +61,8 @@ pub record IsFresh (w : Held devices.Script) : Type 0 where
   pub place : w.devices.place ≡ start
 
 -- There is a call of the default chain over this configuration, to which the answers are those that
--- the lists give; it has this outcome, which has its cause, and this line.
-pub record AnswersOver (conf : Configuration) (lists : DeviceLists) (is_credentials : Bool) (line : List ℕ) : Type 0 where
+-- the lists give; it has this outcome, which has its cause, and this line, in this form.
+pub record AnswersOver (conf : Configuration) (lists : DeviceLists) (form : LineForm) (is_credentials : Bool) (line : List ℕ) : Type 0 where
   pub journal : List Pair
   pub out : Result Keys CredentialsError
   pub resolves : Resolves conf [] journal out
@@ -68,8 +70,8 @@ pub record AnswersOver (conf : Configuration) (lists : DeviceLists) (is_credenti
   pub valid : IsValid conf journal → is_credentials ≡ true
   pub agrees : Given lists start journal
   pub credentials : is_credentials ≡ is_ok out
-  pub shows : line ≡ shown out journal
+  pub shows : line ≡ shown_as form out journal
 
 -- the call of a script
 abbrev pub Answers : Plain → Bool → List ℕ → Type 0
-Answers p is_credentials line = AnswersOver (configuration_of p) (lists_of p) is_credentials line
+Answers p is_credentials line = AnswersOver (configuration_of p) (lists_of p) Call is_credentials line

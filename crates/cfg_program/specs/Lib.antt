@@ -7,5 +7,6 @@ pub mod Lines
 pub mod Calls
 pub mod Plans
 pub mod Written
+pub mod Generated
 pub mod Run
 pub mod Exclusion

@@ -1,8 +1,8 @@
 -- The line of a call.
-use Rattle.std.specs.Prelude.{ℕ, ◌+◌, ◌/◌, ◌%◌, List, [], ◌∷◌, ◌++◌, Option, Some, None, Result, Ok, Err, codes}
-use Rattle.std.specs.List.{flat_map}
+use Rattle.std.specs.Prelude.{ℕ, ◌+◌, ◌/◌, ◌%◌, Bool, true, false, List, [], ◌∷◌, ◌++◌, Option, Some, None, Result, Ok, Err, codes}
+use Rattle.std.specs.List.{flat_map, count_by}
 use Rattle.std.specs.Str.{encode_utf8_all}
-use Rattle.std.specs.Fmt.{signed_decimal}
+use Rattle.std.specs.Fmt.{decimal, signed_decimal}
 use Rattle.cfg_values.specs.Moment.{Moment}
 use Rattle.cfg_types.specs.Keys.{Keys}
 use Rattle.cfg_types.specs.Classes.{class_of, class_name}
@@ -16,6 +16,8 @@ use Rattle.cfg_world.specs.declared.ask.Answer.TheVariants.{Failed}
 use Rattle.cfg_world.specs.Fits.{Pair}
 use Rattle.percent_encoding.specs.Percent.{percent_encode}
 use Rattle.cfg_program.specs.declared.lines.TheConstants.{ESCAPED}
+use Rattle.cfg_program.specs.declared.lines.LineForm.{LineForm}
+use Rattle.cfg_program.specs.declared.lines.LineForm.TheVariants.{Call, Generated}
 
 -- `=`, and the bytes of a text, those that are escaped as `%` and two digits
 abbrev pub shown_text : List ℕ → List ℕ
@@ -90,3 +92,23 @@ shown_outcome (Err e) = codes "error " ++ class_name (class_of e)
 -- The line of a call: what it came to, and the questions that it asked.
 unfoldable pub shown : Result Keys CredentialsError → List Pair → List ℕ
 shown out journal = shown_outcome out ++ (codes " " ++ (kinds journal ++ codes "\n"))
+
+-- whether a role was asked for
+abbrev pub is_assume_role : Question → Bool
+is_assume_role (question.Send (request.AssumeRole call)) = true
+is_assume_role _ = false
+
+-- how many exchanges for roles a journal has
+abbrev pub exchanges : List Pair → ℕ
+exchanges journal = count_by (λ e. is_assume_role e.0) journal
+
+-- `generate`, the number, how many exchanges for roles there were, and the id of the last key
+abbrev pub shown_generated : ℕ → Keys → List Pair → List ℕ
+shown_generated n keys journal =
+    codes "generate " ++ (decimal n ++ (codes " " ++ (decimal (exchanges journal) ++ (codes " " ++ (shown_text (encode_utf8_all keys.access_key_id) ++ codes "\n")))))
+
+-- The line of a call in this form. An error has one form alone.
+abbrev pub shown_as : LineForm → Result Keys CredentialsError → List Pair → List ℕ
+shown_as Call out journal = shown out journal
+shown_as (Generated n) (Ok keys) journal = shown_generated n keys journal
+shown_as (Generated n) (Err e) journal = shown (Err e) journal

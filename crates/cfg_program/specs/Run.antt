@@ -7,13 +7,14 @@ use Rattle.cfg_script.specs.Reading.{script_of}
 use Rattle.cfg_program.specs.declared.status.Status.{Status}
 use Rattle.cfg_program.specs.declared.status.Status.TheVariants as status
 use Rattle.cfg_program.specs.declared.words.Word.{Word}
-use Rattle.cfg_program.specs.declared.words.Word.TheVariants.{Help, Version, Resolve}
+use Rattle.cfg_program.specs.declared.words.Word.TheVariants.{Help, Version, Resolve, Generate}
 use Rattle.cfg_program.specs.Texts.{help_text, version_text}
 use Rattle.cfg_program.specs.declared.input.TheConstants.{LIMIT}
 use Rattle.cfg_program.specs.Streams.{GrowsByPrefix}
 use Rattle.cfg_program.specs.Inputs.{IsTooLong}
 use Rattle.cfg_program.specs.Calls.{Answers}
 use Rattle.cfg_program.specs.Plans.{plan_is_built}
+use Rattle.cfg_program.specs.Generated.{GeneratedWritten}
 use Rattle.cfg_program.specs.Written.{TextWritten}
 
 -- what a run saw of its source and its sink, before and after
@@ -93,6 +94,10 @@ EndsResolving seen status.TooLong = IsTooLong seen.left seen.left_after × Write
 EndsResolving seen status.HistoryDiffers = ⊥
 EndsResolving seen status.NotBuilt = IsNotBuilt seen × WritesNothing seen
 
+-- how generating ends
+abbrev pub EndsGenerating : Seen → ℕ → Status → Type 0
+EndsGenerating seen n ended = GeneratedWritten seen.written seen.written_after seen.sink_faults seen.sink_faults_after n ended
+
 -- an unknown command
 abbrev pub EndsForWords : Seen → Status → Type 0
 EndsForWords seen status.Words = WritesNothing seen
@@ -104,3 +109,4 @@ EndsRun seen None ended = EndsForWords seen ended
 EndsRun seen (Some Help) ended = EndsTelling seen help_text ended
 EndsRun seen (Some Version) ended = EndsTelling seen version_text ended
 EndsRun seen (Some Resolve) ended = EndsResolving seen ended
+EndsRun seen (Some (Generate n)) ended = EndsGenerating seen n ended

@@ -5,21 +5,29 @@ ghost use Rattle.cfg_profile.specs.Configuration.{Configuration};
 ghost use Rattle.cfg_script.specs.Script.{Plain};
 ghost use Rattle.cfg_program.specs.declared.status.Status.{Status as Ended};
 ghost use Rattle.cfg_program.specs.declared.words.Word.{Word as Asked};
+ghost use Rattle.cfg_program.specs.declared.lines.LineForm.{LineForm as Form};
 ghost use Rattle.cfg_program.specs.declared.words.Word.TheVariants.{Resolve};
 ghost use Rattle.cfg_program.specs.Calls.{AnswersOver, Answers};
+ghost use Rattle.cfg_program.specs.Generated.{GeneratedAnswers};
 ghost use Rattle.cfg_program.specs.Run.{Seen, EndsRun};
 ghost use Rattle.cfg_program.specs.Exclusion.{BytesAreKnown, AppendTheSame, CallsFor, depends_on_input};
 
-/// A call over one configuration and one script of devices has one line, and one status.
+/// A call over one configuration and one script of devices has one line of a form, and one status.
 pub fn one_call_has_one_line()
-    ensures { (conf : Configuration) (lists : Lists) (is_credentials is_other : Bool) (line other : List ℕ) →
-        AnswersOver conf lists is_credentials line → AnswersOver conf lists is_other other → (is_credentials ≡ is_other) × (line ≡ other) }
+    ensures { (conf : Configuration) (lists : Lists) (form : Form) (is_credentials is_other : Bool) (line other : List ℕ) →
+        AnswersOver conf lists form is_credentials line → AnswersOver conf lists form is_other other → (is_credentials ≡ is_other) × (line ≡ other) }
 {}
 
 /// A script has one line, and one status.
 pub fn one_script_has_one_line()
     ensures { (script : Plain) (is_credentials is_other : Bool) (line other : List ℕ) →
         Answers script is_credentials line → Answers script is_other other → (is_credentials ≡ is_other) × (line ≡ other) }
+{}
+
+/// A number has one line, and one status.
+pub fn one_number_has_one_line()
+    ensures { (n : ℕ) (is_credentials is_other : Bool) (line other : List ℕ) →
+        GeneratedAnswers n is_credentials line → GeneratedAnswers n is_other other → (is_credentials ≡ is_other) × (line ≡ other) }
 {}
 
 /// Of the statuses that depend on the words and the input alone, one run meets the case of one.

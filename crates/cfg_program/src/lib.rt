@@ -2,6 +2,7 @@
 //! world, and answers how it ended. It stands on cfg_chain and on cfg_script.
 #![tactic(auto)]
 
+mod generated;
 mod input;
 pub mod laws;
 mod lines;
@@ -12,6 +13,6 @@ mod status;
 mod words;
 
 pub use input::LIMIT;
-pub use lines::ESCAPED;
+pub use lines::{ESCAPED, LineForm};
 pub use status::Status;
-pub use words::{HELP, USAGE, VERSION, Word};
+pub use words::{HELP, MOST_PROFILES, USAGE, VERSION, Word};

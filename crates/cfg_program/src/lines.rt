@@ -1,7 +1,7 @@
 ghost use Rattle.std.specs.Prelude.{◌≡◌, ◌<◌, ◌++◌, OnOk, IfOk};
 ghost use Rattle.std.specs.List.{flat_map};
-ghost use Rattle.std.specs.Fmt.{signed_decimal};
-ghost use Rattle.cfg_program.specs.Lines.{shown_text, three_digits as three_digits_of, nine_digits as nine_digits_of, shown_expiry, name_of_question, name_of_request, kind as kind_of, later_kind, kinds as kinds_of, shown_credentials, shown_outcome, shown};
+ghost use Rattle.std.specs.Fmt.{decimal, signed_decimal};
+ghost use Rattle.cfg_program.specs.Lines.{shown_text, three_digits as three_digits_of, nine_digits as nine_digits_of, shown_expiry, name_of_question, name_of_request, kind as kind_of, later_kind, kinds as kinds_of, shown_credentials, shown_outcome, shown, is_assume_role as is_assume_role_of, exchanges as exchanges_of, shown_generated, shown_as};
 
 use cfg_types::{Credentials, CredentialsError, Instant, Request};
 use cfg_world::{Answer, Entry, Question};
@@ -12,10 +12,37 @@ use std::string::ToString;
 /// The bytes of a text that a line escapes: these, and those from 128.
 pub const ESCAPED: AsciiSet = ascii_set!(CONTROLS.add(b' ').add(b'%'));
 
-/// The line of a call's outcome and of the questions that it asked: the kind of outcome, what it
-/// tells, and the kinds of the questions, each with `!` where it failed.
-#[tactic(auto, using(std::proofs::lemmas::Grind::common_steps), unfolding(crate::specs::Lines::shown))]
+/// The form of a call's line.
+#[derive(Clone, Copy, Debug, PartialEq, Eq)]
+pub enum LineForm {
+    /// What the call came to, and the questions that it asked.
+    Call,
+    /// This number of profiles, how many roles were asked for, and the id of the last key.
+    Generated(u64),
+}
+
+/// The line of a call's outcome and of the questions that it asked, in this form. An error has one
+/// form alone.
 pub fn line_of(
+    alloc: Global,
+    form: LineForm,
+    outcome: &Result<Credentials, CredentialsError>,
+    journal: &[Entry],
+) -> Result<Vec<u8>, AllocError>
+    ensures { IfOk result (λ line. line.items ≡ shown_as form outcome.now journal.now) }
+{
+    match form {
+        LineForm::Call => call_line(alloc, outcome, journal),
+        LineForm::Generated(n) => match outcome {
+            Ok(credentials) => generated_line(alloc, n, credentials, journal),
+            Err(_) => call_line(alloc, outcome, journal),
+        },
+    }
+}
+
+// The kind of outcome, what it tells, and the kinds of the questions, each with `!` where it failed.
+#[tactic(auto, using(std::proofs::lemmas::Grind::common_steps), unfolding(crate::specs::Lines::shown))]
+fn call_line(
     alloc: Global,
     outcome: &Result<Credentials, CredentialsError>,
     journal: &[Entry],
@@ -28,6 +55,49 @@ pub fn line_of(
     write_kinds(&mut line, journal)?;
     line.push(b'\n')?;
     Ok(line)
+}
+
+// `generate`, the number, how many exchanges for roles there were, and the id of the last key.
+#[tactic(auto, using(std::proofs::lemmas::Grind::common_steps))]
+fn generated_line(
+    alloc: Global,
+    n: u64,
+    credentials: &Credentials,
+    journal: &[Entry],
+) -> Result<Vec<u8>, AllocError>
+    ensures { IfOk result (λ line. line.items ≡ shown_generated n credentials.now journal.now) }
+{
+    let mut line = Vec::new(alloc);
+    write_word(&mut line, b"generate ")?;
+    write_number(&mut line, n)?;
+    line.push(b' ')?;
+    write_number(&mut line, exchanges(journal))?;
+    line.push(b' ')?;
+    write_text(&mut line, credentials.access_key_id())?;
+    line.push(b'\n')?;
+    Ok(line)
+}
+
+// How many exchanges for roles a journal has.
+fn exchanges(journal: &[Entry]) -> u64
+    ensures { result ≡ exchanges_of journal.now }
+{
+    let mut count = 0;
+    for entry in journal {
+        if is_assume_role(entry.question()) {
+            count += 1;
+        }
+    }
+    count
+}
+
+fn is_assume_role(question: &Question) -> bool
+    ensures { result ≡ is_assume_role_of question.now }
+{
+    match question {
+        Question::Send(Request::AssumeRole(_)) => true,
+        _ => false,
+    }
 }
 
 fn write_outcome(
@@ -151,6 +221,14 @@ fn write_expiry(line: &mut Vec<u8>, expiry: Option<Instant>) -> Result<(), Alloc
 
 fn write_signed(line: &mut Vec<u8>, number: i64) -> Result<(), AllocError>
     ensures { OnOk result (line.new.items ≡ line.old.items ++ signed_decimal number) }
+{
+    let digits = number.to_string(*line.allocator())?;
+    write_word(line, digits.as_bytes())?;
+    Ok(())
+}
+
+fn write_number(line: &mut Vec<u8>, number: u64) -> Result<(), AllocError>
+    ensures { OnOk result (line.new.items ≡ line.old.items ++ decimal number) }
 {
     let digits = number.to_string(*line.allocator())?;
     write_word(line, digits.as_bytes())?;

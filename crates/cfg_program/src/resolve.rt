@@ -1,5 +1,5 @@
 ghost use Rattle.std.specs.Prelude.{◌≡◌, true, false, is_ok, IfOk, Err, map, option_map, string_bytes};
-ghost use Rattle.cfg_program.specs.Lines.{shown};
+ghost use Rattle.cfg_program.specs.Lines.{shown_as};
 ghost use Rattle.cfg_values.specs.Text.{characters};
 ghost use Rattle.cfg_values.specs.TextMap.{named};
 ghost use Rattle.cfg_values.specs.Entries.{each_set};
@@ -11,7 +11,7 @@ ghost use Rattle.cfg_chain.specs.profile.Plans.{is_built as is_built_of};
 ghost use Rattle.cfg_program.specs.Calls.{section_parts, source_of, configured_by, IsFresh, AnswersOver, Answers};
 ghost use Rattle.cfg_program.specs.Plans.{plan_is_built};
 
-use crate::lines::line_of;
+use crate::lines::{LineForm, line_of};
 use cfg_chain::{
     DefaultCredentialsChain, ProfileSet, ProfileSource, ProviderConfig, RegionSource, Section,
     is_built,
@@ -64,26 +64,28 @@ pub fn resolve(alloc: Global, script: Script) -> Result<Answered, Unresolved>
         devices,
     } = script;
     let config = configuration(alloc, variables, profiles, selected, sleep)?;
-    match answer_over(alloc, config, region, devices) {
+    match answer_over(alloc, config, region, devices, LineForm::Call) {
         Ok(answered) => Ok(answered),
         Err(OutOfMemory) => Err(Unresolved::OutOfMemory),
     }
 }
 
-// The call with this configuration and region, over devices that answer from these lists.
-fn answer_over(
+/// The call with this configuration and region, over devices that answer from these lists, and its
+/// line in this form.
+pub fn answer_over(
     alloc: Global,
     config: ProviderConfig,
     region: Option<String>,
     lists: DeviceLists,
+    form: LineForm,
 ) -> Result<Answered, OutOfMemory>
     requires { AllFit lists }
-    ensures { IfOk result (λ a. AnswersOver (record config { region = option_map characters (option_map (λ t. string_bytes t) region) }) lists a.is_ok a.line.items) }
+    ensures { IfOk result (λ a. AnswersOver (record config { region = option_map characters (option_map (λ t. string_bytes t) region) }) lists form a.is_ok a.line.items) }
 {
     let region = region_named(alloc, region)?;
     let devices = ScriptDevices::new(alloc, lists)?;
     let mut world = World::new(alloc, devices);
-    answer(alloc, config, region, &mut world)
+    answer(alloc, config, region, form, &mut world)
 }
 
 // The call with this configuration and region, over this world.
@@ -91,13 +93,14 @@ fn answer(
     alloc: Global,
     config: ProviderConfig,
     region: Option<Region>,
+    form: LineForm,
     world: &mut World<ScriptDevices>,
 ) -> Result<Answered, OutOfMemory>
     requires { IsFresh world.old }
-    ensures { IfOk result (λ a. AnswersOver (record config { region = region }) world.old.devices.lists a.is_ok a.line.items) }
+    ensures { IfOk result (λ a. AnswersOver (record config { region = region }) world.old.devices.lists form a.is_ok a.line.items) }
 {
     let chain = chain_of(alloc, config, region, world)?;
-    call(alloc, &chain, world)
+    call(alloc, &chain, form, world)
 }
 
 // What the script configures, where its plan is built.
@@ -135,9 +138,9 @@ fn source(alloc: Global, profiles: ScriptProfiles) -> Result<ProfileSource, OutO
     }
 }
 
-// These variables, sections and selected name, and whether providers may sleep. The region comes to
-// the chain as an override.
-fn configured_with(
+/// These variables, sections and selected name, and whether providers may sleep. The region comes to
+/// the chain as an override.
+pub fn configured_with(
     alloc: Global,
     variables: Vec<(String, EnvText)>,
     source: ProfileSource,
@@ -198,16 +201,17 @@ fn chain_of(
 fn call(
     alloc: Global,
     chain: &DefaultCredentialsChain,
+    form: LineForm,
     world: &mut World<ScriptDevices>,
 ) -> Result<Answered, OutOfMemory>
     requires { IsFresh world.old }
-    ensures { IfOk result (λ a. AnswersOver chain.now world.old.devices.lists a.is_ok a.line.items) }
+    ensures { IfOk result (λ a. AnswersOver chain.now world.old.devices.lists form a.is_ok a.line.items) }
 {
     let mut kept = chain.new_kept()?;
     let outcome = Outcome {
         answer: chain.provide_credentials(&mut kept, world),
     };
-    told(alloc, &outcome.answer, world.journal())
+    told(alloc, form, &outcome.answer, world.journal())
 }
 
 // What a call answered. A caller that lets it go drops it by one call.
@@ -224,17 +228,18 @@ impl Drop for Outcome {
 // What a call came to, and its line.
 fn told(
     alloc: Global,
+    form: LineForm,
     outcome: &Result<Credentials, CredentialsError>,
     journal: &[Entry],
 ) -> Result<Answered, OutOfMemory>
     ensures memory { IfOk result (λ a. is_memory outcome.now ≡ false) }
     ensures credentials { IfOk result (λ a. a.is_ok ≡ is_ok outcome.now) }
-    ensures line { IfOk result (λ a. a.line.items ≡ shown outcome.now journal.now) }
+    ensures line { IfOk result (λ a. a.line.items ≡ shown_as form outcome.now journal.now) }
 {
     if is_out_of_memory(outcome) {
         return Err(OutOfMemory);
     }
-    let line = line_of(alloc, outcome, journal)?;
+    let line = line_of(alloc, form, outcome, journal)?;
     let is_ok = outcome.is_ok();
     Ok(Answered { is_ok, line })
 }

@@ -1,23 +1,26 @@
-ghost use Rattle.std.specs.Prelude.{◌≡◌, ◌≢◌, Some, None, map, string_bytes};
+ghost use Rattle.std.specs.Prelude.{◌≡◌, ◌≢◌, ◌≤◌, Some, None, map, string_bytes};
 ghost use Rattle.cfg_script.specs.Reading.{script_of};
 ghost use Rattle.cfg_program.specs.Words.{word_named};
 ghost use Rattle.cfg_program.specs.Written.{TextWritten, LineWritten};
 ghost use Rattle.cfg_program.specs.Run.{EndsRun, EndsResolving};
+ghost use Rattle.cfg_program.specs.Generated.{GeneratedWritten};
+ghost use Rattle.cfg_program.specs.declared.words.TheConstants.{MOST_PROFILES};
 
+use crate::generated::generate;
 use crate::input::{InputError, read_all};
 use crate::output::write_all;
 use crate::resolve::{Answered, Unresolved, resolve};
 use crate::status::Status;
 use crate::words::{HELP, VERSION, Word, word_of};
 use cfg_script::{ScriptError, read_script};
-use cfg_types::EnvText;
+use cfg_types::{EnvText, OutOfMemory};
 use cfg_world::{Devices, Sink, Source, StreamFault, World};
 use std::alloc::Global;
 
 /// Does what the words ask for: tells a text, or reads a script from the source and writes the line
-/// of its call to the sink. The words are tested first: without `resolve` the source stays as it
-/// was, and for an unknown command the sink too. Nothing is written before the script was read to
-/// its end. `_env` and `world` are for words that are not built yet: nothing is asked of them.
+/// of its call to the sink, or writes the line of the call over a set of profiles that comes from a
+/// number. The words are tested first: without `resolve` the source stays as it was, and for an
+/// unknown command the sink too. Nothing is written before the script was read to its end. `_env` and `world` are for words that are not built yet: nothing is asked of them.
 pub fn run<S: Source, K: Sink, D: Devices>(
     alloc: Global,
     words: &[String],
@@ -45,6 +48,7 @@ pub fn run<S: Source, K: Sink, D: Devices>(
         Some(Word::Help) => tell(sink, HELP),
         Some(Word::Version) => tell(sink, VERSION),
         Some(Word::Resolve) => resolve_script(alloc, source, sink),
+        Some(Word::Generate(n)) => generate_line(alloc, n, sink),
     }
 }
 
@@ -90,6 +94,17 @@ fn resolve_script<S: Source, K: Sink>(alloc: Global, source: &mut S, sink: &mut 
         Err(Unresolved::OutOfMemory) => return Status::OutOfMemory,
     };
     write_line(sink, &answered)
+}
+
+// Makes the call over the set of n profiles, and writes its line.
+fn generate_line<K: Sink>(alloc: Global, n: u64, sink: &mut K) -> Status
+    requires { n ≤ MOST_PROFILES }
+    ensures { GeneratedWritten (K.written sink.old) (K.written sink.new) (K.faults sink.old) (K.faults sink.new) n result }
+{
+    match generate(alloc, n) {
+        Ok(answered) => write_line(sink, &answered),
+        Err(OutOfMemory) => Status::OutOfMemory,
+    }
 }
 
 // Writes the line of a call.

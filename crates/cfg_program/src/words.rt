@@ -1,5 +1,5 @@
-ghost use Rattle.std.specs.Prelude.{◌≡◌, map, string_bytes, ◌∷◌, []};
-ghost use Rattle.cfg_program.specs.Words.{word_named};
+ghost use Rattle.std.specs.Prelude.{◌≡◌, ◌≤◌, ℕ, map, string_bytes, ◌∷◌, [], Some, IfSome};
+ghost use Rattle.cfg_program.specs.Words.{word_named, count_of};
 
 /// What the words after the program's name ask for.
 #[derive(Clone, Copy, Debug, PartialEq, Eq)]
@@ -7,7 +7,12 @@ pub enum Word {
     Help,
     Version,
     Resolve,
+    /// The call over a set of so many profiles.
+    Generate(u64),
 }
+
+/// The largest number that `generate` takes.
+pub const MOST_PROFILES: u64 = 1_000;
 
 /// What `--version` tells.
 pub const VERSION: &str = "bujerova 0.1.0\n";
@@ -17,6 +22,7 @@ pub const HELP: &str = "\
 bujerova: AWS credentials by a script, as the SDK's default chain finds them
 
 usage: bujerova resolve < SCRIPT     one line for the call that the script describes
+       bujerova generate N           one line for a call over N profiles, 1 to 1000
        bujerova --help | --version
 
 SCRIPT is one JSON object on standard input. docs/SCRIPT.md tells its members,
@@ -26,20 +32,24 @@ and the statuses that the program ends with.
 /// What is told of an unknown command, on standard error.
 pub const USAGE: &str = "\
 usage: bujerova resolve < SCRIPT
+       bujerova generate N
        bujerova --help | --version";
 
 /// What the words ask for, if it is one thing that is known.
 pub fn word_of(words: &[String]) -> Option<Word>
-    ensures { result ≡ word_named (map (λ w. string_bytes w) words.now) }
+    ensures word { result ≡ word_named (map (λ w. string_bytes w) words.now) }
+    ensures most { (n : ℕ) → result ≡ Some (Word.Generate n) → n ≤ MOST_PROFILES }
 {
     match words {
         [word] => named(word.as_str()),
+        [word, number] => numbered(word.as_str(), number.as_str()),
         _ => None,
     }
 }
 
 fn named(word: &str) -> Option<Word>
-    ensures { result ≡ word_named (word.now ∷ []) }
+    ensures word { result ≡ word_named (word.now ∷ []) }
+    ensures most { (n : ℕ) → result ≡ Some (Word.Generate n) → n ≤ MOST_PROFILES }
 {
     if word == "resolve" {
         Some(Word::Resolve)
@@ -49,5 +59,33 @@ fn named(word: &str) -> Option<Word>
         Some(Word::Version)
     } else {
         None
+    }
+}
+
+fn numbered(word: &str, number: &str) -> Option<Word>
+    ensures word { result ≡ word_named (word.now ∷ number.now ∷ []) }
+    ensures most { (n : ℕ) → result ≡ Some (Word.Generate n) → n ≤ MOST_PROFILES }
+{
+    if word != "generate" {
+        return None;
+    }
+    match count_in(number) {
+        Some(count) => Some(Word::Generate(count)),
+        None => None,
+    }
+}
+
+// The number of a text, in decimal digits, without sign or leading zero.
+fn count_in(text: &str) -> Option<u64>
+    ensures value { result ≡ count_of text.now }
+    ensures most { IfSome result (λ n. n ≤ MOST_PROFILES) }
+{
+    let first = text.as_bytes().first()?;
+    if *first == b'0' || *first == b'+' {
+        return None;
+    }
+    match text.parse::<u64>() {
+        Ok(number) if number <= MOST_PROFILES => Some(number),
+        _ => None,
     }
 }

@@ -76,6 +76,11 @@ fn run_in_pieces(
     run_over(alloc, words, &mut source, most, sink_fails)
 }
 
+// How a run of `generate` ends whose source fails where it is read.
+fn generated(alloc: Global, number: &str) -> Result<String, OutOfMemory> {
+    run_in_pieces(alloc, &["generate", number], b"{}", 4096, 1, 0)
+}
+
 fn resolved(alloc: Global, script: &str) -> Result<String, OutOfMemory> {
     run_in_pieces(alloc, &["resolve"], script.as_bytes(), 4096, 0, 0)
 }
@@ -174,6 +179,16 @@ fn scripts_with_credentials(rt: HostRuntime) -> Result<(), Fail> {
             r#"{"profiles":[["default",[["role_arn","r"],["source_profile","b"]]],["b",[["aws_access_key_id","K"],["aws_secret_access_key","S"]]]],"clock":[7],"replies":{"assume-role":[{"id":"KA","secret":"SA","token":"TA","expires":2000}]},"region":"eu-west-1"}"#,
             "Done credentials =KA =AssumeRoleProvider 2000.000000000 now,assume-role\n",
         ),
+        // What is not selected may need what is not built.
+        (
+            r#"{"profiles":[["other",[["SSO_Session","x"]]],["default",[["aws_access_key_id","K"],["aws_secret_access_key","S"]]]]}"#,
+            "Done credentials =K =ProfileFile none -\n",
+        ),
+        // So may what a later section hides.
+        (
+            r#"{"profiles":[["default",[["login_session","x"]]],["default",[["aws_access_key_id","K"],["aws_secret_access_key","S"]]]]}"#,
+            "Done credentials =K =ProfileFile none -\n",
+        ),
         // A role that is not selected may have any source.
         (
             r#"{"profiles":[["other",[["role_arn","r"]]],["default",[["aws_access_key_id","K"],["aws_secret_access_key","S"]]]]}"#,
@@ -229,6 +244,21 @@ fn scripts_with_an_error(rt: HostRuntime) -> Result<(), Fail> {
         (
             r#"{"profiles":[["default",[["aws_access_key_id","K"]]]]}"#,
             "Refused error InvalidConfiguration -\n",
+        ),
+        // A role without a source.
+        (
+            r#"{"profiles":[["default",[["role_arn","r"]]]]}"#,
+            "Refused error InvalidConfiguration -\n",
+        ),
+        // A role whose source is missing.
+        (
+            r#"{"profiles":[["default",[["role_arn","r"],["source_profile","gone"]]]]}"#,
+            "Refused error CredentialsNotLoaded -\n",
+        ),
+        // A role over its own keys, without a reply.
+        (
+            r#"{"profiles":[["default",[["role_arn","r"],["source_profile","default"],["aws_access_key_id","K"],["aws_secret_access_key","S"]]]]}"#,
+            "Refused error ProviderError now,assume-role!\n",
         ),
         // An access key is missing.
         (
@@ -290,26 +320,6 @@ fn scripts_without_a_call(rt: HostRuntime) -> Result<(), Fail> {
             "NotBuilt ",
         ),
         (
-            r#"{"profiles":[["other",[["SSO_Session","x"]]],["default",[["aws_access_key_id","K"],["aws_secret_access_key","S"]]]]}"#,
-            "NotBuilt ",
-        ),
-        (
-            r#"{"profiles":[["default",[["login_session","x"]]],["default",[["aws_access_key_id","K"],["aws_secret_access_key","S"]]]]}"#,
-            "NotBuilt ",
-        ),
-        (
-            r#"{"profiles":[["default",[["role_arn","r"]]]]}"#,
-            "NotBuilt ",
-        ),
-        (
-            r#"{"profiles":[["default",[["role_arn","r"],["source_profile","gone"]]]]}"#,
-            "NotBuilt ",
-        ),
-        (
-            r#"{"profiles":[["default",[["role_arn","r"],["source_profile","default"],["aws_access_key_id","K"],["aws_secret_access_key","S"]]]]}"#,
-            "NotBuilt ",
-        ),
-        (
             r#"{"variables":[["AWS_ACCESS_KEY_ID","K"],["AWS_SECRET_ACCESS_KEY","S"]],"profiles":[["default",[["credential_source","Environment"]]]]}"#,
             "NotBuilt ",
         ),
@@ -331,6 +341,33 @@ fn texts_are_told(rt: HostRuntime) -> Result<(), Fail> {
     Ok(())
 }
 
+#[test]
+fn numbers_of_profiles(rt: HostRuntime) -> Result<(), Fail> {
+    let table: &[(&str, &str)] = &[
+        ("1", "Done generate 1 0 =AK\n"),
+        ("2", "Done generate 2 1 =K1\n"),
+        ("3", "Done generate 3 2 =K2\n"),
+        ("10", "Done generate 10 9 =K9\n"),
+        ("101", "Done generate 101 100 =K100\n"),
+        ("1000", "Done generate 1000 999 =K999\n"),
+        ("", "Words "),
+        ("0", "Words "),
+        ("01", "Words "),
+        ("+1", "Words "),
+        ("-1", "Words "),
+        ("1 ", "Words "),
+        ("1a", "Words "),
+        ("1.0", "Words "),
+        ("1001", "Words "),
+        ("18446744073709551617", "Words "),
+    ];
+    for (number, want) in table {
+        let told = generated(rt.alloc(), number)?;
+        assert_eq!(rt; told.as_str(), *want, "{number}");
+    }
+    Ok(())
+}
+
 // Neither the source nor the sink is called, of which the first calls fail.
 #[test]
 fn unknown_commands_come_before_the_input(rt: HostRuntime) -> Result<(), Fail> {
@@ -341,6 +378,10 @@ fn unknown_commands_come_before_the_input(rt: HostRuntime) -> Result<(), Fail> {
         &["Resolve"],
         &["resolve", ""],
         &["resolve", "resolve"],
+        &["resolve", "1"],
+        &["generate"],
+        &["generate", "1", "1"],
+        &["Generate", "1"],
         &["--help", "--version"],
     ];
     for words in table {

@@ -8,5 +8,5 @@ pub returns : goal.returns
 returns c =
     let same : c.new-world.result.devices.lists ≡ c.args.lists = ap (λ w. w.devices.lists) c.new-world.ensures ∙ ap (λ d. d.lists) c.in_ok-devices.ensures in
     let named = option_map characters (option_map (λ t. string_bytes t) c.args.region) in
-    subst (λ l. IfOk c.answer.result (λ a. AnswersOver (record c.args.config { region = named }) l a.is_ok a.line.items)) same
-    (subst (λ r. IfOk c.answer.result (λ a. AnswersOver (record c.args.config { region = r }) c.new-world.result.devices.lists a.is_ok a.line.items)) c.in_ok-region.ensures c.answer.ensures)
+    subst (λ l. IfOk c.answer.result (λ a. AnswersOver (record c.args.config { region = named }) l c.args.form a.is_ok a.line.items)) same
+    (subst (λ r. IfOk c.answer.result (λ a. AnswersOver (record c.args.config { region = r }) c.new-world.result.devices.lists c.args.form a.is_ok a.line.items)) c.in_ok-region.ensures c.answer.ensures)
