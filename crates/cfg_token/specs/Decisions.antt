@@ -6,16 +6,16 @@ use Rattle.cfg_token.specs.declared.decision.Decision.TheVariants.{Use, Refresh,
 use Rattle.cfg_token.specs.Rules.{Rules}
 use Rattle.cfg_token.specs.Moments.{is_before, more, has_passed}
 
-abbrev pub is_expired : {T : Type 0} → Rules T → T → Moment → Bool
+abbrev pub is_expired : {T E : Type 0} → Rules T E → T → Moment → Bool
 is_expired t token now = not (is_before now (t.expiry token))
 
 -- at most 300 seconds are left
-abbrev pub is_soon : {T : Type 0} → Rules T → T → Moment → Bool
+abbrev pub is_soon : {T E : Type 0} → Rules T E → T → Moment → Bool
 is_soon t token now = not (more (t.expiry token) now 300)
 
-abbrev pub is_refreshable : {T : Type 0} → Rules T → T → Option Moment → Moment → Bool
+abbrev pub is_refreshable : {T E : Type 0} → Rules T E → T → Option Moment → Moment → Bool
 is_refreshable t token last now = t.refreshable token now && has_passed last now
 
-abbrev pub decision : {T : Type 0} → Rules T → T → Option Moment → Moment → Decided
+abbrev pub decision : {T E : Type 0} → Rules T E → T → Option Moment → Moment → Decided
 decision t token last now =
     cond (is_expired t token now && not (is_refreshable t token last now)) Refuse (cond (is_soon t token now && is_refreshable t token last now) Refresh Use)

@@ -1,8 +1,14 @@
 pub mod ShownTokens
 pub mod Paths
 pub mod SsoFile
+pub mod DateTexts
 pub mod SsoText
 pub mod Moments
 pub mod Rules
 pub mod Decisions
+pub mod Sections
+pub mod Notes
+pub mod Histories
+pub mod Spacing
+pub mod SectionCalls
 pub mod SsoTokens

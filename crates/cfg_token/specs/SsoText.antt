@@ -1,5 +1,5 @@
 -- The text that is written for a token of IAM Identity Center.
-use Rattle.std.specs.Prelude.{◌≡◌, ◌⊎◌, ℕ, List, [], true, Option, Some, None, Result, Ok, Err}
+use Rattle.std.specs.Prelude.{◌≡◌, ◌⊎◌, ℕ, List, [], true, Option, Some, None, option_map, Result, Ok, Err}
 use Rattle.std.specs.Str.{all_scalars}
 use Rattle.cfg_values.specs.Gives.{Gives, IsSaid}
 use Rattle.cfg_values.specs.Moment.{Moment}
@@ -11,6 +11,7 @@ use Rattle.cfg_types.specs.declared.errors.sso.CachedSsoTokenError.{CachedSsoTok
 use Rattle.cfg_types.specs.declared.errors.sso.CachedSsoTokenError.TheVariants.{FailedToFormatDateTime, InvalidField, IoError, JsonError as NoJson, MissingField, NoHomeDirectory, Other, OutOfMemory}
 use Rattle.cfg_json.specs.Writing.{quoted, braced, with_member}
 use Rattle.cfg_json.specs.Dates.{IsWrittenDate, IsOutside}
+use Rattle.cfg_token.specs.DateTexts.{date_of}
 use Rattle.cfg_token.specs.declared.sso_token.CachedSsoToken.{CachedSsoToken}
 
 -- the members' text with one member more, a text
@@ -47,6 +48,20 @@ pub record IsSsoText (token : CachedSsoToken) (text : List ℕ) : Type 0 where
   pub is_expiry : IsWrittenDate expiry token.expires_at
   pub is_registration : IsWrittenIfThere registration token.registration_expires_at
   pub is : text ≡ braced (dated_members token expiry registration)
+
+abbrev pub dated_text : CachedSsoToken → Option (List ℕ) → Option (Option (List ℕ)) → Option (List ℕ)
+dated_text token None registration = None
+dated_text token (Some expiry) None = None
+dated_text token (Some expiry) (Some registration) = Some (braced (dated_members token expiry registration))
+
+-- the text of a date that may be there, where it has one
+abbrev pub date_if_there : Option Moment → Option (Option (List ℕ))
+date_if_there None = Some None
+date_if_there (Some m) = option_map (λ text. Some text) (date_of m)
+
+-- the text of a token's file, where its dates have texts
+unfoldable pub sso_text : CachedSsoToken → Option (List ℕ)
+sso_text token = dated_text token (date_of token.expires_at) (date_if_there token.registration_expires_at)
 
 abbrev pub IsOutsideIfThere : Option Moment → Type 0
 IsOutsideIfThere None = ⊥

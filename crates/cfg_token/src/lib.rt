@@ -1,18 +1,23 @@
-//! Tokens that files keep: the cached token of IAM Identity Center, its file, the
-//! file's path, and what is done with a token. It stands on cfg_types and cfg_json. The layers
-//! above may use that a file is read and written exactly as its format says, and that a token is used,
-//! refreshed or refused exactly by its rules.
+//! Tokens that files keep: the cached token of IAM Identity Center, its file, what is done with it, and
+//! sections that hand it out or refresh it and keep the history of their loads. It stands on cfg_types,
+//! cfg_world and cfg_json. The layers above may use that a file is read and written exactly as its
+//! format says, and that a section is one step of its rules and adds its record.
 #![tactic(auto)]
 
-mod decision;
-mod file_token;
+pub mod decision;
+pub mod file_token;
+pub mod history;
 pub mod laws;
+mod leaves;
 mod lookup;
 mod paths;
+mod sections;
 mod sso;
 mod sso_file;
 mod sso_token;
 mod sso_writing;
+pub mod state;
+mod steps;
 mod token_key;
 
 pub use cfg_types::{
@@ -20,8 +25,10 @@ pub use cfg_types::{
 };
 pub use decision::{Decision, decide};
 pub use file_token::FileToken;
+pub use history::{Load, Record};
 pub use paths::cached_sso_token_path;
 pub use sso_file::parse_cached_sso_token;
 pub use sso_token::CachedSsoToken;
 pub use sso_writing::write_cached_sso_token;
+pub use state::{TokenState, section};
 pub use token_key::TokenKey;

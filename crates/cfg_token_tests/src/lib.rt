@@ -7,3 +7,5 @@ mod decisions;
 mod files;
 #[cfg(test)]
 mod paths;
+#[cfg(test)]
+mod sections;

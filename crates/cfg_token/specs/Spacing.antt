@@ -1,0 +1,28 @@
+-- The attempts that the records of a state note.
+use Rattle.std.specs.Prelude.{◌≡◌, ℕ, ◌<◌, ◌+ℤ◌, ◌≤ℤ◌, List, [], ◌∷◌, ◌++◌, Some, IfSome, slice_get, pos}
+use Rattle.std.specs.Option.{option_to_list}
+use Rattle.cfg_values.specs.Moment.{Moment}
+use Rattle.cfg_values.specs.Instant.{number, nanos_in}
+use Rattle.cfg_world.specs.Fits.{Pair}
+use Rattle.cfg_world.specs.Leaves.{moment_of}
+use Rattle.cfg_token.specs.Histories.{Told}
+
+-- the second reading of a load, which stands behind the first one and the file
+abbrev pub second_reading : List Pair → Moment
+second_reading [] = record { seconds = pos 0; nanos = 0 }
+second_reading (a ∷ []) = record { seconds = pos 0; nanos = 0 }
+second_reading (a ∷ b ∷ []) = record { seconds = pos 0; nanos = 0 }
+second_reading (a ∷ b ∷ c ∷ rest) = moment_of c.1
+
+-- the noted attempts, in order
+abbrev pub attempts : {T E : Type 0} → List (Told T E) → List Moment
+attempts [] = []
+attempts (r ∷ records) = option_to_list r.noted ++ attempts records
+
+-- a noted attempt is at its load's second reading
+abbrev pub NotedAtReading : {T E : Type 0} → Told T E → Type 0
+NotedAtReading r = IfSome r.noted (λ now. second_reading r.receipts ≡ now)
+
+-- of two attempts the later one is at least 30 seconds after the earlier one
+abbrev pub Spaced : List Moment → Type 0
+Spaced all = (i j : ℕ) (a b : Moment) → i < j → slice_get all i ≡ Some a → slice_get all j ≡ Some b → (number a +ℤ nanos_in 30) ≤ℤ number b

@@ -1,0 +1,77 @@
+// One question at a time. Its receipt is kept.
+ghost use Rattle.std.specs.Prelude.{◌≡◌, true, ◌++◌, ◌∷◌, [], OnOk};
+ghost use Rattle.cfg_world.specs.Leaves.{clock};
+ghost use Rattle.cfg_token.specs.Notes.{Notes};
+ghost use Rattle.cfg_token.specs.Sections.{file, asks_renewal};
+
+use crate::file_token::{FileToken, Renewal};
+use crate::token_key::TokenKey;
+use cfg_types::{CallSettings, Instant, OutOfMemory, Text, TryCopy};
+use cfg_world::{Answer, Asking, Question, Receipt, Stop};
+use std::alloc::Global;
+
+/// A reading of the clock.
+#[tactic(auto, unfolding(cfg_world::specs::Leaves::clock))]
+pub fn read_clock<A: Asking>(
+    asking: &mut A,
+    receipts: &mut Vec<Receipt>,
+) -> Result<Instant, Stop>
+    ensures { Notes ⟦<A as Asking>⟧ clock asking.old receipts.old.items asking.new receipts.new.items result }
+{
+    let receipt = asking.put(Question::Now)?;
+    let moment = match receipt.entry().answer() {
+        Answer::Moment(moment) => *moment,
+        _ => unreachable!(),
+    };
+    note(receipts, receipt)?;
+    Ok(moment)
+}
+
+/// The token in the file of this path.
+#[tactic(auto, unfolding(crate::specs::Sections::file))]
+pub fn read_file<T: FileToken, A: Asking>(
+    alloc: Global,
+    path: &Text,
+    asking: &mut A,
+    receipts: &mut Vec<Receipt>,
+) -> Result<Result<T, T::Error>, Stop>
+    ensures { Notes ⟦<A as Asking>⟧ (file T.rules path.now) asking.old receipts.old.items asking.new receipts.new.items result }
+{
+    let copy = path.copy(alloc)?;
+    let receipt = asking.put(Question::Read { path: copy })?;
+    let outcome = match receipt.entry().answer() {
+        Answer::Contents(bytes) => T::parse(alloc, bytes.as_slice())?,
+        _ => Err(T::read_error(alloc, path)?),
+    };
+    note(receipts, receipt)?;
+    Ok(outcome)
+}
+
+/// One request for a new token, and what its answer gives.
+#[tactic(auto, unfolding(crate::specs::Sections::asks_renewal))]
+pub fn ask_renewal<T: FileToken, A: Asking>(
+    alloc: Global,
+    key: &TokenKey,
+    settings: &CallSettings,
+    file: &T,
+    now: Instant,
+    asking: &mut A,
+    receipts: &mut Vec<Receipt>,
+) -> Result<Renewal<T, T::Error>, Stop>
+    requires { T.rules.is_kind key.now ≡ true }
+    ensures { Notes ⟦<A as Asking>⟧ (asks_renewal T.rules key.now settings.now file.now now) asking.old receipts.old.items asking.new receipts.new.items result }
+{
+    let request = file.refresh_request(alloc, key, settings)?;
+    let receipt = asking.put(Question::Send(request))?;
+    let renewal = file.renew(alloc, key, now, receipt.entry().answer())?;
+    note(receipts, receipt)?;
+    Ok(renewal)
+}
+
+/// One receipt more.
+pub fn note(receipts: &mut Vec<Receipt>, receipt: Receipt) -> Result<(), OutOfMemory>
+    ensures { OnOk result (receipts.new.items ≡ receipts.old.items ++ receipt ∷ []) }
+{
+    receipts.push(receipt)?;
+    Ok(())
+}

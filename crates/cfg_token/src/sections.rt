@@ -1,0 +1,67 @@
+ghost use Rattle.std.specs.Prelude.{◌≡◌, true};
+ghost use Rattle.std.specs.Option.{option_copied};
+ghost use Rattle.cfg_token.specs.Notes.{Notes};
+ghost use Rattle.cfg_token.specs.Sections.{section as section_of, by_reading};
+
+use crate::decision::is_more;
+use crate::file_token::FileToken;
+use crate::leaves::read_clock;
+use crate::steps::{Loaded, load};
+use crate::token_key::TokenKey;
+use cfg_types::{CallSettings, Env, Instant, TryCopy};
+use cfg_world::{Asking, Receipt, Stop};
+use std::alloc::Global;
+
+/// What a section gave: the kept token, or a load.
+#[derive(Drop)]
+pub enum Sectioned<T, E> {
+    Hit(T),
+    Load(Loaded<T, E>),
+}
+
+/// The kept token is handed out while more than 300 seconds of it are left, or else a load is made.
+#[tactic(auto, using(crate::proofs::NotedSteps::noted_steps), unfolding(crate::specs::Sections::section))]
+pub fn follow_section<T: FileToken, A: Asking>(
+    alloc: Global,
+    key: &TokenKey,
+    env: &Env,
+    settings: &CallSettings,
+    kept: Option<&T>,
+    last: Option<Instant>,
+    asking: &mut A,
+    receipts: &mut Vec<Receipt>,
+) -> Result<Sectioned<T, T::Error>, Stop>
+    requires { T.rules.is_kind key.now ≡ true }
+    ensures { Notes ⟦<A as Asking>⟧ (section_of T.rules key.now env.now settings.now (option_copied kept.entry) last) asking.old receipts.old.items asking.new receipts.new.items result }
+{
+    let reading = read_clock(asking, receipts)?;
+    follow_reading(
+        alloc, key, env, settings, kept, last, reading, asking, receipts,
+    )
+}
+
+// What follows the first reading.
+#[tactic(auto, using(crate::proofs::NotedSteps::noted_steps), unfolding(crate::specs::Sections::by_reading))]
+fn follow_reading<T: FileToken, A: Asking>(
+    alloc: Global,
+    key: &TokenKey,
+    env: &Env,
+    settings: &CallSettings,
+    kept: Option<&T>,
+    last: Option<Instant>,
+    reading: Instant,
+    asking: &mut A,
+    receipts: &mut Vec<Receipt>,
+) -> Result<Sectioned<T, T::Error>, Stop>
+    requires { T.rules.is_kind key.now ≡ true }
+    ensures { Notes ⟦<A as Asking>⟧ (by_reading T.rules key.now env.now settings.now (option_copied kept.entry) last reading) asking.old receipts.old.items asking.new receipts.new.items result }
+{
+    if let Some(token) = kept {
+        if is_more(token.expires_at(), reading, 300) {
+            let token = token.copy(alloc)?;
+            return Ok(Sectioned::Hit(token));
+        }
+    }
+    let loaded = load(alloc, key, env, settings, last, asking, receipts)?;
+    Ok(Sectioned::Load(loaded))
+}

@@ -1,0 +1,139 @@
+//! What is known of one token.
+ghost use Rattle.std.specs.Prelude.{◌≡◌, ◌∷◌, [], None, Some, IfOk, true, false};
+ghost use Rattle.std.specs.Option.{option_copied};
+ghost use Rattle.cfg_token.specs.Sections.{answer_of};
+ghost use Rattle.cfg_token.specs.Histories.{kept_in, last_in, load_in, trimmed, IsHistory};
+ghost use Rattle.cfg_token.specs.SectionCalls.{is_memory, Answers, Interrupted};
+
+use crate::file_token::FileToken;
+use crate::history::{Load, Loads, Record};
+use crate::sections::Sectioned;
+use crate::token_key::TokenKey;
+use cfg_types::{CallSettings, Env, Instant, OutOfMemory};
+use cfg_world::{Asking, Devices, World};
+use std::alloc::Global;
+
+/// What is known of the token of one key.
+pub struct TokenState<T: FileToken> {
+    pub key: TokenKey,
+    pub loads: Loads<T>,
+}
+
+impl<T: FileToken> Drop for TokenState<T> {
+    fn drop(self) {
+        let TokenState { key: _, loads: _ } = self;
+    }
+}
+
+impl<T: FileToken> TokenState<T> {
+    /// Nothing is kept, and no attempt is noted.
+    pub fn new(alloc: Global, key: TokenKey) -> TokenState<T>
+        ensures { result ≡ record { key = key; loads = record { load = None; last = None; records = [] } } }
+    {
+        TokenState {
+            key,
+            loads: Loads::new(alloc),
+        }
+    }
+
+    pub fn key(&self) -> &TokenKey
+        ensures { result.now ≡ self.now.key }
+    {
+        &self.key
+    }
+
+    /// The token that is kept: that of the last load, if it gave one.
+    pub fn kept(&self) -> Option<&T>
+        ensures { option_copied result ≡ kept_in self.now.loads }
+    {
+        self.loads.kept()
+    }
+
+    /// The reading of the last attempt that was noted.
+    pub fn last_attempt(&self) -> Option<Instant>
+        ensures { result ≡ last_in self.now.loads }
+    {
+        self.loads.last_attempt()
+    }
+
+    /// The loads since the origin. Each is one from what the loads before it leave.
+    pub fn records(&self) -> &[Record<T>]
+        ensures is { result.now ≡ self.now.loads.records }
+        ensures history { IsHistory T.rules self.now.loads }
+    {
+        self.loads.records()
+    }
+
+    /// A copy of the load that gave the kept token.
+    pub fn load(&self) -> Result<Option<Load<T>>, OutOfMemory>
+        ensures { IfOk result (λ l. l ≡ load_in self.now.loads) }
+    {
+        self.loads.load()
+    }
+
+    /// What the state was first: the load that gave its token, and the last attempt.
+    pub fn origin(&self) -> (Option<&Load<T>>, Option<Instant>)
+        ensures load { option_copied result.0 ≡ self.now.loads.load }
+        ensures last { result.1 ≡ self.now.loads.last }
+    {
+        self.loads.origin()
+    }
+
+    /// The origin becomes what is kept now, and there are no records. Nothing is copied.
+    pub fn trim(&mut self)
+        ensures key { self.new.key ≡ self.old.key }
+        ensures loads { self.new.loads ≡ trimmed self.old.loads }
+    {
+        self.loads.trim();
+    }
+}
+
+/// Hands out the kept token while more than 300 seconds of it are left. Else the token's file is
+/// read, and its token refreshed where that is due. A finished load adds one record, whose receipts
+/// are the journal's new entries, and a hit adds none. After want of memory the state is as it was.
+///
+/// # Errors
+///
+/// Those of the token's kind. The error that stands for want of memory comes where memory runs out,
+/// and each other one exactly where the rules of that kind give it over the journal's new entries.
+pub fn section<T: FileToken, D: Devices>(
+    state: &mut TokenState<T>,
+    env: &Env,
+    settings: &CallSettings,
+    world: &mut World<D>,
+) -> Result<T, T::Error>
+    requires { T.rules.is_kind state.old.key ≡ true }
+    ensures finished { is_memory T.rules result ≡ false → Answers T.rules ⟦<World<D> as Asking>⟧ state.old.key env.now settings.now world.old state.old.loads world.new state.new.loads result }
+    ensures key { state.new.key ≡ state.old.key }
+    ensures stopped { is_memory T.rules result ≡ true → Interrupted T.rules ⟦<World<D> as Asking>⟧ state.old.key env.now settings.now world.old state.old.loads world.new state.new.loads }
+{
+    section_on(&mut state.loads, &state.key, env, settings, world)
+}
+
+/// A section on the loads of a key.
+pub fn section_on<T: FileToken, D: Devices>(
+    loads: &mut Loads<T>,
+    key: &TokenKey,
+    env: &Env,
+    settings: &CallSettings,
+    world: &mut World<D>,
+) -> Result<T, T::Error>
+    requires { T.rules.is_kind key.now ≡ true }
+    ensures finished { is_memory T.rules result ≡ false → Answers T.rules ⟦<World<D> as Asking>⟧ key.now env.now settings.now world.old loads.old world.new loads.new result }
+    ensures stopped { is_memory T.rules result ≡ true → Interrupted T.rules ⟦<World<D> as Asking>⟧ key.now env.now settings.now world.old loads.old world.new loads.new }
+{
+    match loads.follow(key, env, settings, world) {
+        Ok(made) => answer(made),
+        Err(_) => Err(T::out_of_memory()),
+    }
+}
+
+// What a section answers.
+fn answer<T, E>(made: Sectioned<T, E>) -> Result<T, E>
+    ensures { result ≡ answer_of made }
+{
+    match made {
+        Sectioned::Hit(token) => Ok(token),
+        Sectioned::Load(loaded) => loaded.outcome,
+    }
+}
