@@ -51,7 +51,7 @@ load_from_nothing {T} {E} t key env settings (Some token) last (e ∷ journal) l
     either_way false k = k
 
 pub is_load_from_nothing : {T E : Type 0} (t : Rules T E) (kept : Option T) (last : Option Moment) (r : Told T E) → IsLoad t kept last r → IsLoad t None last r
-is_load_from_nothing t kept last r i = record { key = i.key; env = i.env; settings = i.settings; reads = load_from_nothing t i.key i.env i.settings kept last r.receipts _ i.reads }
+is_load_from_nothing t kept last r i = record { key = i.key; env = i.env; settings = i.settings; of_kind = i.of_kind; reads = load_from_nothing t i.key i.env i.settings kept last r.receipts _ i.reads }
 
 -- the load of the last record
 pub load_by-more : {T E : Type 0} (load : Option (TokenLoad T E)) (last : Option Moment) (records : List (Told T E)) (r : Told T E) →

@@ -1,5 +1,5 @@
 -- What is left to say of a section once its part is known.
-use Rattle.std.proofs.Common.{◌≡◌, ℕ, List, [], ◌∷◌, ◌++◌, Option, Result, refl, sym, ◌∙◌, ap, subst, append-nil}
+use Rattle.std.proofs.Common.{◌≡◌, ℕ, true, List, [], ◌∷◌, ◌++◌, Option, Result, refl, sym, ◌∙◌, ap, subst, append-nil}
 use Rattle.cfg_world.specs.declared.asking.Asking.{Ghosts}
 use Rattle.cfg_world.specs.Fits.{Pair}
 use Rattle.cfg_world.specs.Follows.{Breaks}
@@ -48,20 +48,20 @@ module _ {W : Type 0} {w : Ghosts W} where
 
 -- the records with the one of a section
 pub history_more : {T E : Type 0} (t : Rules T E) (h : History T E) (key : TokenKey) (env : Variables) (settings : CallSettings) (receipts : List Pair) (made : Sectioned T E) →
-    IsHistory t h → Reads (section_on t key h env settings) receipts made → IsHistory t (with_section h receipts made)
-history_more t h key env settings receipts (Hit token) is r = subst (λ x. Machine t (token_in h.load) h.last x) (sym (append-nil h.records)) is
-history_more t h key env settings receipts (Load l) is r =
-    machine_more (token_in h.load) h.last h.records (record { receipts = receipts; outcome = l.outcome; noted = l.noted }) is (record { key = key; env = env; settings = settings; reads = r })
+    IsHistory t h → t.is_kind key ≡ true → Reads (section_on t key h env settings) receipts made → IsHistory t (with_section h receipts made)
+history_more t h key env settings receipts (Hit token) is k r = subst (λ x. Machine t (token_in h.load) h.last x) (sym (append-nil h.records)) is
+history_more t h key env settings receipts (Load l) is k r =
+    machine_more (token_in h.load) h.last h.records (record { receipts = receipts; outcome = l.outcome; noted = l.noted }) is (record { key = key; env = env; settings = settings; of_kind = k; reads = r })
 
 pub ruleset section_steps = (section_ended, breaks_here, breaks_ended)
 
 -- The same, from what the steps of a section say one by one.
 pub history_next : {T E : Type 0} (t : Rules T E) (h : History T E) (key : TokenKey) (env : Variables) (settings : CallSettings)
     {kept : Option T} {last : Option Moment} (receipts : List Pair) (made : Sectioned T E) (added records : List (Told T E)) →
-    IsHistory t h → kept ≡ kept_in h → last ≡ last_in h → Reads (section t key env settings kept last) receipts made →
+    IsHistory t h → t.is_kind key ≡ true → kept ≡ kept_in h → last ≡ last_in h → Reads (section t key env settings kept last) receipts made →
     added ≡ record_of receipts made → records ≡ h.records ++ added → Machine t (token_in h.load) h.last records
-history_next t h key env settings receipts made added records is kept last a add all =
-    subst (λ r. Machine t (token_in h.load) h.last r) (sym (all ∙ ap (λ x. h.records ++ x) add)) (history_more t h key env settings receipts made is (rw (kept, last) at a))
+history_next t h key env settings receipts made added records is k kept last a add all =
+    subst (λ r. Machine t (token_in h.load) h.last r) (sym (all ∙ ap (λ x. h.records ++ x) add)) (history_more t h key env settings receipts made is k (rw (kept, last) at a))
 
 -- The receipts of a section that held none before.
 pub all_receipts : {R : Type 0} {W : Type 0} {w : Ghosts W} {p : Inquiry R} {old new : W} {held receipts : List Pair} {out : R} → NotedEnds w p old held new receipts out → held ≡ [] → Reads p receipts out

@@ -1,5 +1,5 @@
 -- What the state of a token keeps, and that it is a history of loads.
-use Rattle.std.specs.Prelude.{◌≡◌, ℕ, List, [], ◌∷◌, ◌++◌, Option, Some, None, Result, Ok, Err, IsSome}
+use Rattle.std.specs.Prelude.{◌≡◌, ℕ, List, [], ◌∷◌, ◌++◌, Option, Some, None, Result, Ok, Err, IsSome, true}
 use Rattle.std.specs.List.{fold}
 use Rattle.cfg_values.specs.Moment.{Moment}
 use Rattle.cfg_world.specs.Fits.{Pair}
@@ -67,11 +67,12 @@ load_in h = load_by h.load h.last h.records
 abbrev pub trimmed : {T E : Type 0} → History T E → History T E
 trimmed h = record { load = load_in h; last = last_in h; records = [] }
 
--- The record is a whole load of some call, with this kept and this last attempt.
+-- The record is a whole load of some call for a key of this kind, with this kept and this last attempt.
 pub record IsLoad {T E : Type 0} (t : Rules T E) (kept : Option T) (last : Option Moment) (told : Told T E) : Type 0 where
   pub key : TokenKey
   pub env : Variables
   pub settings : CallSettings
+  pub of_kind : t.is_kind key ≡ true
   pub reads : Reads (section t key env settings kept last) told.receipts (Load (gives told.outcome told.noted))
 
 -- Each record is a load, from what the records before it leave.
