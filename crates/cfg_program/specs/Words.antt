@@ -1,19 +1,20 @@
 -- What the words after the program's name ask for.
 use Rattle.std.specs.Prelude.{ℕ, ◌+◌, ◌-◌, ◌*◌, nat_lt, List, [], ◌∷◌, Bool, false, not, ◌&&◌, ◌==◌, Option, Some, None, option_map, codes, bytes_eq, if◌then◌else◌}
 use Rattle.std.specs.Str.{all_ascii_digits}
+use Rattle.cfg_program.specs.Lines.{digit_zero}
 use Rattle.cfg_program.specs.declared.words.Word.{Word}
 use Rattle.cfg_program.specs.declared.words.Word.TheVariants.{Help, Version, Resolve, Generate}
 use Rattle.cfg_program.specs.declared.words.TheConstants.{MOST_PROFILES}
 
--- the number that decimal digits write behind those of n; the byte 48 is `0`
+-- the number that decimal digits write behind those of n
 abbrev pub number_after : ℕ → List ℕ → ℕ
 number_after n [] = n
-number_after n (d ∷ digits) = number_after (n * 10 + (d - 48)) digits
+number_after n (d ∷ digits) = number_after (n * 10 + (d - digit_zero)) digits
 
 -- one decimal digit or more, and nothing else, of which the first is not `0`
 abbrev pub is_numeral : List ℕ → Bool
 is_numeral [] = false
-is_numeral (d ∷ digits) = not (d == 48) && all_ascii_digits (d ∷ digits)
+is_numeral (d ∷ digits) = not (d == digit_zero) && all_ascii_digits (d ∷ digits)
 
 -- a number that is not too large
 abbrev pub up_to_most : ℕ → Option ℕ
