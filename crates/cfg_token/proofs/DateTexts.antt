@@ -1,6 +1,6 @@
 -- A moment's date has one text.
-use Rattle.std.proofs.Common.{◌≡◌, ℕ, zero, suc, ◌+◌, ◌-◌, ◌*◌, ◌/◌, ◌%◌, ◌<◌, ◌≤◌, ◌⊎◌, inl, inr, List, [], ◌∷◌, ◌++◌, length, Bool, true, false, not, cond, Option, Some, None, refl, sym, ap, subst, ◌∙◌, arith}
-use Rattle.std.specs.Prelude.{◌||◌, ℤ, pos, negsuc, ◌+ℤ◌, ◌*ℤ◌, ◌<ℤ◌, ◌≤ℤ◌, nat_le, int_lt, unsigned_abs}
+use Rattle.std.proofs.Common.{◌≡◌, ℕ, zero, suc, ◌+◌, ◌-◌, ◌*◌, ◌/◌, ◌%◌, ◌<◌, ◌≤◌, ◌⊎◌, inl, inr, List, [], ◌∷◌, ◌++◌, length, Bool, true, false, cond, Some, None, refl, sym, ap, subst, ◌∙◌, arith}
+use Rattle.std.specs.Prelude.{◌||◌, ℤ, pos, negsuc, ◌+ℤ◌, ◌*ℤ◌, nat_le, int_lt, unsigned_abs}
 use Rattle.std.specs.Char.{is_ascii_digit}
 use Rattle.std.proofs.lemmas.Bool.{cases_eq}
 use Rattle.std.proofs.lemmas.Bool.Decides.{nat_tests}
@@ -10,13 +10,13 @@ use Rattle.jiff_core.specs.Calendar.{days_from_civil, day_count, IsCivilDate}
 use Rattle.jiff_core.proofs.CalendarLemmas.{days_in_month_bounds, day_count-lt_year, day_count-lt_month, day_count-day, days_from_civil-day_count}
 use Rattle.jiff_core.proofs.SignedLemmas.{signed_arith}
 use Rattle.cfg_values.specs.Moment.{Moment}
-use Rattle.cfg_json.specs.Ascii.{digit_zero, full_stop, capital_t, capital_z}
+use Rattle.cfg_json.specs.Ascii.{digit_zero, capital_t, capital_z}
 use Rattle.cfg_json.specs.Numbers.{AllDigits, AreDigits}
 use Rattle.cfg_json.specs.declared.dates.local.LocalTime.{LocalTime}
-use Rattle.cfg_json.specs.Dates.{IsCommonDate, Exists, spelled, seconds_of, fraction_value, first_weight, IsSecondFraction, IsShortFraction, IsOutside, IsWrittenDate}
+use Rattle.cfg_json.specs.Dates.{IsCommonDate, Exists, spelled, seconds_of, fraction_value, IsSecondFraction, IsShortFraction, IsOutside, IsWrittenDate}
 use Rattle.cfg_json.specs.WritingDates.{date_text}
 use Rattle.cfg_json.proofs.DatesWritten.{written_is, inside}
-use Rattle.cfg_token.specs.DateTexts.{year_at, month_at, local_on, local_of_count, count_of, local_in, is_outside, date_of}
+use Rattle.cfg_token.specs.DateTexts.{year_at, month_at, local_on, count_of, local_in, is_outside, date_of}
 
 -- ---- the calendar
 

@@ -1,5 +1,5 @@
 -- A history with one load more.
-use Rattle.std.proofs.Common.{◌≡◌, ℕ, Bool, true, false, List, [], ◌∷◌, ◌++◌, Option, Some, None, Result, Ok, Err, append-nil, refl, ◌∙◌, ap}
+use Rattle.std.proofs.Common.{◌≡◌, Bool, true, false, List, [], ◌∷◌, ◌++◌, Option, Some, None, Result, Ok, Err, refl, ◌∙◌, ap}
 use Rattle.std.specs.Prelude.{cond}
 use Rattle.cfg_world.specs.Fits.{Pair}
 use Rattle.cfg_world.specs.Inquiry.{Inquiry, Done, after, Reads}
@@ -15,7 +15,7 @@ use Rattle.cfg_token.specs.Moments.{more}
 use Rattle.cfg_token.specs.Sections
 use Rattle.cfg_token.specs.Sections.{section, load, ok_of, noted_or}
 use Rattle.cfg_world.specs.Leaves.{clock, moment_of}
-use Rattle.cfg_token.specs.Histories.{Told, TokenLoad, History, trimmed, load_in, Machine, IsLoad, kept_by, noted_by, load_made, load_by, token_in, record_of, last_in}
+use Rattle.cfg_token.specs.Histories.{Told, TokenLoad, History, trimmed, load_in, Machine, IsLoad, kept_by, noted_by, load_made, load_by, token_in, last_in}
 
 pub machine_more : {T E : Type 0} {t : Rules T E} (kept : Option T) (last : Option Moment) (records : List (Told T E)) (r : Told T E) →
     Machine t kept last records → IsLoad t (kept_by kept records) (noted_by last records) r → Machine t kept last (records ++ r ∷ [])

@@ -1,5 +1,5 @@
 -- What every outcome of a load satisfies.
-use Rattle.std.proofs.Common.{◌≡◌, ℕ, ◌+◌, ◌≤◌, zero, suc, Bool, true, false, not, ◌&&◌, cond, List, [], ◌∷◌, ◌++◌, Option, Some, None, IfSome, Result, Ok, Err, slice_get, append-nil, refl, sym, ◌∙◌, ap, subst, arith}
+use Rattle.std.proofs.Common.{◌≡◌, ℕ, zero, suc, Bool, true, false, not, ◌&&◌, cond, List, [], ◌∷◌, ◌++◌, Option, Some, None, IfSome, Result, Ok, Err, slice_get, append-nil, refl, sym, ◌∙◌, ap, subst, arith}
 use Rattle.cfg_world.specs.declared.ask.Answer.{Answer}
 use Rattle.cfg_world.specs.declared.ask.Answer.TheVariants as answer
 use Rattle.cfg_world.specs.Fits.{Pair}
@@ -27,7 +27,7 @@ use Rattle.cfg_token.specs.Spacing.{second_reading, attempts, Spaced, NotedAtRea
 use Rattle.cfg_token.specs.Histories.{Told, IsLoad, Machine}
 use Rattle.cfg_token.specs.SectionCalls.{is_memory}
 use Rattle.std.specs.Option.{option_to_list, option_or}
-use Rattle.std.specs.Prelude.{ℤ, pos, negsuc, ◌+ℤ◌, ◌≤ℤ◌, int_lt}
+use Rattle.std.specs.Prelude.{ℤ, ◌+ℤ◌, ◌≤ℤ◌, int_lt}
 use Rattle.cfg_values.specs.Instant.{number, nanos_in}
 use Rattle.std.proofs.lemmas.Int.{ints}
 use Rattle.cfg_world.specs.declared.ask.Question.TheVariants as question

@@ -11,7 +11,6 @@ use Rattle.cfg_types.specs.Field.{field_name}
 use Rattle.cfg_types.specs.declared.document.Field.{Field}
 use Rattle.cfg_types.specs.declared.document.Field.TheVariants as field
 use Rattle.cfg_types.specs.declared.document.JsonError.{JsonError}
-use Rattle.cfg_types.specs.declared.document.JsonError.TheVariants as json
 use Rattle.cfg_json.specs.declared.member.Member.{Member}
 use Rattle.cfg_json.specs.declared.member.MemberValue.{MemberValue}
 use Rattle.cfg_json.specs.declared.member.MemberValue.TheVariants as value
@@ -19,7 +18,7 @@ use Rattle.cfg_json.specs.Writing.{braced}
 use Rattle.cfg_json.specs.WhiteSpace.{IsWhiteSpace}
 use Rattle.cfg_json.specs.WrittenObjects.{WrittenObject, Told, Tale, members_text, HasScalars, Nests, told_value, told_member, told}
 use Rattle.cfg_json.specs.Objects.{HasObject}
-use Rattle.cfg_json.specs.Lookups.{text_in, last_given}
+use Rattle.cfg_json.specs.Lookups.{text_in}
 use Rattle.cfg_json.specs.Dates.{IsWrittenDate}
 use Rattle.cfg_json.specs.Documents.{date_in}
 use Rattle.cfg_json.specs.Answers.{Answers, MemberList, OnlyWhiteSpaceFrom, only_list_answer}

@@ -1,5 +1,5 @@
 -- The file of a token of IAM Identity Center.
-use Rattle.std.specs.Prelude.{◌≡◌, ◌⊎◌, ℕ, List, Bool, Option, Some, None, Result, Ok, Err, codes, if◌then◌else◌}
+use Rattle.std.specs.Prelude.{◌≡◌, ◌⊎◌, ℕ, List, Bool, Option, Some, None, Result, Ok, Err, if◌then◌else◌}
 use Rattle.std.specs.Str.{encode_utf8_all, str_eq_ignore_ascii_case}
 use Rattle.cfg_values.specs.Gives.{Gives, IsSaid, ◌>>=◌}
 use Rattle.cfg_values.specs.Moment.{Moment}

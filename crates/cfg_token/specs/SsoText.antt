@@ -1,7 +1,7 @@
 -- The text that is written for a token of IAM Identity Center.
 use Rattle.std.specs.Prelude.{◌≡◌, ◌⊎◌, ℕ, List, [], true, Option, Some, None, option_map, Result, Ok, Err}
 use Rattle.std.specs.Str.{all_scalars}
-use Rattle.cfg_values.specs.Gives.{Gives, IsSaid}
+use Rattle.cfg_values.specs.Gives.{Gives}
 use Rattle.cfg_values.specs.Moment.{Moment}
 use Rattle.cfg_values.specs.Text.{characters}
 use Rattle.cfg_types.specs.Field.{field_name}

@@ -248,7 +248,10 @@ impl<T: FileToken> Loads<T> {
 }
 
 // The last attempt after these loads.
-pub(crate) fn last_noted<T: FileToken>(last: Option<Instant>, records: &[Record<T>]) -> Option<Instant>
+pub(crate) fn last_noted<T: FileToken>(
+    last: Option<Instant>,
+    records: &[Record<T>],
+) -> Option<Instant>
     ensures { result ≡ noted_by last records.now }
 {
     records
@@ -326,7 +329,10 @@ pub(crate) fn put_in_place<T: FileToken>(records: &mut Vec<Record<T>>, finished:
 }
 
 // The load of a record that has a token.
-pub(crate) fn token_load<T: FileToken>(loaded_by: Record<T>, before: Option<Instant>) -> Option<Load<T>>
+pub(crate) fn token_load<T: FileToken>(
+    loaded_by: Record<T>,
+    before: Option<Instant>,
+) -> Option<Load<T>>
     requires { IsLoad T.rules None before loaded_by }
     ensures { result ≡ load_made before loaded_by loaded_by.outcome }
 {

@@ -12,10 +12,7 @@ use std::alloc::Global;
 
 /// A reading of the clock.
 #[tactic(auto, unfolding(cfg_world::specs::Leaves::clock))]
-pub fn read_clock<A: Asking>(
-    asking: &mut A,
-    receipts: &mut Vec<Receipt>,
-) -> Result<Instant, Stop>
+pub fn read_clock<A: Asking>(asking: &mut A, receipts: &mut Vec<Receipt>) -> Result<Instant, Stop>
     ensures { Notes ⟦<A as Asking>⟧ clock asking.old receipts.old.items asking.new receipts.new.items result }
 {
     let receipt = asking.put(Question::Now)?;

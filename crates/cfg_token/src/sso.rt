@@ -72,12 +72,10 @@ impl FileToken for CachedSsoToken {
 
     fn read_error(alloc: Global, path: &Text) -> Result<SsoTokenProviderError, OutOfMemory> {
         let path = path.copy(alloc)?;
-        Ok(SsoTokenProviderError::FailedToLoadToken(
-            CachedSsoTokenError::IoError {
-                what: IoStep::Read,
-                path,
-            },
-        ))
+        Ok(SsoTokenProviderError::FailedToLoadToken(CachedSsoTokenError::IoError {
+            what: IoStep::Read,
+            path,
+        }))
     }
 
     fn expired_error() -> SsoTokenProviderError {
@@ -209,7 +207,9 @@ fn renewed(
     ensures { IfOk result (λ t. t ≡ renewed_token key.now token.now reply.now access.now expires_at) }
 {
     let TokenKey::Sso {
-        region, start_url, ..
+        region,
+        start_url,
+        ..
     } = key
     else {
         unreachable!()
