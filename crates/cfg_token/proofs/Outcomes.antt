@@ -18,16 +18,16 @@ use Rattle.cfg_token.specs.declared.steps.Loaded.{Loaded}
 use Rattle.cfg_token.specs.declared.sections.Sectioned.{Sectioned}
 use Rattle.cfg_token.specs.declared.sections.Sectioned.TheVariants.{Hit, Load}
 use Rattle.cfg_token.specs.Rules.{Rules, Tells}
-use Rattle.cfg_token.specs.Moments.{more, has_passed}
+use Rattle.cfg_token.specs.Moments.{is_before, more, has_passed}
 use Rattle.cfg_token.specs.Decisions.{is_expired, is_soon, decision}
 use Rattle.cfg_token.specs.Sections
 use Rattle.cfg_token.specs.Sections.{ok_of}
 use Rattle.cfg_world.specs.Leaves.{clock, moment_of}
-use Rattle.cfg_token.specs.Spacing.{second_reading, attempts, Spaced, NotedAtReading}
+use Rattle.cfg_token.specs.Spacing.{EndsAfterReading, second_reading, attempts, Spaced, NotedAtReading}
 use Rattle.cfg_token.specs.Histories.{Told, IsLoad, Machine}
 use Rattle.cfg_token.specs.SectionCalls.{is_memory}
 use Rattle.std.specs.Option.{option_to_list, option_or}
-use Rattle.std.specs.Prelude.{ℤ, ◌+ℤ◌, ◌≤ℤ◌, int_lt}
+use Rattle.std.specs.Prelude.{ℤ, ◌+ℤ◌, ◌≤ℤ◌, int_lt, IfOk}
 use Rattle.cfg_values.specs.Instant.{number, nanos_in}
 use Rattle.std.proofs.lemmas.Int.{ints}
 use Rattle.cfg_world.specs.declared.ask.Question.TheVariants as question
@@ -54,33 +54,34 @@ abbrev pub NoMemory : {T E : Type 0} → Rules T E → Result T E → Type 0
 NoMemory t (Ok token) = Unit {0}
 NoMemory t (Err e) = t.is_memory e ≡ false
 
--- a load that notes at most this reading
+-- a load that notes at most this reading, and whose token ends after it
 pub record Sound {T E : Type 0} (t : Rules T E) (now : Moment) (l : Loaded T E) : Type 0 where
   pub noted : IfSome l.noted (λ n. now ≡ n)
   pub tells : NoMemory t l.outcome
+  pub lasts : IfOk l.outcome (λ token. is_before now (t.expiry token) ≡ true)
 
 module _ {T E : Type 0} (t : Rules T E) (tells : Tells t) where
-  unsaved_sound : (fault : Unsaved) (now : Moment) (token : T) (e : Option E) → t.unsaved fault ≡ e → Sound t now (Sections.or_unsaved t now token e)
-  unsaved_sound fault now token None is = record { noted = refl; tells = tt }
-  unsaved_sound fault now token (Some e) is = record { noted = tt; tells = tells.unsaved fault e is }
+  unsaved_sound : (fault : Unsaved) (now : Moment) (token : T) (e : Option E) → is_before now (t.expiry token) ≡ true → t.unsaved fault ≡ e → Sound t now (Sections.or_unsaved t now token e)
+  unsaved_sound fault now token None later is = record { noted = refl; tells = tt; lasts = later }
+  unsaved_sound fault now token (Some e) later is = record { noted = tt; tells = tells.unsaved fault e is; lasts = tt }
 
-  written_sound : (path : List ℕ) (now : Moment) (token : T) (a : Answer) → Sound t now (Sections.written t path now token a)
-  written_sound path now token answer.Written = record { noted = refl; tells = tt }
-  written_sound path now token (answer.Moment m) = unsaved_sound (NotWritten path) now token _ refl
-  written_sound path now token (answer.Jitter n) = unsaved_sound (NotWritten path) now token _ refl
-  written_sound path now token (answer.Contents bytes) = unsaved_sound (NotWritten path) now token _ refl
-  written_sound path now token (answer.Finished finished) = unsaved_sound (NotWritten path) now token _ refl
-  written_sound path now token (answer.Addresses addresses) = unsaved_sound (NotWritten path) now token _ refl
-  written_sound path now token (answer.Replied reply) = unsaved_sound (NotWritten path) now token _ refl
-  written_sound path now token (answer.Failed kind) = unsaved_sound (NotWritten path) now token _ refl
+  written_sound : (path : List ℕ) (now : Moment) (token : T) (a : Answer) → is_before now (t.expiry token) ≡ true → Sound t now (Sections.written t path now token a)
+  written_sound path now token answer.Written later = record { noted = refl; tells = tt; lasts = later }
+  written_sound path now token (answer.Moment m) later = unsaved_sound (NotWritten path) now token _ later refl
+  written_sound path now token (answer.Jitter n) later = unsaved_sound (NotWritten path) now token _ later refl
+  written_sound path now token (answer.Contents bytes) later = unsaved_sound (NotWritten path) now token _ later refl
+  written_sound path now token (answer.Finished finished) later = unsaved_sound (NotWritten path) now token _ later refl
+  written_sound path now token (answer.Addresses addresses) later = unsaved_sound (NotWritten path) now token _ later refl
+  written_sound path now token (answer.Replied reply) later = unsaved_sound (NotWritten path) now token _ later refl
+  written_sound path now token (answer.Failed kind) later = unsaved_sound (NotWritten path) now token _ later refl
 
-  saves_sound : (path : List ℕ) (now : Moment) (token : T) → Gives (Sections.saves t path now token) (λ J l. Sound t now l)
+  saves_sound : (path : List ℕ) (now : Moment) (token : T) → is_before now (t.expiry token) ≡ true → Gives (Sections.saves t path now token) (λ J l. Sound t now l)
   unfolding Sections.saves
-  saves_sound path now token = by_text (t.text token)
+  saves_sound path now token later = by_text (t.text token)
     where
       by_text : (text : Option (List ℕ)) → Gives (Sections.saves_text t path now token text) (λ J l. Sound t now l)
-      by_text None = unsaved_sound NoText now token _ refl
-      by_text (Some text) = λ a. written_sound path now token a
+      by_text None = unsaved_sound NoText now token _ later refl
+      by_text (Some text) = λ a. written_sound path now token a later
 
   lasting_tells : (file : T) (now : Moment) → NoMemory t (Sections.while_it_lasts t file now)
   lasting_tells file now = either_way (is_expired t file now)
@@ -89,10 +90,17 @@ module _ {T E : Type 0} (t : Rules T E) (tells : Tells t) where
       either_way true = tells.expired
       either_way false = tt
 
+  lasting_lasts : (file : T) (now : Moment) → IfOk (Sections.while_it_lasts t file now) (λ token. is_before now (t.expiry token) ≡ true)
+  lasting_lasts file now = either_way (is_before now (t.expiry file)) refl
+    where
+      either_way : (b : Bool) → is_before now (t.expiry file) ≡ b → IfOk (cond (not b) (Err t.expired) (Ok file)) (λ token. is_before now (t.expiry token) ≡ true)
+      either_way true e = e
+      either_way false e = tt
+
   renews_sound : (key : TokenKey) (path : List ℕ) (file : T) (now : Moment) (a : Answer) (r : Renewal T E) → t.renewal key file now a ≡ r → Gives (Sections.renews t path file now r) (λ J l. Sound t now l)
-  renews_sound key path file now a (Granted token) is = saves_sound path now token
-  renews_sound key path file now a Passed is = record { noted = refl; tells = lasting_tells file now }
-  renews_sound key path file now a (Refused e noted) is = record { noted = either_way noted; tells = tells.renewal key file now a e noted is }
+  renews_sound key path file now a (Granted token) is = saves_sound path now token (tells.granted key file now a token is)
+  renews_sound key path file now a Passed is = record { noted = refl; tells = lasting_tells file now; lasts = lasting_lasts file now }
+  renews_sound key path file now a (Refused e noted) is = record { noted = either_way noted; tells = tells.renewal key file now a e noted is; lasts = tt }
     where
       either_way : (b : Bool) → IfSome (cond b (Some now) None) (λ n. now ≡ n)
       either_way true = refl
@@ -115,20 +123,43 @@ refreshed false true true false h = cc
 refreshed false true false false h = cc
 refreshed false false can false h = cc
 
+-- What is used has not expired.
+used : (expired soon can : Bool) → (expired ≡ true → soon ≡ true) → cond (expired && not can) Refuse (cond (soon && can) Refresh Use) ≡ Use → expired ≡ false
+used false soon can s h = refl
+used true soon false s h = cc
+used true true true s h = cc
+used true false true s h = absurd (no (s refl))
+  where
+    no : false ≡ true → ⊥
+    no e = cc
+
+soon_too : (now end : ℤ) → not (int_lt now end) ≡ true → not (int_lt (now +ℤ nanos_in 300) end) ≡ true
+soon_too now end h = by (int_lt now end) (int_lt (now +ℤ nanos_in 300) end) refl refl h
+  where
+    by : (a b : Bool) → int_lt now end ≡ a → int_lt (now +ℤ nanos_in 300) end ≡ b → not a ≡ true → not b ≡ true
+    by true b e f k = cc
+    by false true e f k = absurd (omega (arith, ints, e, f))
+    by false false e f k = refl
+
+not_not : (b : Bool) → not b ≡ false → b ≡ true
+not_not true h = refl
+not_not false h = cc
+
 -- a load that notes its second reading, and only where the last attempt is long enough ago
 pub record Fair {T E : Type 0} (t : Rules T E) (last : Option Moment) (part : List Pair) (l : Loaded T E) : Type 0 where
   pub tells : NoMemory t l.outcome
   pub passed : IfSome l.noted (λ now. has_passed last now ≡ true)
   pub reading : (first : Pair) → IfSome l.noted (λ now. second_reading (first ∷ part) ≡ now)
+  pub lasts : (first : Pair) → IfOk l.outcome (λ token. is_before (second_reading (first ∷ part)) (t.expiry token) ≡ true)
 
 module _ {T E : Type 0} (t : Rules T E) (tells : Tells t) where
   fair_error : (last : Option Moment) (part : List Pair) (e : E) → t.is_memory e ≡ false → Fair t last part (Sections.gives (Err e) None)
-  fair_error last part e h = record { tells = h; passed = tt; reading = λ first. tt }
+  fair_error last part e h = record { tells = h; passed = tt; reading = λ first. tt; lasts = λ first. tt }
 
   -- a refresh at this reading
   fair_refresh : (last : Option Moment) (file : Pair) (second : Pair) (rest : List Pair) (l : Loaded T E) → has_passed last (moment_of second.1) ≡ true →
       Sound t (moment_of second.1) l → Fair t last (file ∷ second ∷ rest) l
-  fair_refresh last file second rest l h s = record { tells = s.tells; passed = noted_passed l.noted s.noted; reading = λ first. s.noted }
+  fair_refresh last file second rest l h s = record { tells = s.tells; passed = noted_passed l.noted s.noted; reading = λ first. s.noted; lasts = λ first. s.lasts }
     where
       noted_passed : (o : Option Moment) → IfSome o (λ n. moment_of second.1 ≡ n) → IfSome o (λ now. has_passed last now ≡ true)
       noted_passed None k = tt
@@ -138,7 +169,10 @@ module _ {T E : Type 0} (t : Rules T E) (tells : Tells t) where
       decision t file last (moment_of second.1) ≡ d →
       Gives (Sections.decides t key settings path file (moment_of second.1) d) (λ J l. Fair t last (read ∷ second ∷ J) l)
   decides_fair key settings last path file read second Refuse is = fair_error last (read ∷ second ∷ []) t.expired tells.expired
-  decides_fair key settings last path file read second Use is = record { tells = tt; passed = tt; reading = λ first. tt }
+  decides_fair key settings last path file read second Use is =
+      let now = moment_of second.1 in
+      let fresh : is_expired t file now ≡ false = used (is_expired t file now) (is_soon t file now) (t.refreshable file now && has_passed last now) (λ e. soon_too (number now) (number (t.expiry file)) e) is in
+      record { tells = tt; passed = tt; reading = λ first. tt; lasts = λ first. not_not (is_before now (t.expiry file)) fresh }
   decides_fair key settings last path file read second Refresh is =
       let now = moment_of second.1 in
       let h = refreshed (is_expired t file now) (is_soon t file now) (t.refreshable file now) (has_passed last now) is in
@@ -216,6 +250,10 @@ chain_spaced last (n ∷ ns) h zero (suc j) a b lt x y = some_first x (chain_aft
     some_first e k = let same : n ≡ a = cc in subst (λ z. (number z +ℤ nanos_in 30) ≤ℤ number b) same k
 chain_spaced last (n ∷ ns) h (suc i) (suc j) a b lt x y = chain_spaced (Some n) ns h.1 i j a b (omega (arith, lt)) x y
 
+all_spaced : (last : Option Moment) (ns : List Moment) → Chain last ns → Spaced (option_to_list last ++ ns)
+all_spaced None ns h = chain_spaced None ns h
+all_spaced (Some l) ns h = chain_spaced None (l ∷ ns) (refl, h)
+
 -- the same of a section that made a load
 abbrev pub FairSection : {T E : Type 0} → Rules T E → Option Moment → List Pair → Sectioned T E → Type 0
 FairSection t last [] s = ⊥
@@ -251,12 +289,16 @@ module _ {T E : Type 0} (t : Rules T E) (tells : Tells t) where
   record_reading last [] l h = absurd h
   record_reading last (e ∷ receipts) l h = h.reading e
 
+  record_lasts : (last : Option Moment) (receipts : List Pair) (l : Loaded T E) → FairSection t last receipts (Load l) → IfOk l.outcome (λ token. is_before (second_reading receipts) (t.expiry token) ≡ true)
+  record_lasts last [] l h = absurd h
+  record_lasts last (e ∷ receipts) l h = h.lasts e
+
   chain_of : (kept : Option T) (last : Option Moment) (records : List (Told T E)) → Machine t kept last records → Chain last (attempts records)
   chain_of kept last [] m = tt
   chain_of kept last (r ∷ records) m = chain_note last r.noted (attempts records) (record_passed last r.receipts _ (record_fair kept last r m.0)) (chain_of (ok_of r.outcome) (option_or r.noted last) records m.1)
 
-  pub spaced : (kept : Option T) (last : Option Moment) (records : List (Told T E)) → Machine t kept last records → Spaced (attempts records)
-  spaced kept last records m = chain_spaced last (attempts records) (chain_of kept last records m)
+  pub spaced : (kept : Option T) (last : Option Moment) (records : List (Told T E)) → Machine t kept last records → Spaced (option_to_list last ++ attempts records)
+  spaced kept last records m = all_spaced last (attempts records) (chain_of kept last records m)
 
   pub noted_at_reading : (kept : Option T) (last : Option Moment) (records : List (Told T E)) → Machine t kept last records → (i : ℕ) (r : Told T E) → slice_get records i ≡ Some r → NotedAtReading r
   noted_at_reading kept last [] m i r at = cc
@@ -265,6 +307,14 @@ module _ {T E : Type 0} (t : Rules T E) (tells : Tells t) where
       first_is : Some x ≡ Some r → x ≡ r
       first_is e = cc
   noted_at_reading kept last (x ∷ records) m (suc i) r at = noted_at_reading (ok_of x.outcome) (option_or x.noted last) records m.1 i r at
+
+  pub ends_after_reading : (kept : Option T) (last : Option Moment) (records : List (Told T E)) → Machine t kept last records → (i : ℕ) (r : Told T E) → slice_get records i ≡ Some r → EndsAfterReading t r
+  ends_after_reading kept last [] m i r at = cc
+  ends_after_reading kept last (x ∷ records) m zero r at = subst (λ (x : Told T E). EndsAfterReading t x) (first_is at) (record_lasts last x.receipts _ (record_fair kept last x m.0))
+    where
+      first_is : Some x ≡ Some r → x ≡ r
+      first_is e = cc
+  ends_after_reading kept last (x ∷ records) m (suc i) r at = ends_after_reading (ok_of x.outcome) (option_or x.noted last) records m.1 i r at
 
 -- no section answers want of memory by its rules
 pub section_tells : {T E : Type 0} (t : Rules T E) → Tells t → (key : TokenKey) (env : Variables) (settings : CallSettings) (kept : Option T) (last : Option Moment) (J : List Pair) (s : Sectioned T E) →

@@ -1,5 +1,5 @@
 -- What the kinds of token files differ in.
-use Rattle.std.specs.Prelude.{◌≡◌, ℕ, List, Bool, false, Option, Some, Result, Err}
+use Rattle.std.specs.Prelude.{◌≡◌, ℕ, List, Bool, true, false, Option, Some, Result, Err}
 use Rattle.cfg_values.specs.Moment.{Moment}
 use Rattle.cfg_types.specs.Environment.{Variables}
 use Rattle.cfg_types.specs.declared.settings.CallSettings.{CallSettings}
@@ -7,8 +7,9 @@ use Rattle.cfg_types.specs.declared.request.Request.{Request}
 use Rattle.cfg_world.specs.declared.ask.Answer.{Answer}
 use Rattle.cfg_token.specs.declared.token_key.TokenKey.{TokenKey}
 use Rattle.cfg_token.specs.declared.file_token.Renewal.{Renewal}
-use Rattle.cfg_token.specs.declared.file_token.Renewal.TheVariants.{Refused}
+use Rattle.cfg_token.specs.declared.file_token.Renewal.TheVariants.{Granted, Refused}
 use Rattle.cfg_token.specs.declared.file_token.Unsaved.{Unsaved}
+use Rattle.cfg_token.specs.Moments.{is_before}
 
 pub record Rules (T E : Type 0) : Type 0 where
   -- when a token ends, and whether it may be refreshed at a reading of the clock
@@ -30,11 +31,12 @@ pub record Rules (T E : Type 0) : Type 0 where
   -- the error that stands for want of memory
   pub is_memory : E → Bool
 
--- No rule gives want of memory.
+-- No rule gives want of memory, and a new token ends after the reading at which it was asked for.
 pub record Tells {T E : Type 0} (rules : Rules T E) : Type 0 where
   pub path : (key : TokenKey) (env : Variables) (e : E) → rules.path key env ≡ Err e → rules.is_memory e ≡ false
   pub reading : (bytes : List ℕ) (e : E) → rules.reading bytes ≡ Err e → rules.is_memory e ≡ false
   pub unread : (path : List ℕ) → rules.is_memory (rules.unread path) ≡ false
   pub expired : rules.is_memory rules.expired ≡ false
   pub renewal : (key : TokenKey) (token : T) (now : Moment) (a : Answer) (e : E) (noted : Bool) → rules.renewal key token now a ≡ Refused e noted → rules.is_memory e ≡ false
+  pub granted : (key : TokenKey) (token : T) (now : Moment) (a : Answer) (new : T) → rules.renewal key token now a ≡ Granted new → is_before now (rules.expiry new) ≡ true
   pub unsaved : (fault : Unsaved) (e : E) → rules.unsaved fault ≡ Some e → rules.is_memory e ≡ false

@@ -1,11 +1,13 @@
 -- The attempts that the records of a state note.
-use Rattle.std.specs.Prelude.{◌≡◌, ℕ, ◌<◌, ◌+ℤ◌, ◌≤ℤ◌, List, [], ◌∷◌, ◌++◌, Some, IfSome, slice_get, pos}
+use Rattle.std.specs.Prelude.{◌≡◌, ℕ, ◌<◌, ◌+ℤ◌, ◌≤ℤ◌, List, [], ◌∷◌, ◌++◌, Some, IfSome, IfOk, true, slice_get, pos}
 use Rattle.std.specs.Option.{option_to_list}
 use Rattle.cfg_values.specs.Moment.{Moment}
 use Rattle.cfg_values.specs.Instant.{number, nanos_in}
 use Rattle.cfg_world.specs.Fits.{Pair}
 use Rattle.cfg_world.specs.Leaves.{moment_of}
-use Rattle.cfg_token.specs.Histories.{Told}
+use Rattle.cfg_token.specs.Rules.{Rules}
+use Rattle.cfg_token.specs.Moments.{is_before}
+use Rattle.cfg_token.specs.Histories.{Told, History}
 
 -- the second reading of a load, which stands behind the first one and the file
 abbrev pub second_reading : List Pair → Moment
@@ -19,9 +21,17 @@ abbrev pub attempts : {T E : Type 0} → List (Told T E) → List Moment
 attempts [] = []
 attempts (r ∷ records) = option_to_list r.noted ++ attempts records
 
+-- the attempts that a state knows of: the last one before its records, and those that they note
+abbrev pub attempts_in : {T E : Type 0} → History T E → List Moment
+attempts_in h = option_to_list h.last ++ attempts h.records
+
 -- a noted attempt is at its load's second reading
 abbrev pub NotedAtReading : {T E : Type 0} → Told T E → Type 0
 NotedAtReading r = IfSome r.noted (λ now. second_reading r.receipts ≡ now)
+
+-- a token that the load gave ends after that reading
+abbrev pub EndsAfterReading : {T E : Type 0} → Rules T E → Told T E → Type 0
+EndsAfterReading t r = IfOk r.outcome (λ token. is_before (second_reading r.receipts) (t.expiry token) ≡ true)
 
 -- of two attempts the later one is at least 30 seconds after the earlier one
 abbrev pub Spaced : List Moment → Type 0
