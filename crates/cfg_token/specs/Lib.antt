@@ -12,3 +12,4 @@ pub mod Histories
 pub mod Spacing
 pub mod SectionCalls
 pub mod SsoTokens
+pub mod SsoTells

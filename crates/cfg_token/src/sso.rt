@@ -19,7 +19,8 @@ use cfg_world::Answer;
 use std::alloc::Global;
 
 impl FileToken for CachedSsoToken {
-    ghost use Rattle.cfg_token.specs.SsoTokens.{sso_rules, sso_tells};
+    ghost use Rattle.cfg_token.specs.SsoTokens.{sso_rules};
+    ghost use Rattle.cfg_token.specs.SsoTells.{sso_tells};
 
     type Error = SsoTokenProviderError;
 
