@@ -4,3 +4,7 @@ pub mod Numerals
 pub mod Utf8
 pub mod Said
 pub mod Bodies
+pub mod Hosts
+pub mod SafeTargets
+pub mod Checks
+pub mod Naming
