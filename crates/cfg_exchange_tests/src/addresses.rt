@@ -174,12 +174,7 @@ fn full_words(
     Ok(format!(in alloc; "{words}{asked}")?)
 }
 
-fn full_words_by(
-    alloc: Global,
-    script: &str,
-    uri: &str,
-    dns: bool,
-) -> Result<String, OutOfMemory> {
+fn full_words_by(alloc: Global, script: &str, uri: &str, dns: bool) -> Result<String, OutOfMemory> {
     match read_script(alloc, script.as_bytes()) {
         Ok(script) => {
             let Script {
@@ -208,7 +203,10 @@ fn full_addresses_without_a_look_up(rt: HostRuntime) -> Result<(), Fail> {
         ("http://[::1]:80/c", "http://[::1]:80 /c"),
         ("http://[127.0.0.1]/c", "http://[127.0.0.1] /c"),
         ("http://169.254.170.2/c", "http://169.254.170.2 /c"),
-        ("http://169.254.170.23/v1/credentials", "http://169.254.170.23 /v1/credentials"),
+        (
+            "http://169.254.170.23/v1/credentials",
+            "http://169.254.170.23 /v1/credentials",
+        ),
         ("http://[fd00:ec2::23]/v1", "http://[fd00:ec2::23] /v1"),
         ("HTTP://127.0.0.1/c", "http://127.0.0.1 /c"),
         ("ftp://127.0.0.1/c", "ftp://127.0.0.1 /c"),
