@@ -8,3 +8,5 @@ pub mod Hosts
 pub mod SafeTargets
 pub mod Checks
 pub mod Naming
+pub mod Causes
+pub mod ContainerSteps

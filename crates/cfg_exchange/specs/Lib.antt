@@ -9,3 +9,5 @@ pub mod FullUris
 pub mod Targets
 pub mod AllowedTargets
 pub mod Validates
+pub mod Containers
+pub mod ContainerCauses
