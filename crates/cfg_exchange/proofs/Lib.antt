@@ -4,3 +4,9 @@ pub mod Numerals
 pub mod Utf8
 pub mod Said
 pub mod Bodies
+pub mod Hosts
+pub mod SafeTargets
+pub mod Checks
+pub mod Naming
+pub mod Causes
+pub mod ContainerSteps

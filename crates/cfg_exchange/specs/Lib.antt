@@ -5,3 +5,9 @@ pub mod Addresses
 pub mod Readings
 pub mod Classifiers
 pub mod Attempts
+pub mod FullUris
+pub mod Targets
+pub mod AllowedTargets
+pub mod Validates
+pub mod Containers
+pub mod ContainerCauses

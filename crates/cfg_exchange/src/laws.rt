@@ -1,5 +1,8 @@
 //! Laws, each on a call that carries it.
-ghost use Rattle.std.specs.Prelude.{◌≡◌, ◌≢◌, ◌↔◌, ℕ, ◌+◌, Bool, List, Err};
+ghost use Rattle.std.specs.Prelude.{◌≡◌, ◌≢◌, ◌↔◌, ℕ, ◌+◌, Bool, List, Result, Ok, Err};
+ghost use Rattle.cfg_types.specs.Keys.{Keys};
+ghost use Rattle.cfg_types.specs.Environment.{Variables};
+ghost use Rattle.cfg_types.specs.declared.errors.CredentialsError.{CredentialsError as Refusal};
 ghost use Rattle.cfg_types.specs.declared.document.InvalidJsonCredentials.TheVariants as invalid;
 ghost use Rattle.cfg_json.specs.declared.credentials.JsonCredentials.{JsonCredentials};
 ghost use Rattle.cfg_json.specs.Documents.{Read, AnswersDocument, IsTable};
@@ -9,6 +12,15 @@ ghost use Rattle.cfg_world.specs.Fits.{Pair};
 ghost use Rattle.cfg_world.specs.Inquiry.{Reads};
 ghost use Rattle.cfg_exchange.specs.Documents.{document};
 ghost use Rattle.cfg_exchange.specs.Attempts.{attempts, Attempts};
+ghost use Rattle.cfg_exchange.specs.declared.target.Target.{Target as TargetGiven};
+ghost use Rattle.cfg_exchange.specs.declared.full_uri.FullUri.{FullUri as Named};
+ghost use Rattle.cfg_exchange.specs.FullUris.{IsFullUri};
+ghost use Rattle.cfg_exchange.specs.Targets.{full_target};
+ghost use Rattle.cfg_exchange.specs.AllowedTargets.{IsAllowedTarget};
+ghost use Rattle.cfg_exchange.specs.declared.container.ContainerSettings.{ContainerSettings as Settings};
+ghost use Rattle.cfg_exchange.specs.declared.container.ContainerUri.{ContainerUri as Place};
+ghost use Rattle.cfg_exchange.specs.Containers.{container};
+ghost use Rattle.cfg_exchange.specs.ContainerCauses.{error_of, why_container};
 
 /// The journal of an exchange is attempts of its request, and the other way round: at least one and at
 /// most the limit, all of the same question. All but the last are repeated; the last is not, or the
@@ -24,4 +36,18 @@ pub fn a_document_says_one_thing()
     ensures said { (text : List ℕ) → AnswersDocument IsTable text (document text) }
     ensures only { (text : List ℕ) (answer : Read JsonCredentials) →
         AnswersDocument IsTable text answer → answer ≢ Err invalid.OutOfMemory → answer ≡ document text }
+{}
+
+/// A target that the check of a full address gives is HTTPS, or its host is an allowed address, or a
+/// name whose addresses in this part are all allowed.
+pub fn a_target_is_allowed()
+    ensures { (text : List ℕ) (dns : Bool) (named : Named) (part : List Pair) (target : TargetGiven) →
+        IsFullUri text named → Reads (full_target dns named) part (Ok target) → IsAllowedTarget text part target }
+{}
+
+/// A container's answer has its cause in the variables and in the part, and it gives credentials
+/// exactly where there is none: the token, else the address, else the last answer.
+pub fn a_container_has_its_cause()
+    ensures { (env : Variables) (settings : Settings) (place : Place) (part : List Pair) (out : Result Keys Refusal) →
+        Reads (container env settings place) part out → error_of out ≡ why_container env settings place part }
 {}

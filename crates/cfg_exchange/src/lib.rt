@@ -1,19 +1,29 @@
-//! How the resolver fetches over HTTP: attempts and which of them are repeated, and which addresses
-//! may be asked for a container's credentials. It stands on cfg_world and cfg_json. The layers above may
-//! use that an exchange is attempts of one request, of which each but the last is repeated.
+//! How the resolver fetches over HTTP: attempts and which of them are repeated, where a container's
+//! credentials may be asked for, and how they are asked for. It stands on cfg_world and cfg_json. The
+//! layers above may use that an exchange is attempts of one request, of which each but the last is
+//! repeated, that the target of a full address is HTTPS, or an allowed address, or a name that has
+//! allowed addresses alone, and that a container's answer has its cause in its variables and its part.
 #![tactic(auto)]
 
 mod addresses;
 pub mod attempts;
 pub mod classify;
+mod container;
 mod documents;
+mod full_uri;
 mod header_value;
 pub mod laws;
 mod lifetime;
 pub mod reading;
+mod target;
 
 pub use addresses::is_full_uri_ip_allowed;
 pub use attempts::exchange;
 pub use classify::{ClassifyRetry, HttpCredentialRetryClassifier, ImdsResponseRetryClassifier};
+pub use container::{
+    ContainerSettings, ContainerUri, container_credentials, container_uri, follow_container,
+};
+pub use full_uri::{FullUri, read_full_uri, validate_full_uri};
 pub use header_value::is_header_value;
 pub use reading::{Reading, ReplyKind};
+pub use target::{Target, relative_target};

@@ -1,0 +1,414 @@
+//! Credentials of a container, as the agents of Amazon ECS and EKS give them.
+ghost use Rattle.std.specs.Prelude.{◌≡◌, IfOk, option_map};
+ghost use Rattle.std.specs.Str.{encode_utf8_all};
+ghost use Rattle.cfg_values.specs.Text.{characters};
+ghost use Rattle.cfg_world.specs.Follows.{Follows};
+ghost use Rattle.cfg_exchange.specs.declared.container.ContainerUri.TheVariants as uri_of;
+ghost use Rattle.cfg_exchange.specs.FullUris.{IsRelativeUri, IsFullUri};
+ghost use Rattle.cfg_exchange.specs.Containers.{readable as readable_of, checked_token as checked_token_of, token_of_file as token_of_file_of, token_of_bytes as token_of_bytes_of, auth_token as auth_token_of, relative_uri as relative_uri_of, IsContainerUri, or_full_uri as or_full_uri_of, container_target, said_keys as said_keys_of, reply_keys as reply_keys_of, answer_keys as answer_keys_of, credentials_request, credentials_attempts, attempt_limit as attempt_limit_of, fetched_keys, container as container_of, FollowsContainer};
+
+use crate::attempts::exchange;
+use crate::classify::HttpCredentialRetryClassifier;
+use crate::documents::body_document;
+use crate::full_uri::{FullUri, read_full_uri};
+use crate::header_value::is_header_value;
+use crate::reading::{ReplyKind, is_success};
+use crate::target::{Target, relative_target};
+use cfg_json::JsonCredentials;
+use cfg_types::{
+    AccountId, AwsCredentialFeature, Bytes, ConfigCause, Credentials, CredentialsBuilder,
+    CredentialsError, Env, FailKind, Http, HttpReply, InvalidFullUriError, NotLoadedCause,
+    OutOfMemory, ProviderCause, Reply, Request, Seq, Text, Timeouts, UnhandledCause,
+};
+use cfg_world::{Answer, Asking, Receipt, Stop, read_file};
+use std::alloc::Global;
+
+/// How a container's credentials are asked for.
+#[derive(Clone, Copy, Debug, PartialEq, Eq)]
+pub struct ContainerSettings {
+    /// Whether names of hosts can be looked up.
+    pub dns: bool,
+    /// Whether it is known how to wait between two attempts. Without it there is one attempt.
+    pub sleep: bool,
+    /// The limit of time to connect, in milliseconds.
+    pub connect_ms: u64,
+    /// The limit of time to read, in milliseconds.
+    pub read_ms: u64,
+}
+
+/// Where the variables say that a container's credentials are.
+pub enum ContainerUri {
+    /// They do not say it.
+    NotSet,
+    /// At this target of the agent of Amazon ECS.
+    Relative(Target),
+    /// At this relative address, which is no URI.
+    NoRelative(Text),
+    /// At this full address.
+    Full { uri: Text, named: FullUri },
+}
+
+impl Drop for ContainerUri {
+    fn drop(self) {
+        match self {
+            ContainerUri::NotSet => {}
+            ContainerUri::Relative(_) => {}
+            ContainerUri::NoRelative(_) => {}
+            ContainerUri::Full { uri: _, named: _ } => {}
+        }
+    }
+}
+
+// The text of a variable, where it can be read.
+fn readable<'a>(env: &'a Env, name: &str) -> Option<&'a str>
+    ensures chars { option_map (λ t. characters t.now) result ≡ readable_of env.now name.now }
+    ensures bytes { option_map (λ t. t.now) result ≡ option_map encode_utf8_all (readable_of env.now name.now) }
+{
+    match env.get(name) {
+        Ok(text) => Some(text),
+        Err(_) => None,
+    }
+}
+
+fn checked_token(
+    alloc: Global,
+    bytes: &[u8],
+) -> Result<Result<Option<Bytes>, CredentialsError>, OutOfMemory>
+    ensures { IfOk result (λ token. token ≡ checked_token_of bytes.now) }
+{
+    if !is_header_value(bytes) {
+        let cause = ConfigCause::AuthToken;
+        return Ok(Err(CredentialsError::InvalidConfiguration(cause)));
+    }
+    let bytes = Bytes::of(alloc, bytes)?;
+    Ok(Ok(Some(bytes)))
+}
+
+fn token_of_file(
+    alloc: Global,
+    path: &str,
+    held: Result<Bytes, FailKind>,
+) -> Result<Result<Option<Bytes>, CredentialsError>, OutOfMemory>
+    ensures { IfOk result (λ token. token ≡ token_of_file_of (characters path.now) held) }
+{
+    match held {
+        Ok(bytes) => checked_token(alloc, bytes.as_slice()),
+        Err(_) => {
+            let path = Text::of(alloc, path)?;
+            Ok(Err(CredentialsError::ProviderError(ProviderCause::File(path))))
+        }
+    }
+}
+
+fn token_of_text(
+    alloc: Global,
+    text: Option<&str>,
+) -> Result<Result<Option<Bytes>, CredentialsError>, OutOfMemory>
+    ensures { IfOk result (λ token. token ≡ token_of_bytes_of (option_map (λ t. t.now) text.entry)) }
+{
+    match text {
+        None => Ok(Ok(None)),
+        Some(text) => checked_token(alloc, text.as_bytes()),
+    }
+}
+
+// The token that is sent, or none.
+#[tactic(auto, using(crate::proofs::ContainerSteps::token_steps))]
+fn auth_token<A: Asking>(
+    alloc: Global,
+    env: &Env,
+    asking: &mut A,
+) -> Result<Result<Option<Bytes>, CredentialsError>, Stop>
+    ensures { Follows ⟦<A as Asking>⟧ (auth_token_of env.now) asking.old asking.new result }
+{
+    match readable(env, "AWS_CONTAINER_AUTHORIZATION_TOKEN_FILE") {
+        Some(path) => {
+            let asked = Text::of(alloc, path)?;
+            let held = read_file(alloc, asked, asking)?;
+            let token = token_of_file(alloc, path, held)?;
+            Ok(token)
+        }
+        None => {
+            let text = readable(env, "AWS_CONTAINER_AUTHORIZATION_TOKEN");
+            let token = token_of_text(alloc, text)?;
+            Ok(token)
+        }
+    }
+}
+
+fn relative_uri(alloc: Global, text: &str) -> Result<ContainerUri, OutOfMemory>
+    ensures { IfOk result (λ named. (target : _) × IsRelativeUri text.now target × (named ≡ relative_uri_of (characters text.now) target)) }
+{
+    match relative_target(alloc, text)? {
+        Some(target) => Ok(ContainerUri::Relative(target)),
+        None => {
+            let text = Text::of(alloc, text)?;
+            Ok(ContainerUri::NoRelative(text))
+        }
+    }
+}
+
+fn full_uri(alloc: Global, text: &str) -> Result<ContainerUri, OutOfMemory>
+    ensures { IfOk result (λ uri. (named : _) × IsFullUri text.now named × (uri ≡ uri_of.Full (characters text.now) named)) }
+{
+    let named = read_full_uri(alloc, text)?;
+    let uri = Text::of(alloc, text)?;
+    Ok(ContainerUri::Full { uri, named })
+}
+
+/// Where the variables say that a container's credentials are: at the relative address of
+/// `AWS_CONTAINER_CREDENTIALS_RELATIVE_URI`, else at the full one of
+/// `AWS_CONTAINER_CREDENTIALS_FULL_URI`. A variable that is no text counts as one that is not set.
+pub fn container_uri(alloc: Global, env: &Env) -> Result<ContainerUri, OutOfMemory>
+    ensures { IfOk result (IsContainerUri env.now) }
+{
+    if let Some(text) = readable(env, "AWS_CONTAINER_CREDENTIALS_RELATIVE_URI") {
+        return relative_uri(alloc, text);
+    }
+    match readable(env, "AWS_CONTAINER_CREDENTIALS_FULL_URI") {
+        Some(text) => full_uri(alloc, text),
+        None => Ok(ContainerUri::NotSet),
+    }
+}
+
+fn or_full_uri(
+    uri: Text,
+    checked: Result<Target, InvalidFullUriError>,
+) -> Result<Target, CredentialsError>
+    ensures { result ≡ or_full_uri_of uri checked }
+{
+    match checked {
+        Ok(target) => Ok(target),
+        Err(error) => {
+            let cause = ConfigCause::FullUri { error, uri };
+            Err(CredentialsError::InvalidConfiguration(cause))
+        }
+    }
+}
+
+impl ContainerUri {
+    // The target, or why there is none.
+    #[tactic(auto, using(cfg_world::proofs::Inquiries::asking_steps), unfolding(crate::specs::Containers::container_target))]
+    fn into_target<A: Asking>(
+        self,
+        alloc: Global,
+        dns: bool,
+        asking: &mut A,
+    ) -> Result<Result<Target, CredentialsError>, Stop>
+        ensures { Follows ⟦<A as Asking>⟧ (container_target dns self) asking.old asking.new result }
+    {
+        match self {
+            ContainerUri::NotSet => {
+                let cause = NotLoadedCause::NotConfigured;
+                Ok(Err(CredentialsError::CredentialsNotLoaded(cause)))
+            }
+            ContainerUri::Relative(target) => Ok(Ok(target)),
+            ContainerUri::NoRelative(text) => {
+                let cause = ConfigCause::RelativeUri(text);
+                Ok(Err(CredentialsError::InvalidConfiguration(cause)))
+            }
+            ContainerUri::Full { uri, named } => {
+                let checked = named.into_target(alloc, dns, asking)?;
+                let outcome = or_full_uri(uri, checked);
+                Ok(outcome)
+            }
+        }
+    }
+}
+
+fn account_of(alloc: Global, account: &Option<Text>) -> Result<Option<AccountId>, OutOfMemory>
+    ensures { IfOk result (λ id. id ≡ account.now) }
+{
+    match account {
+        None => Ok(None),
+        Some(account) => {
+            let account = AccountId::new(alloc, account.as_str())?;
+            Ok(Some(account))
+        }
+    }
+}
+
+// Credentials of a document, or why it gives none.
+fn said_keys(
+    alloc: Global,
+    said: Result<JsonCredentials, UnhandledCause>,
+) -> Result<Result<Credentials, CredentialsError>, OutOfMemory>
+    ensures { IfOk result (λ keys. keys ≡ said_keys_of said) }
+{
+    match said {
+        Ok(
+            JsonCredentials::RefreshableCredentials {
+                access_key_id,
+                secret_access_key,
+                session_token,
+                account_id,
+                expiration,
+            },
+        ) => {
+            let account = account_of(alloc, &account_id)?;
+            let origin = Seq::of_slice(alloc, &[AwsCredentialFeature::CredentialsHttp])?;
+            let id = access_key_id.as_str();
+            let secret = secret_access_key.as_str();
+            let mut builder = CredentialsBuilder::new(alloc, id, secret, "EcsContainer")?;
+            builder
+                .set_session_token(Some(session_token))
+                .set_expiry(Some(expiration))
+                .set_account_id(account);
+            let credentials = builder.features(origin).build()?;
+            Ok(Ok(credentials))
+        }
+        Ok(JsonCredentials::Error { code, message }) => {
+            let cause = ProviderCause::ErrorDocument { code, message };
+            Ok(Err(CredentialsError::ProviderError(cause)))
+        }
+        Err(cause) => Ok(Err(CredentialsError::Unhandled(cause))),
+    }
+}
+
+// What a reply gives.
+#[tactic(auto, unfolding(crate::specs::Containers::reply_keys))]
+fn reply_keys(
+    alloc: Global,
+    reply: &HttpReply,
+) -> Result<Result<Credentials, CredentialsError>, OutOfMemory>
+    ensures { IfOk result (λ keys. keys ≡ reply_keys_of reply.now) }
+{
+    if !is_success(reply.status) {
+        let cause = ProviderCause::Status(reply.status);
+        return Ok(Err(CredentialsError::ProviderError(cause)));
+    }
+    let said = body_document(alloc, reply.body.as_slice())?;
+    said_keys(alloc, said)
+}
+
+// What the answer to the last attempt gives. An answer of another kind never comes.
+#[tactic(auto, unfolding(crate::specs::Containers::answer_keys))]
+fn answer_keys(
+    alloc: Global,
+    answer: &Answer,
+) -> Result<Result<Credentials, CredentialsError>, OutOfMemory>
+    ensures { IfOk result (λ keys. keys ≡ answer_keys_of answer.now) }
+{
+    let kind = match answer {
+        Answer::Replied(Reply::Http(reply)) => return reply_keys(alloc, reply),
+        Answer::Failed(kind) => *kind,
+        _ => FailKind::Io,
+    };
+    Ok(Err(CredentialsError::Unhandled(UnhandledCause::Sent(kind))))
+}
+
+fn request(settings: &ContainerSettings, token: Option<Bytes>, target: Target) -> Http
+    ensures { result ≡ credentials_request settings.now token target }
+{
+    let (endpoint, path) = target.into_parts();
+    Http {
+        endpoint,
+        path,
+        authorization: token,
+        timeouts: Timeouts {
+            connect_ms: Some(settings.connect_ms),
+            read_ms: Some(settings.read_ms),
+            operation_ms: None,
+            attempt_ms: None,
+        },
+    }
+}
+
+fn attempt_limit(sleep: bool) -> u32
+    ensures { result ≡ attempt_limit_of sleep }
+{
+    if sleep { 3 } else { 1 }
+}
+
+// The attempts of the request.
+fn attempt<A: Asking>(
+    alloc: Global,
+    settings: &ContainerSettings,
+    call: Http,
+    asking: &mut A,
+) -> Result<Receipt, Stop>
+    ensures { Follows ⟦<A as Asking>⟧ (credentials_attempts settings.now call) asking.old asking.new result }
+{
+    let request = Request::Http(call);
+    let limit = attempt_limit(settings.sleep);
+    let classifier = HttpCredentialRetryClassifier;
+    exchange(
+        alloc,
+        &request,
+        limit,
+        ReplyKind::Document,
+        &classifier,
+        asking,
+    )
+}
+
+// What the attempts give.
+#[tactic(auto, using(crate::proofs::ContainerSteps::fetch_steps))]
+fn fetch_keys<A: Asking>(
+    alloc: Global,
+    settings: &ContainerSettings,
+    token: Option<Bytes>,
+    target: Target,
+    asking: &mut A,
+) -> Result<Result<Credentials, CredentialsError>, Stop>
+    ensures { Follows ⟦<A as Asking>⟧ (fetched_keys settings.now token target) asking.old asking.new result }
+{
+    let call = request(settings, token, target);
+    let receipt = attempt(alloc, settings, call, asking)?;
+    let outcome = answer_keys(alloc, receipt.entry().answer())?;
+    Ok(outcome)
+}
+
+/// The credentials, where it is known what the variables name, as `container_credentials` gives them.
+#[tactic(auto, using(crate::proofs::ContainerSteps::container_steps))]
+pub fn follow_container<A: Asking>(
+    alloc: Global,
+    env: &Env,
+    settings: &ContainerSettings,
+    named: ContainerUri,
+    asking: &mut A,
+) -> Result<Result<Credentials, CredentialsError>, Stop>
+    ensures { Follows ⟦<A as Asking>⟧ (container_of env.now settings.now named) asking.old asking.new result }
+{
+    let token = match auth_token(alloc, env, asking)? {
+        Ok(token) => token,
+        Err(error) => return Ok(Err(error)),
+    };
+    let target = match named.into_target(alloc, settings.dns, asking)? {
+        Ok(target) => target,
+        Err(error) => return Ok(Err(error)),
+    };
+    let outcome = fetch_keys(alloc, settings, token, target, asking)?;
+    Ok(outcome)
+}
+
+/// The credentials that a container's agent gives (Amazon ECS and EKS), by the provider's name
+/// `EcsContainer`.
+///
+/// The token that is sent is what the file holds that `AWS_CONTAINER_AUTHORIZATION_TOKEN_FILE` names,
+/// else `AWS_CONTAINER_AUTHORIZATION_TOKEN`, else none. It is read and looked at before anything else is
+/// asked. The address is that of `AWS_CONTAINER_CREDENTIALS_RELATIVE_URI`, else that of
+/// `AWS_CONTAINER_CREDENTIALS_FULL_URI`. There are three attempts at most, or one without a way to wait
+/// between them; the last answer decides.
+///
+/// # Errors
+///
+/// - `ProviderError(File)`: the token's file cannot be read.
+/// - `InvalidConfiguration(AuthToken)`: the token is no header value.
+/// - `CredentialsNotLoaded(NotConfigured)`: neither address is set.
+/// - `InvalidConfiguration(RelativeUri)`, `InvalidConfiguration(FullUri)`: the address is refused.
+/// - `Unhandled(Sent)`: the last attempt was not answered.
+/// - `ProviderError(Status)`, `ProviderError(ErrorDocument)`, `Unhandled(NotUtf8)`,
+///   `Unhandled(NoDocument)`: its reply has no status of success, or tells of an error, or is not UTF-8,
+///   or is no document.
+pub fn container_credentials<A: Asking>(
+    alloc: Global,
+    env: &Env,
+    settings: &ContainerSettings,
+    asking: &mut A,
+) -> Result<Result<Credentials, CredentialsError>, Stop>
+    ensures { FollowsContainer ⟦<A as Asking>⟧ env.now settings.now asking.old asking.new result }
+{
+    let named = container_uri(alloc, env)?;
+    follow_container(alloc, env, settings, named, asking)
+}
