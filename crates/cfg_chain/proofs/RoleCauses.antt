@@ -15,7 +15,7 @@ use Rattle.cfg_world.specs.Leaves.{clock, assuming, granted_of}
 use Rattle.cfg_world.proofs.Inquiries.{split_after}
 use Rattle.cfg_profile.specs.declared.chain.RoleArn.{RoleArn}
 use Rattle.cfg_profile.specs.Configuration.{Configuration}
-use Rattle.cfg_chain.specs.AssumeRole.{session_name, request, granted, in_role, exchange, assumes, assumes_roles}
+use Rattle.cfg_providers.specs.AssumeRole.{session_name, request, granted, in_role, exchange, assumes, assumes_roles}
 use Rattle.cfg_chain.specs.Causes.{error_of, exchange_failure, first_failure, named_variable, is_not_loaded_answer, told_fault, tells_role}
 
 -- the answer of one role

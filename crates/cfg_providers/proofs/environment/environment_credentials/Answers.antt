@@ -1,7 +1,7 @@
 -- Each key where it belongs.
 use Rattle.std.proofs.Common.{◌≡◌, ◌∙◌, rules}
-use Rattle.cfg_chain.proofs.EnvironmentSteps.{environment_is, built_is}
-use Rattle.cfg_chain.proofs.environment.environment_credentials.Goals as goal
+use Rattle.cfg_providers.proofs.EnvironmentSteps.{environment_is, built_is}
+use Rattle.cfg_providers.proofs.environment.environment_credentials.Goals as goal
 
 pub returns : goal.returns
 returns c =

@@ -7,8 +7,8 @@ use Rattle.cfg_types.specs.declared.credentials.AwsCredentialFeature.TheVariants
 use Rattle.cfg_types.specs.declared.errors.CredentialsError.{CredentialsError}
 use Rattle.cfg_types.specs.Environment.{Variables, variable}
 use Rattle.cfg_world.specs.declared.asking.Halt.{Halt}
-use Rattle.cfg_chain.specs.Gives.{GivesAnswer}
-use Rattle.cfg_chain.specs.EnvironmentKeys.{access_key_id, secret, optional, environment}
+use Rattle.cfg_providers.specs.Gives.{GivesAnswer}
+use Rattle.cfg_providers.specs.EnvironmentKeys.{access_key_id, secret, optional, environment}
 
 pub said_so : {X Y : Type 0} (view : X → Y) (r : Result X (Halt CredentialsError)) (x y : Result Y CredentialsError) → x ≡ y → GivesAnswer view r x → GivesAnswer view r y
 said_so view r x y e g = subst (λ said. GivesAnswer view r said) e g

@@ -1,6 +1,6 @@
 ghost use Rattle.std.specs.Prelude.{◌≡◌, IfOk, option_map};
 ghost use Rattle.cfg_values.specs.Text.{characters};
-ghost use Rattle.cfg_chain.specs.Sts.{behind_colon as behind, before_colon as before, fifth_part as fifth_part_of, account_of as reply_account, into_credentials as credentials_in};
+ghost use Rattle.cfg_providers.specs.Sts.{behind_colon as behind, before_colon as before, fifth_part as fifth_part_of, account_of as reply_account, into_credentials as credentials_in};
 
 use cfg_types::{
     AccountId, Credentials, CredentialsBuilder, OutOfMemory, StsReply, Text, TryCopy,

@@ -1,9 +1,9 @@
 -- The first part has no colon.
 use Rattle.std.proofs.Common.{ap, sym, ◌∙◌, arith}
 use Rattle.std.proofs.lemmas.Str.Pattern.{split_parts}
-use Rattle.cfg_chain.specs.Sts.{before_colon}
-use Rattle.cfg_chain.proofs.Colons.{before_free, before_none}
-use Rattle.cfg_chain.proofs.sts.before_colon.Goals as goal
+use Rattle.cfg_providers.specs.Sts.{before_colon}
+use Rattle.cfg_providers.proofs.Colons.{before_free, before_none}
+use Rattle.cfg_providers.proofs.sts.before_colon.Goals as goal
 
 pub returns-in-Some : goal.returns-in-Some
 returns-in-Some c =

@@ -1,7 +1,7 @@
 -- Parts of a text that is cut at colons.
 use Rattle.std.proofs.Common.{◌≡◌, ◌≢◌, ℕ, suc, ◌<◌, List, [], ◌∷◌, ◌++◌, cond, false, length, get_or, Some, None, refl, ap, ◌∙◌, arith, tests}
 use Rattle.std.specs.Prelude.{◌==◌}
-use Rattle.cfg_chain.specs.Sts.{behind_colon, before_colon}
+use Rattle.cfg_providers.specs.Sts.{behind_colon, before_colon}
 
 no_colon : (b : ℕ) → b ≢ 58 → (b == 58) ≡ false
 no_colon b h = grind (arith, tests)

@@ -1,6 +1,6 @@
 ghost use Rattle.std.specs.Prelude.{◌≡◌, IfOk};
 ghost use Rattle.cfg_world.specs.Follows.{Follows};
-ghost use Rattle.cfg_chain.specs.AssumeRole.{default_session_name as default_name, session_name as session_name_of, settings_of, request as request_of, granted as granted_of, in_role, assumes, assumes_roles};
+ghost use Rattle.cfg_providers.specs.AssumeRole.{default_session_name as default_name, session_name as session_name_of, settings_of, request as request_of, granted as granted_of, in_role, assumes, assumes_roles};
 
 use crate::sts::into_credentials;
 use cfg_profile::{ProviderConfig, RoleArn};

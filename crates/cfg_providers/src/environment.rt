@@ -1,8 +1,8 @@
 ghost use Rattle.std.specs.Prelude.{◌≡◌, IfOk, option_map};
 ghost use Rattle.cfg_values.specs.Text.{characters};
 ghost use Rattle.cfg_types.specs.Environment.{variable};
-ghost use Rattle.cfg_chain.specs.Gives.{GivesAnswer};
-ghost use Rattle.cfg_chain.specs.EnvironmentKeys.{required, usable, secret as secret_of, optional as optional_of, environment};
+ghost use Rattle.cfg_providers.specs.Gives.{GivesAnswer};
+ghost use Rattle.cfg_providers.specs.EnvironmentKeys.{required, usable, secret as secret_of, optional as optional_of, environment};
 
 use cfg_types::{
     AccountId, AwsCredentialFeature, Credentials, CredentialsBuilder, CredentialsError, Env,

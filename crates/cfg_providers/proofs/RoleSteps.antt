@@ -15,8 +15,7 @@ use Rattle.cfg_world.specs.Follows.{Ends, Waits, Breaks}
 use Rattle.cfg_world.proofs.Inquiries.{Leads, leads_start, leads_after, ends_after, ends_done, waits_first, breaks_first, breaks_here}
 use Rattle.cfg_profile.specs.declared.chain.RoleArn.{RoleArn}
 use Rattle.cfg_profile.specs.Configuration.{Configuration}
-use Rattle.cfg_chain.specs.profile.Profiles.{by_profile}
-use Rattle.cfg_chain.specs.AssumeRole.{default_session_name, session_name, request, granted, in_role, exchange, assumes, assumes_roles}
+use Rattle.cfg_providers.specs.AssumeRole.{default_session_name, session_name, request, granted, in_role, exchange, assumes, assumes_roles}
 
 assumes_roles-drop : (conf : Configuration) (roles : List RoleArn) (i : ℕ) (d : RoleArn) (signer : Keys) → i < length roles →
     assumes_roles conf (drop i roles) signer ≡ (assumes conf signer (get_or roles i d) >>= assumes_roles conf (drop (i + 1) roles))
@@ -72,13 +71,5 @@ module _ {W : Type 0} {w : Ghosts W} where
       let exchanged : Ends w (exchange conf role signer name) mid new (in_role (granted answer)) =
       ends_after (λ a. Done (in_role (granted a))) (subst (λ r. Ends w (assuming r) mid new answer) is s) ends_done in
       ends_after (exchange conf role signer) e (subst (λ o. Ends w (exchange conf role signer name) mid new o) (sym (told ∙ ap in_role gives)) exchanged)
-
-  -- credentials that are marked behind the last role
-  pub marked : {old new : W} (conf : Configuration) (roles lent : List RoleArn) (base keys given : Keys) (out : Result Keys CredentialsError) →
-      lent ≡ roles → Ends w (assumes_roles conf lent base) old new out → out ≡ Ok keys → given ≡ by_profile keys →
-      Ends w (assumes_roles conf roles base >>= λ k. Done (Ok (by_profile k))) old new (Ok given)
-  marked {old} {new} conf roles lent base keys given out same e is told =
-      subst (λ k. Ends w (assumes_roles conf roles base >>= λ k. Done (Ok (by_profile k))) old new (Ok k)) (sym told)
-      (ends_after (if_ok (λ k. Done (Ok (by_profile k)))) (subst (λ r. Ends w (assumes_roles conf r base) old new (Ok keys)) same (subst (λ o. Ends w (assumes_roles conf lent base) old new o) is e)) ends_done)
 
 pub ruleset role_steps = (leads_start, role_derived, role_failed, role_waits, role_breaks, all_derived)

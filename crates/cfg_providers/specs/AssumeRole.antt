@@ -17,7 +17,7 @@ use Rattle.cfg_world.specs.declared.leaves.NotGranted.TheVariants.{Failed, Refus
 use Rattle.cfg_world.specs.Leaves.{clock, assuming}
 use Rattle.cfg_profile.specs.declared.chain.RoleArn.{RoleArn}
 use Rattle.cfg_profile.specs.Configuration.{Configuration}
-use Rattle.cfg_chain.specs.Sts.{into_credentials}
+use Rattle.cfg_providers.specs.Sts.{into_credentials}
 
 -- a name for a session, with the milliseconds since the epoch
 abbrev pub default_session_name : Moment → List ℕ

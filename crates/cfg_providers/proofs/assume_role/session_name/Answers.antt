@@ -1,6 +1,6 @@
 -- The name is made from the reading.
-use Rattle.cfg_chain.proofs.RoleSteps.{named_by_clock}
-use Rattle.cfg_chain.proofs.assume_role.session_name.Goals as goal
+use Rattle.cfg_providers.proofs.RoleSteps.{named_by_clock}
+use Rattle.cfg_providers.proofs.assume_role.session_name.Goals as goal
 
 pub returns-in_ok-name-in-None : goal.returns-in_ok-name-in-None
 returns-in_ok-name-in-None g c =

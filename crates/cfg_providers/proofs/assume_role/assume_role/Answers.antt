@@ -1,6 +1,6 @@
 -- A name, and one exchange.
-use Rattle.cfg_chain.proofs.RoleSteps.{role_assumed}
-use Rattle.cfg_chain.proofs.assume_role.assume_role.Goals as goal
+use Rattle.cfg_providers.proofs.RoleSteps.{role_assumed}
+use Rattle.cfg_providers.proofs.assume_role.assume_role.Goals as goal
 
 pub returns : goal.returns
 returns g c =

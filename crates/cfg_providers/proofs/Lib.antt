@@ -1,0 +1,4 @@
+pub mod EnvironmentSteps
+pub mod QuietSteps
+pub mod RoleSteps
+pub mod Colons

@@ -1,0 +1,4 @@
+pub mod Gives
+pub mod EnvironmentKeys
+pub mod Sts
+pub mod AssumeRole
