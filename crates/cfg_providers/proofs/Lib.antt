@@ -2,3 +2,8 @@ pub mod EnvironmentSteps
 pub mod QuietSteps
 pub mod RoleSteps
 pub mod Colons
+pub mod Utf8Bytes
+pub mod Versions
+pub mod ProcessSaid
+pub mod ProcessCauses
+pub mod Providing

@@ -1,4 +1,9 @@
 pub mod Gives
+pub mod Provides
+pub mod Utf8
 pub mod EnvironmentKeys
 pub mod Sts
 pub mod AssumeRole
+pub mod ProcessDocuments
+pub mod ProcessSetups
+pub mod Processes

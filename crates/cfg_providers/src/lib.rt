@@ -1,12 +1,16 @@
-//! Providers of credentials, each over anything that can be asked. It stands on cfg_profile and
-//! cfg_world. The layers above may use that a provider asks what its tree of questions asks, in that
+//! Providers of credentials, each over anything that can be asked. It stands on cfg_profile, cfg_world
+//! and cfg_json. The layers above may use that a provider asks what its tree of questions asks, in that
 //! order, and answers what the tree says over their answers.
 #![tactic(auto)]
 
 pub mod assume_role;
 pub mod environment;
+pub mod laws;
+pub mod process;
 pub mod sts;
+mod utf8;
 
 pub use assume_role::assume_roles;
 pub use environment::environment_credentials;
+pub use process::{CredentialProcessProvider, credential_process};
 pub use sts::into_credentials;
