@@ -1,21 +1,21 @@
 -- What is left of a derivation after each role.
-use Rattle.std.proofs.Common.{◌≡◌, ℕ, ◌+◌, ◌<◌, ◌≤◌, List, Option, None, Result, Ok, Err, get_or, drop, length, refl, ap, sym, ◌∙◌, subst, add-one}
+use Rattle.std.proofs.Common.{◌≡◌, ℕ, ◌+◌, ◌<◌, ◌≤◌, List, Result, Ok, Err, get_or, drop, length, refl, ap, sym, ◌∙◌, subst, add-one}
 use Rattle.std.proofs.Math.Seq.{drop-cons}
 use Rattle.std.proofs.Math.ListN.{drop_of_length-le}
 use Rattle.cfg_types.specs.Keys.{Keys}
 use Rattle.cfg_types.specs.declared.errors.CredentialsError.{CredentialsError}
-use Rattle.cfg_values.specs.Moment.{Moment}
 use Rattle.cfg_types.specs.declared.request.sts.AssumeRole.{AssumeRole}
 use Rattle.cfg_types.specs.declared.reply.sts.StsReply.{StsReply}
 use Rattle.cfg_world.specs.declared.leaves.NotGranted.{NotGranted}
-use Rattle.cfg_world.specs.Leaves.{clock, assuming}
+use Rattle.cfg_world.specs.Leaves.{assuming}
 use Rattle.cfg_world.specs.declared.asking.Asking.{Ghosts}
 use Rattle.cfg_world.specs.Inquiry.{Inquiry, Done, after, if_ok, ◌>>=◌}
 use Rattle.cfg_world.specs.Follows.{Ends, Waits, Breaks}
 use Rattle.cfg_world.proofs.Inquiries.{Leads, leads_start, leads_after, ends_after, ends_done, waits_first, breaks_first, breaks_here}
 use Rattle.cfg_profile.specs.declared.chain.RoleArn.{RoleArn}
 use Rattle.cfg_profile.specs.Configuration.{Configuration}
-use Rattle.cfg_providers.specs.AssumeRole.{default_session_name, session_name, request, granted, in_role, exchange, assumes, assumes_roles}
+use Rattle.cfg_providers.specs.SessionNames.{session_name}
+use Rattle.cfg_providers.specs.AssumeRole.{role_session, request, granted, in_role, exchange, assumes, assumes_roles}
 
 assumes_roles-drop : (conf : Configuration) (roles : List RoleArn) (i : ℕ) (d : RoleArn) (signer : Keys) → i < length roles →
     assumes_roles conf (drop i roles) signer ≡ (assumes conf signer (get_or roles i d) >>= assumes_roles conf (drop (i + 1) roles))
@@ -54,17 +54,9 @@ module _ {W : Type 0} {w : Ghosts W} where
       Leads w inquiry old mid (assumes_roles conf (drop i roles) signer) → length roles ≤ i → Ends w inquiry old mid (Ok signer)
   all_derived {old} {mid} {inquiry} conf roles i signer a le = (subst (λ p. Leads w inquiry old mid p) (assumes_roles-end conf roles i signer le) a).ends _ _ ends_done
 
-  -- a name made from a reading of the clock
-  pub named_by_clock : {old new : W} (given : Option (List ℕ)) (now : Moment) (name : List ℕ) →
-      given ≡ None → Ends w clock old new now → name ≡ default_session_name now → Ends w (session_name given) old new name
-  unfolding session_name
-  named_by_clock {old} {new} given now name none e is =
-      subst (λ g. Ends w (session_name g) old new name) (sym none)
-      (subst (λ n. Ends w (after clock (λ m. Done (default_session_name m))) old new n) (sym is) (ends_after (λ m. Done (default_session_name m)) e ends_done))
-
   -- one exchange
   pub role_assumed : {old mid new : W} (conf : Configuration) (role : RoleArn) (signer : Keys) (name : List ℕ) (sent : AssumeRole) (answer : Result StsReply NotGranted) (given out : Result Keys CredentialsError) →
-      Ends w (session_name role.session_name) old mid name → sent ≡ request conf role signer name → Ends w (assuming sent) mid new answer →
+      Ends w (session_name role_session role.session_name) old mid name → sent ≡ request conf role signer name → Ends w (assuming sent) mid new answer →
       given ≡ granted answer → out ≡ in_role given → Ends w (assumes conf signer role) old new out
   unfolding assumes
   role_assumed {old} {mid} {new} conf role signer name sent answer given out e is s gives told =

@@ -1,8 +1,5 @@
 -- Roles that are assumed one after another, each with the credentials of the step before.
-use Rattle.std.specs.Prelude.{ℕ, List, [], ◌∷◌, ◌++◌, ◌*ℤ◌, ◌+ℤ◌, ◌/◌, pos, Option, Some, None, Result, Ok, Err, codes}
-use Rattle.std.specs.Fmt.{signed_decimal}
-use Rattle.cfg_values.specs.Text.{characters}
-use Rattle.cfg_values.specs.Moment.{Moment}
+use Rattle.std.specs.Prelude.{ℕ, List, [], ◌∷◌, None, Result, Ok, Err, codes}
 use Rattle.cfg_types.specs.Keys.{Keys}
 use Rattle.cfg_types.specs.declared.errors.CredentialsError.{CredentialsError}
 use Rattle.cfg_types.specs.declared.errors.CredentialsError.TheVariants.{ProviderError, Unhandled}
@@ -14,19 +11,15 @@ use Rattle.cfg_types.specs.declared.settings.CallSettings.{CallSettings}
 use Rattle.cfg_world.specs.Inquiry.{Inquiry, Done, after, ◌>>=◌}
 use Rattle.cfg_world.specs.declared.leaves.NotGranted.{NotGranted}
 use Rattle.cfg_world.specs.declared.leaves.NotGranted.TheVariants.{Failed, Refused}
-use Rattle.cfg_world.specs.Leaves.{clock, assuming}
+use Rattle.cfg_world.specs.Leaves.{assuming}
 use Rattle.cfg_profile.specs.declared.chain.RoleArn.{RoleArn}
 use Rattle.cfg_profile.specs.Configuration.{Configuration}
+use Rattle.cfg_providers.specs.SessionNames.{session_name}
 use Rattle.cfg_providers.specs.Sts.{into_credentials}
 
--- a name for a session, with the milliseconds since the epoch
-abbrev pub default_session_name : Moment → List ℕ
-default_session_name now = characters (codes "assume-role-from-profile-" ++ signed_decimal (now.seconds *ℤ pos 1000 +ℤ pos (now.nanos / 1000000)))
-
--- the name of a role's session: the one that was given, else one made from a reading of the clock
-unfoldable pub session_name : Option (List ℕ) → Inquiry (List ℕ)
-session_name (Some name) = Done name
-session_name None = after clock (λ now. Done (default_session_name now))
+-- what the names begin with of sessions that were given none
+abbrev pub role_session : List ℕ
+role_session = codes "assume-role-from-profile"
 
 -- How the calls of a configuration are sent: in three attempts at most, as many as the standard retry
 -- mode of the AWS SDKs makes.
@@ -75,7 +68,7 @@ exchange conf role signer name = after (assuming (request conf role signer name)
 
 -- one role, assumed with these credentials
 unfoldable pub assumes : Configuration → Keys → RoleArn → Inquiry (Result Keys CredentialsError)
-assumes conf signer role = after (session_name role.session_name) (exchange conf role signer)
+assumes conf signer role = after (session_name role_session role.session_name) (exchange conf role signer)
 
 -- these roles, one after another, the first of them with these credentials
 unfoldable pub assumes_roles : Configuration → List RoleArn → Keys → Inquiry (Result Keys CredentialsError)

@@ -1,16 +1,16 @@
 ghost use Rattle.std.specs.Prelude.{◌≡◌, IfOk};
 ghost use Rattle.cfg_world.specs.Follows.{Follows};
-ghost use Rattle.cfg_providers.specs.AssumeRole.{default_session_name as default_name, session_name as session_name_of, settings_of, request as request_of, granted as granted_of, in_role, assumes, assumes_roles};
+ghost use Rattle.cfg_providers.specs.AssumeRole.{settings_of, request as request_of, granted as granted_of, in_role, assumes, assumes_roles};
 
+use crate::session_name::session_name;
 use crate::sts::into_credentials;
 use cfg_profile::{ProviderConfig, RoleArn};
 use cfg_types::{
-    AssumeRole, Boxed, CallSettings, Credentials, CredentialsError, Instant, OutOfMemory,
-    ProviderCause, StsReply, Text, Timeouts, TryCopy, copy_option,
+    AssumeRole, Boxed, CallSettings, Credentials, CredentialsError, OutOfMemory, ProviderCause,
+    StsReply, Text, Timeouts, TryCopy, copy_option,
 };
-use cfg_world::{Asking, NotGranted, Stop, leaves, read_clock};
+use cfg_world::{Asking, NotGranted, Stop, leaves};
 use std::alloc::Global;
-use std::string::ToString;
 
 /// Assumes these roles in order, the first with the base, and answers the last one's credentials.
 /// The first exchange that fails ends it.
@@ -45,39 +45,12 @@ fn assume_role<A: Asking>(
 ) -> Result<Result<Credentials, CredentialsError>, Stop>
     ensures { Follows ⟦<A as Asking>⟧ (assumes config.now signer role.now) asking.old asking.new result }
 {
-    let name = session_name(alloc, role, asking)?;
+    let name = session_name(alloc, "assume-role-from-profile", &role.session_name, asking)?;
     let request = request(alloc, config, role, signer, name)?;
     let answer = leaves::assume_role(alloc, request, asking)?;
     let answer = granted(alloc, answer)?;
     let outcome = or_role_error(alloc, answer)?;
     Ok(outcome)
-}
-
-// The name of the role's session, or one made from a reading of the clock.
-#[tactic(auto, using(cfg_world::proofs::Inquiries::asking_steps), unfolding(crate::specs::AssumeRole::session_name))]
-fn session_name<A: Asking>(alloc: Global, role: &RoleArn, asking: &mut A) -> Result<Text, Stop>
-    ensures { Follows ⟦<A as Asking>⟧ (session_name_of role.now.session_name) asking.old asking.new result }
-{
-    match &role.session_name {
-        Some(name) => {
-            let name = name.copy(alloc)?;
-            Ok(name)
-        }
-        None => {
-            let now = read_clock(asking)?;
-            let name = default_session_name(alloc, now)?;
-            Ok(name)
-        }
-    }
-}
-
-fn default_session_name(alloc: Global, now: Instant) -> Result<Text, OutOfMemory>
-    ensures { IfOk result (λ name. name ≡ default_name now) }
-{
-    let mut name = String::from_str(alloc, "assume-role-from-profile-")?;
-    let digits = now.millis().to_string(alloc)?;
-    name.push_str(digits.as_str())?;
-    Ok(Text::from_string(name))
 }
 
 fn request(
@@ -105,7 +78,8 @@ fn request(
     })
 }
 
-fn settings(alloc: Global, config: &ProviderConfig) -> Result<CallSettings, OutOfMemory>
+// How the calls of a configuration are sent.
+pub(crate) fn settings(alloc: Global, config: &ProviderConfig) -> Result<CallSettings, OutOfMemory>
     ensures { IfOk result (λ s. s ≡ settings_of config.now) }
 {
     let region = match config.region() {

@@ -7,10 +7,17 @@ pub mod assume_role;
 pub mod environment;
 pub mod laws;
 pub mod process;
+pub mod session_name;
 pub mod sts;
 mod utf8;
+pub mod web_identity_token;
 
 pub use assume_role::assume_roles;
 pub use environment::environment_credentials;
 pub use process::{CredentialProcessProvider, credential_process};
+pub use session_name::default_session_name;
 pub use sts::into_credentials;
+pub use web_identity_token::{
+    StaticConfiguration, WebIdentity, WebIdentityTokenCredentialsProvider, assume_by_web_identity,
+    web_identity,
+};
