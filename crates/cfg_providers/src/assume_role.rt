@@ -45,7 +45,12 @@ fn assume_role<A: Asking>(
 ) -> Result<Result<Credentials, CredentialsError>, Stop>
     ensures { Follows ⟦<A as Asking>⟧ (assumes config.now signer role.now) asking.old asking.new result }
 {
-    let name = session_name(alloc, "assume-role-from-profile", &role.session_name, asking)?;
+    let name = session_name(
+        alloc,
+        "assume-role-from-profile",
+        &role.session_name,
+        asking,
+    )?;
     let request = request(alloc, config, role, signer, name)?;
     let answer = leaves::assume_role(alloc, request, asking)?;
     let answer = granted(alloc, answer)?;

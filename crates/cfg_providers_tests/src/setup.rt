@@ -49,12 +49,20 @@ pub(crate) fn set_up(alloc: Global, script: &str) -> Result<Option<Setup>, OutOf
     }
 }
 
+/// An answer that is let go by one call.
+pub(crate) struct Outcome {
+    pub(crate) answer: Result<Credentials, CredentialsError>,
+}
+
+impl Drop for Outcome {
+    fn drop(self) {
+        let Outcome { answer: _ } = self;
+    }
+}
+
 /// An answer, with the secret, the token and the features of credentials.
-pub(crate) fn answer_words(
-    alloc: Global,
-    answer: &Result<Credentials, CredentialsError>,
-) -> Result<String, AllocError> {
-    match answer {
+pub(crate) fn answer_words(alloc: Global, outcome: &Outcome) -> Result<String, AllocError> {
+    match &outcome.answer {
         Ok(keys) => {
             let secret = keys.secret_access_key();
             let token = keys.session_token();
@@ -67,6 +75,10 @@ pub(crate) fn answer_words(
 
 fn question_words(alloc: Global, question: &Question) -> Result<String, AllocError> {
     match question {
+        Question::Run { command } => {
+            let command = command.as_str();
+            format!(in alloc; " Run {command}")
+        }
         Question::Send(Request::AssumeRoleWithWebIdentity(request)) => {
             let token = request.token.as_str();
             format!(in alloc; " {question:?} {token}")
@@ -75,7 +87,7 @@ fn question_words(alloc: Global, question: &Question) -> Result<String, AllocErr
     }
 }
 
-/// The questions of a journal, with the tokens of web identity.
+/// The questions of a journal, with the whole commands, and the tokens of web identity.
 pub(crate) fn questions(alloc: Global, journal: &[Entry]) -> Result<String, AllocError> {
     let mut words = String::new(alloc);
     for entry in journal {

@@ -1,16 +1,11 @@
 // What web identity gives, by its variables, its file and its reply.
-use crate::setup::{Setup, answer_words, questions, set_up};
+use crate::setup::{Outcome, Setup, answer_words, questions, set_up};
 use cfg_profile::ProviderConfig;
 use cfg_providers::{StaticConfiguration, WebIdentityTokenCredentialsProvider};
-use cfg_types::{Credentials, CredentialsError, OutOfMemory, Text};
+use cfg_types::{OutOfMemory, Text};
 use cfg_world::{ScriptDevices, World};
 use std::alloc::Global;
 use std::test::Fail;
-
-// An answer that is let go by one call.
-struct Outcome {
-    answer: Result<Credentials, CredentialsError>,
-}
 
 fn static_configuration(alloc: Global) -> Result<StaticConfiguration, OutOfMemory> {
     Ok(StaticConfiguration {
@@ -45,7 +40,7 @@ fn called(
     let outcome = Outcome {
         answer: provider.provide_credentials(&mut world),
     };
-    let answer = answer_words(alloc, &outcome.answer)?;
+    let answer = answer_words(alloc, &outcome)?;
     let questions = questions(alloc, world.journal())?;
     Ok(format!(in alloc; "{answer}{questions}")?)
 }
@@ -80,18 +75,19 @@ fn variables_of_web_identity(rt: HostRuntime) -> Result<(), Fail> {
     Ok(())
 }
 
-const FROM_CLOCK: &str = r#"Now Read { path: "/j" } Send(AssumeRoleWithWebIdentity(AssumeRoleWithWebIdentity { role_arn: "a", session_name: "web-identity-token-1000", secrets: "** redacted **" })) jwt"#;
+const FROM_CLOCK: &str =
+    r#"Now Read { path: "/j" } Send(AssumeRoleWithWebIdentity(AssumeRoleWithWebIdentity { role_arn: "a", session_name: "web-identity-token-1000", secrets: "** redacted **" })) jwt"#;
 
 #[test]
 fn replies_to_web_identity(rt: HostRuntime) -> Result<(), Fail> {
     let table: &[(&str, &str)] = &[
         (
             r#"{"id":"W","secret":"S","token":"T","expires":900}"#,
-            r#"Credentials { provider_name: "WebIdentityToken", access_key_id: "W", secret_access_key: "** redacted **", expires_after: 1970-01-01T00:15:00Z } S Some("T") [CredentialsProfileStsWebIdToken]"#,
+            r#"Credentials { provider_name: "WebIdentityToken", access_key_id: "W", secret_access_key: "** redacted **", expires_after: 900 s 0 ns } S Some("T") [CredentialsProfileStsWebIdToken]"#,
         ),
         (
             r#"{"id":"W","secret":"S","token":"T","expires":900,"arn":"a:b:c:d:7"}"#,
-            r#"Credentials { provider_name: "WebIdentityToken", access_key_id: "W", secret_access_key: "** redacted **", expires_after: 1970-01-01T00:15:00Z, account_id: "7" } S Some("T") [CredentialsProfileStsWebIdToken]"#,
+            r#"Credentials { provider_name: "WebIdentityToken", access_key_id: "W", secret_access_key: "** redacted **", expires_after: 900 s 0 ns, account_id: "7" } S Some("T") [CredentialsProfileStsWebIdToken]"#,
         ),
         (
             r#"{"id":"W","secret":"S","token":"T","expires":900,"arn":"a:b:c:d"}"#,
@@ -114,7 +110,9 @@ fn replies_to_web_identity(rt: HostRuntime) -> Result<(), Fail> {
         ),
     ];
     for (reply, want) in table {
-        let script = format!(in rt.alloc(); "{{\"variables\":[[\"AWS_WEB_IDENTITY_TOKEN_FILE\",\"/j\"],[\"AWS_ROLE_ARN\",\"a\"]],\"files\":[[\"/j\",\"jwt\"]],\"clock\":[1],\"replies\":{{\"web-identity\":[{reply}]}}}}")?;
+        let script = format!(in rt.alloc();
+            "{{\"variables\":[[\"AWS_WEB_IDENTITY_TOKEN_FILE\",\"/j\"],[\"AWS_ROLE_ARN\",\"a\"]],\"files\":[[\"/j\",\"jwt\"]],\"clock\":[1],\"replies\":{{\"web-identity\":[{reply}]}}}}"
+        )?;
         let words = words_of(rt.alloc(), false, script.as_str())?;
         let want = format!(in rt.alloc(); "{want} {FROM_CLOCK}")?;
         assert_eq!(rt; words.as_str(), want.as_str(), "{reply}");
@@ -124,7 +122,8 @@ fn replies_to_web_identity(rt: HostRuntime) -> Result<(), Fail> {
 
 #[test]
 fn files_of_web_identity(rt: HostRuntime) -> Result<(), Fail> {
-    let names = r#""variables":[["AWS_WEB_IDENTITY_TOKEN_FILE","/j"],["AWS_ROLE_ARN","a"],["AWS_ROLE_SESSION_NAME","s"]]"#;
+    let names =
+        r#""variables":[["AWS_WEB_IDENTITY_TOKEN_FILE","/j"],["AWS_ROLE_ARN","a"],["AWS_ROLE_SESSION_NAME","s"]]"#;
     let table: &[(bool, &str, &str)] = &[
         (
             false,
@@ -153,7 +152,9 @@ fn files_of_web_identity(rt: HostRuntime) -> Result<(), Fail> {
         ),
     ];
     for (fixed, files, want) in table {
-        let script = format!(in rt.alloc(); "{{{names},\"files\":{files},\"replies\":{{\"web-identity\":[null]}}}}")?;
+        let script = format!(in rt.alloc();
+            "{{{names},\"files\":{files},\"replies\":{{\"web-identity\":[null]}}}}"
+        )?;
         let words = words_of(rt.alloc(), *fixed, script.as_str())?;
         assert_eq!(rt; words.as_str(), *want, "{files}");
     }
