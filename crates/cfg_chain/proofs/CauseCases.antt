@@ -18,7 +18,7 @@ use Rattle.cfg_world.specs.Inquiry.{Done, Reads, if_ok}
 use Rattle.cfg_world.proofs.Inquiries.{split_after}
 use Rattle.cfg_chain.specs.declared.profile.plan.KeyPlan.{KeyPlan}
 use Rattle.cfg_chain.specs.profile.Plans.{plan}
-use Rattle.cfg_chain.specs.AssumeRole.{in_role, assumes_roles}
+use Rattle.cfg_providers.specs.AssumeRole.{in_role, assumes_roles}
 use Rattle.cfg_chain.specs.profile.Profiles.{refusal, by_profile, follows_plan, profile}
 use Rattle.cfg_chain.specs.declared.kept.Found.{Found}
 use Rattle.cfg_chain.specs.declared.member.Member.{Member}
@@ -26,7 +26,7 @@ use Rattle.cfg_chain.specs.declared.member.Member.TheVariants.{Environment, Prof
 use Rattle.cfg_chain.specs.declared.member.Turn.TheVariants.{PassedOver, Answers}
 use Rattle.cfg_profile.specs.Configuration.{Configuration}
 use Rattle.cfg_values.specs.Gives.{◌>>=◌}
-use Rattle.cfg_chain.specs.EnvironmentKeys.{required_by, secret_or, optional, usable, is_not_unicode, environment}
+use Rattle.cfg_providers.specs.EnvironmentKeys.{required_by, secret_or, optional, usable, is_not_unicode, environment}
 use Rattle.cfg_chain.specs.Members.{member_inquiry, is_not_loaded, turn}
 use Rattle.cfg_chain.specs.Chains.{Attempts, none_loaded}
 use Rattle.cfg_chain.specs.Resolves.{Resolves, IsPassedOver}

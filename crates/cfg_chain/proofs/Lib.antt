@@ -1,8 +1,5 @@
-pub mod EnvironmentSteps
-pub mod QuietSteps
 pub mod ChainSteps
-pub mod RoleSteps
-pub mod Colons
+pub mod Marking
 pub mod Parts
 pub mod Providing
 pub mod RoleCauses

@@ -15,7 +15,8 @@ use Rattle.cfg_world.specs.Leaves.{clock, assuming, granted_of}
 use Rattle.cfg_world.proofs.Inquiries.{split_after}
 use Rattle.cfg_profile.specs.declared.chain.RoleArn.{RoleArn}
 use Rattle.cfg_profile.specs.Configuration.{Configuration}
-use Rattle.cfg_chain.specs.AssumeRole.{session_name, request, granted, in_role, exchange, assumes, assumes_roles}
+use Rattle.cfg_providers.specs.SessionNames.{session_name}
+use Rattle.cfg_providers.specs.AssumeRole.{role_session, request, granted, in_role, exchange, assumes, assumes_roles}
 use Rattle.cfg_chain.specs.Causes.{error_of, exchange_failure, first_failure, named_variable, is_not_loaded_answer, told_fault, tells_role}
 
 -- the answer of one role
@@ -47,7 +48,7 @@ sent r (e ∷ []) out h = record {
 sent r (e ∷ f ∷ part) out h = absurd h.1
 
 assumed_named : (conf : Configuration) (role : RoleArn) (signer : Keys) (given : Option (List ℕ)) (part : List Pair) (out : Result Keys CredentialsError) →
-    Reads (after (session_name given) (exchange conf role signer)) part out → Assumed part out
+    Reads (after (session_name role_session given) (exchange conf role signer)) part out → Assumed part out
 unfolding session_name clock
 assumed_named conf role signer (Some name) part out h = sent (request conf role signer name) part out h
 assumed_named conf role signer None [] out h = absurd h

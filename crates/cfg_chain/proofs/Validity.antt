@@ -23,9 +23,9 @@ use Rattle.cfg_world.specs.declared.leaves.NotGranted.{NotGranted}
 use Rattle.cfg_world.specs.Leaves.{granted_of}
 use Rattle.cfg_world.specs.Fits.{Pair}
 use Rattle.cfg_chain.specs.declared.profile.plan.KeyPlan.{KeyPlan}
-use Rattle.cfg_chain.specs.Sts.{behind_colon, before_colon, fifth_part, account_of, account_or, keys_in, into_credentials}
-use Rattle.cfg_chain.specs.AssumeRole.{or_unhandled, granted}
-use Rattle.cfg_chain.specs.EnvironmentKeys.{usable, is_not_unicode}
+use Rattle.cfg_providers.specs.Sts.{behind_colon, before_colon, fifth_part, account_of, account_or, keys_in, into_credentials}
+use Rattle.cfg_providers.specs.AssumeRole.{or_unhandled, granted}
+use Rattle.cfg_providers.specs.EnvironmentKeys.{usable, is_not_unicode}
 use Rattle.cfg_profile.specs.Configuration.{Configuration}
 use Rattle.cfg_chain.specs.profile.Plans.{plan}
 use Rattle.cfg_chain.specs.Resolves.{default_members}

@@ -28,8 +28,8 @@ use Rattle.cfg_chain.specs.Resolves.{default_members}
 use Rattle.cfg_chain.specs.profile.Plans.{plan}
 use Rattle.cfg_chain.specs.profile.Profiles.{is_not_loaded_error}
 use Rattle.cfg_chain.specs.PassedOver.{is_passed_over, environment_is_passed_over, needs_older_secret}
-use Rattle.cfg_chain.specs.AssumeRole.{granted, in_role}
-use Rattle.cfg_chain.specs.EnvironmentKeys.{usable, is_not_unicode}
+use Rattle.cfg_providers.specs.AssumeRole.{granted, in_role}
+use Rattle.cfg_providers.specs.EnvironmentKeys.{usable, is_not_unicode}
 
 -- a variable whose value is no text
 abbrev pub is_unreadable : Variables → List ℕ → Bool

@@ -1,7 +1,3 @@
-pub mod Gives
-pub mod EnvironmentKeys
-pub mod Sts
-pub mod AssumeRole
 pub mod Members
 pub mod Chains
 pub mod KeptStates

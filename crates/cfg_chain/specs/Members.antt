@@ -11,7 +11,7 @@ use Rattle.cfg_chain.specs.declared.member.Member.TheVariants.{Environment, Prof
 use Rattle.cfg_chain.specs.declared.member.Turn.{Turn}
 use Rattle.cfg_chain.specs.declared.member.Turn.TheVariants.{PassedOver, Answers}
 use Rattle.cfg_profile.specs.Configuration.{Configuration}
-use Rattle.cfg_chain.specs.EnvironmentKeys.{environment}
+use Rattle.cfg_providers.specs.EnvironmentKeys.{environment}
 use Rattle.cfg_chain.specs.profile.Profiles.{profile}
 
 -- the name under which the chain tells of a member

@@ -8,7 +8,7 @@ use Rattle.cfg_chain.specs.declared.profile.plan.KeyPlan.{KeyPlan}
 use Rattle.cfg_profile.specs.Configuration.{Configuration}
 use Rattle.cfg_chain.specs.profile.Plans.{plan}
 use Rattle.cfg_chain.specs.profile.Profiles.{is_not_loaded_error}
-use Rattle.cfg_chain.specs.EnvironmentKeys.{usable, is_not_unicode}
+use Rattle.cfg_providers.specs.EnvironmentKeys.{usable, is_not_unicode}
 
 -- a variable that is absent or blank
 abbrev pub is_missing : Variables → List ℕ → Bool

@@ -13,7 +13,7 @@ use Rattle.cfg_world.specs.declared.ask.Answer.{Answer}
 use Rattle.cfg_world.specs.declared.leaves.NotGranted.{NotGranted}
 use Rattle.cfg_world.specs.Leaves.{granted_of}
 use Rattle.cfg_world.specs.Fits.{Pair}
-use Rattle.cfg_chain.specs.EnvironmentKeys.{usable}
+use Rattle.cfg_providers.specs.EnvironmentKeys.{usable}
 use Rattle.cfg_profile.specs.Configuration.{Configuration}
 use Rattle.cfg_chain.specs.profile.Plans.{plan}
 

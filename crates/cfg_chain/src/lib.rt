@@ -1,17 +1,14 @@
-//! Chains of credentials providers. It stands on cfg_profile and cfg_world. The layers above may use
+//! Chains of credentials providers. It stands on cfg_providers, cfg_profile and cfg_world. The layers above may use
 //! that a call's journal is the parts of the members up to the one that answered, in order, and that
 //! every earlier one was not loaded.
 #![tactic(auto)]
 
-mod assume_role;
 mod chain;
 pub mod default_provider;
-mod environment;
 pub mod kept;
 pub mod laws;
 mod member;
 pub mod profile;
-mod sts;
 
 pub use cfg_profile::{ProfileSet, ProfileSource, ProviderConfig, Section};
 pub use cfg_types::{CredentialsError, OutOfMemory};

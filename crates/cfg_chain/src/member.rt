@@ -3,11 +3,11 @@ ghost use Rattle.cfg_values.specs.Text.{characters};
 ghost use Rattle.cfg_world.specs.Follows.{Follows};
 ghost use Rattle.cfg_chain.specs.Members.{name_of, turn, member_inquiry};
 ghost use Rattle.cfg_world.specs.Inquiry.{Done};
-ghost use Rattle.cfg_chain.specs.EnvironmentKeys.{environment};
+ghost use Rattle.cfg_providers.specs.EnvironmentKeys.{environment};
 
-use crate::environment::environment_credentials;
 use crate::profile::provider::follow_profile;
 use cfg_profile::ProviderConfig;
+use cfg_providers::environment_credentials;
 use cfg_types::{Credentials, CredentialsError};
 use cfg_world::{Asking, Halt, Stop};
 use std::alloc::Global;
@@ -68,7 +68,7 @@ pub fn follow_member<A: Asking>(
 }
 
 // The environment asks nothing.
-#[tactic(auto, using(crate::proofs::QuietSteps::quiet_steps))]
+#[tactic(auto, using(cfg_providers::proofs::QuietSteps::quiet_steps))]
 fn follow_environment<A: Asking>(
     alloc: Global,
     config: &ProviderConfig,

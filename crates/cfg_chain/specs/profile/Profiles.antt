@@ -12,7 +12,7 @@ use Rattle.cfg_world.specs.Inquiry.{Inquiry, Done, ◌>>=◌}
 use Rattle.cfg_chain.specs.declared.profile.plan.KeyPlan.{KeyPlan}
 use Rattle.cfg_profile.specs.Configuration.{Configuration}
 use Rattle.cfg_chain.specs.profile.Plans.{plan}
-use Rattle.cfg_chain.specs.AssumeRole.{assumes_roles}
+use Rattle.cfg_providers.specs.AssumeRole.{assumes_roles}
 
 -- The errors of a profile that is not there, that has no credentials, or that gives a token in place
 -- of credentials.

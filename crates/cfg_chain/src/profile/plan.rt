@@ -1,6 +1,6 @@
 //! What the selected profile gives credentials by, as far as it is built.
 ghost use Rattle.std.specs.Prelude.{◌≡◌, IfOk};
-ghost use Rattle.cfg_chain.specs.Gives.{GivesAnswer};
+ghost use Rattle.cfg_providers.specs.Gives.{GivesAnswer};
 ghost use Rattle.cfg_chain.specs.profile.Plans.{not_built as not_built_error, is_not_built_error, profile_plan, keyed as keyed_of, plan, is_built as is_built_of};
 
 use cfg_profile::{

@@ -2,9 +2,9 @@ ghost use Rattle.std.specs.Prelude.{◌≡◌, IfOk, Ok};
 ghost use Rattle.cfg_world.specs.Follows.{Follows};
 ghost use Rattle.cfg_chain.specs.profile.Profiles.{refusal as refusal_of, by_profile, profile, follows_plan};
 
-use crate::assume_role::assume_roles;
 use crate::profile::plan::{KeyPlan, plan_of};
 use cfg_profile::ProviderConfig;
+use cfg_providers::assume_roles;
 use cfg_types::{
     AwsCredentialFeature, ConfigCause, Credentials, CredentialsError, NotLoadedCause, OutOfMemory,
     ProfileFileError,
@@ -13,7 +13,7 @@ use cfg_world::{Asking, Halt, Stop};
 use std::alloc::Global;
 
 /// Assumes the roles of the selected profile, and answers the last one's credentials.
-#[tactic(auto, using(crate::proofs::QuietSteps::quiet_steps), unfolding(crate::specs::profile::Profiles::profile))]
+#[tactic(auto, using(cfg_providers::proofs::QuietSteps::quiet_steps), unfolding(crate::specs::profile::Profiles::profile))]
 pub fn follow_profile<A: Asking>(
     alloc: Global,
     config: &ProviderConfig,

@@ -1,5 +1,5 @@
 -- The last role's credentials, marked.
-use Rattle.cfg_chain.proofs.RoleSteps.{marked}
+use Rattle.cfg_chain.proofs.Marking.{marked}
 use Rattle.cfg_chain.proofs.profile.provider.follow_plan.Goals as goal
 
 pub returns-in-Ok : goal.returns-in-Ok

@@ -1,0 +1,11 @@
+pub mod EnvironmentSteps
+pub mod QuietSteps
+pub mod SessionSteps
+pub mod RoleSteps
+pub mod Colons
+pub mod Utf8Bytes
+pub mod Versions
+pub mod ProcessSaid
+pub mod ProcessCauses
+pub mod WebIdentityCauses
+pub mod Providing

@@ -1,0 +1,76 @@
+-- Roles that are assumed one after another, each with the credentials of the step before.
+use Rattle.std.specs.Prelude.{ℕ, List, [], ◌∷◌, None, Result, Ok, Err, codes}
+use Rattle.cfg_types.specs.Keys.{Keys}
+use Rattle.cfg_types.specs.declared.errors.CredentialsError.{CredentialsError}
+use Rattle.cfg_types.specs.declared.errors.CredentialsError.TheVariants.{ProviderError, Unhandled}
+use Rattle.cfg_types.specs.declared.errors.ProviderCause.TheVariants as cause
+use Rattle.cfg_types.specs.declared.errors.UnhandledCause.{UnhandledCause}
+use Rattle.cfg_types.specs.declared.reply.sts.StsReply.{StsReply}
+use Rattle.cfg_types.specs.declared.request.sts.AssumeRole.{AssumeRole}
+use Rattle.cfg_types.specs.declared.settings.CallSettings.{CallSettings}
+use Rattle.cfg_world.specs.Inquiry.{Inquiry, Done, after, ◌>>=◌}
+use Rattle.cfg_world.specs.declared.leaves.NotGranted.{NotGranted}
+use Rattle.cfg_world.specs.declared.leaves.NotGranted.TheVariants.{Failed, Refused}
+use Rattle.cfg_world.specs.Leaves.{assuming}
+use Rattle.cfg_profile.specs.declared.chain.RoleArn.{RoleArn}
+use Rattle.cfg_profile.specs.Configuration.{Configuration}
+use Rattle.cfg_providers.specs.SessionNames.{session_name}
+use Rattle.cfg_providers.specs.Sts.{into_credentials}
+
+-- what the names begin with of sessions that were given none
+abbrev pub role_session : List ℕ
+role_session = codes "assume-role-from-profile"
+
+-- How the calls of a configuration are sent: in three attempts at most, as many as the standard retry
+-- mode of the AWS SDKs makes.
+abbrev pub settings_of : Configuration → CallSettings
+settings_of conf = record {
+  region = conf.region;
+  use_fips = None;
+  use_dual_stack = None;
+  max_attempts = 3;
+  timeouts = record { connect_ms = None; read_ms = None; operation_ms = None; attempt_ms = None };
+}
+
+-- the request for a role's session of this name
+abbrev pub request : Configuration → RoleArn → Keys → List ℕ → AssumeRole
+request conf role signer name = record {
+  signer = signer;
+  role_arn = role.role_arn;
+  session_name = name;
+  external_id = role.external_id;
+  policy = None;
+  policy_arns = None;
+  duration_seconds = None;
+  tags = None;
+  settings = settings_of conf;
+}
+
+-- what no rule allows for
+abbrev pub or_unhandled : Result Keys UnhandledCause → Result Keys CredentialsError
+or_unhandled (Ok keys) = Ok keys
+or_unhandled (Err cause) = Err (Unhandled cause)
+
+-- what a reply gives, or why it gives nothing
+abbrev pub granted : Result StsReply NotGranted → Result Keys CredentialsError
+granted (Err (Failed kind)) = Err (ProviderError (cause.Sent kind))
+granted (Err (Refused refusal)) = Err (ProviderError (cause.Refused refusal))
+granted (Ok reply) = or_unhandled (into_credentials reply (codes "AssumeRoleProvider"))
+
+-- an error of a role's exchange is told as such
+abbrev pub in_role : Result Keys CredentialsError → Result Keys CredentialsError
+in_role (Ok keys) = Ok keys
+in_role (Err e) = Err (ProviderError (cause.Role e))
+
+-- one request for a role, and what its reply gives
+abbrev pub exchange : Configuration → RoleArn → Keys → List ℕ → Inquiry (Result Keys CredentialsError)
+exchange conf role signer name = after (assuming (request conf role signer name)) (λ answer. Done (in_role (granted answer)))
+
+-- one role, assumed with these credentials
+unfoldable pub assumes : Configuration → Keys → RoleArn → Inquiry (Result Keys CredentialsError)
+assumes conf signer role = after (session_name role_session role.session_name) (exchange conf role signer)
+
+-- these roles, one after another, the first of them with these credentials
+unfoldable pub assumes_roles : Configuration → List RoleArn → Keys → Inquiry (Result Keys CredentialsError)
+assumes_roles conf [] signer = Done (Ok signer)
+assumes_roles conf (role ∷ roles) signer = assumes conf signer role >>= assumes_roles conf roles

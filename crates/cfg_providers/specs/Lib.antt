@@ -1,0 +1,12 @@
+pub mod Gives
+pub mod Provides
+pub mod Utf8
+pub mod EnvironmentKeys
+pub mod Sts
+pub mod SessionNames
+pub mod AssumeRole
+pub mod ProcessDocuments
+pub mod ProcessSetups
+pub mod Processes
+pub mod WebIdentities
+pub mod WebIdentitySetups

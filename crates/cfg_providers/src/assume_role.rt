@@ -1,0 +1,145 @@
+ghost use Rattle.std.specs.Prelude.{◌≡◌, IfOk};
+ghost use Rattle.cfg_world.specs.Follows.{Follows};
+ghost use Rattle.cfg_providers.specs.AssumeRole.{settings_of, request as request_of, granted as granted_of, in_role, assumes, assumes_roles};
+
+use crate::session_name::session_name;
+use crate::sts::into_credentials;
+use cfg_profile::{ProviderConfig, RoleArn};
+use cfg_types::{
+    AssumeRole, Boxed, CallSettings, Credentials, CredentialsError, OutOfMemory, ProviderCause,
+    StsReply, Text, Timeouts, TryCopy, copy_option,
+};
+use cfg_world::{Asking, NotGranted, Stop, leaves};
+use std::alloc::Global;
+
+/// Assumes these roles in order, the first with the base, and answers the last one's credentials.
+/// The first exchange that fails ends it.
+#[tactic(auto, using(crate::proofs::RoleSteps::role_steps))]
+pub fn assume_roles<A: Asking>(
+    alloc: Global,
+    config: &ProviderConfig,
+    roles: &[RoleArn],
+    base: Credentials,
+    asking: &mut A,
+) -> Result<Result<Credentials, CredentialsError>, Stop>
+    ensures { Follows ⟦<A as Asking>⟧ (assumes_roles config.now roles.now base) asking.old asking.new result }
+{
+    let mut signer = base;
+    for role in roles {
+        match assume_role(alloc, config, signer, role, asking)? {
+            Ok(credentials) => signer = credentials,
+            Err(error) => return Ok(Err(error)),
+        }
+    }
+    Ok(Ok(signer))
+}
+
+// One role: a name for its session, and one exchange.
+#[tactic(auto, using(cfg_world::proofs::Inquiries::asking_steps), unfolding(crate::specs::AssumeRole::assumes))]
+fn assume_role<A: Asking>(
+    alloc: Global,
+    config: &ProviderConfig,
+    signer: Credentials,
+    role: &RoleArn,
+    asking: &mut A,
+) -> Result<Result<Credentials, CredentialsError>, Stop>
+    ensures { Follows ⟦<A as Asking>⟧ (assumes config.now signer role.now) asking.old asking.new result }
+{
+    let name = session_name(
+        alloc,
+        "assume-role-from-profile",
+        &role.session_name,
+        asking,
+    )?;
+    let request = request(alloc, config, role, signer, name)?;
+    let answer = leaves::assume_role(alloc, request, asking)?;
+    let answer = granted(alloc, answer)?;
+    let outcome = or_role_error(alloc, answer)?;
+    Ok(outcome)
+}
+
+fn request(
+    alloc: Global,
+    config: &ProviderConfig,
+    role: &RoleArn,
+    signer: Credentials,
+    session_name: Text,
+) -> Result<AssumeRole, OutOfMemory>
+    ensures { IfOk result (λ r. r ≡ request_of config.now role.now signer session_name) }
+{
+    let role_arn = role.role_arn.copy(alloc)?;
+    let external_id = copy_option(alloc, &role.external_id)?;
+    let settings = settings(alloc, config)?;
+    Ok(AssumeRole {
+        signer,
+        role_arn,
+        session_name,
+        external_id,
+        policy: None,
+        policy_arns: None,
+        duration_seconds: None,
+        tags: None,
+        settings,
+    })
+}
+
+// How the calls of a configuration are sent.
+pub(crate) fn settings(alloc: Global, config: &ProviderConfig) -> Result<CallSettings, OutOfMemory>
+    ensures { IfOk result (λ s. s ≡ settings_of config.now) }
+{
+    let region = match config.region() {
+        None => None,
+        Some(region) => Some(region.copy(alloc)?),
+    };
+    Ok(CallSettings {
+        region,
+        use_fips: None,
+        use_dual_stack: None,
+        // The standard retry mode of the AWS SDKs makes three attempts.
+        max_attempts: 3,
+        timeouts: Timeouts {
+            connect_ms: None,
+            read_ms: None,
+            operation_ms: None,
+            attempt_ms: None,
+        },
+    })
+}
+
+// What a reply gives, or why it gives nothing.
+fn granted(
+    alloc: Global,
+    answer: Result<StsReply, NotGranted>,
+) -> Result<Result<Credentials, CredentialsError>, OutOfMemory>
+    ensures { IfOk result (λ r. r ≡ granted_of answer) }
+{
+    match answer {
+        Ok(reply) => match into_credentials(alloc, &reply, "AssumeRoleProvider")? {
+            Ok(credentials) => Ok(Ok(credentials)),
+            Err(cause) => Ok(Err(CredentialsError::Unhandled(cause))),
+        },
+        Err(NotGranted::Refused(refusal)) => {
+            let cause = ProviderCause::Refused(refusal);
+            Ok(Err(CredentialsError::ProviderError(cause)))
+        }
+        Err(NotGranted::Failed(kind)) => {
+            Ok(Err(CredentialsError::ProviderError(ProviderCause::Sent(kind))))
+        }
+    }
+}
+
+// An error of a role's exchange is told as such.
+fn or_role_error(
+    alloc: Global,
+    answer: Result<Credentials, CredentialsError>,
+) -> Result<Result<Credentials, CredentialsError>, OutOfMemory>
+    ensures { IfOk result (λ r. r ≡ in_role answer) }
+{
+    match answer {
+        Ok(credentials) => Ok(Ok(credentials)),
+        Err(error) => {
+            let error = Boxed::new(alloc, error)?;
+            Ok(Err(CredentialsError::ProviderError(ProviderCause::Role(error))))
+        }
+    }
+}

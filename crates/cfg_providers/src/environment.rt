@@ -1,0 +1,103 @@
+ghost use Rattle.std.specs.Prelude.{◌≡◌, IfOk, option_map};
+ghost use Rattle.cfg_values.specs.Text.{characters};
+ghost use Rattle.cfg_types.specs.Environment.{variable};
+ghost use Rattle.cfg_providers.specs.Gives.{GivesAnswer};
+ghost use Rattle.cfg_providers.specs.EnvironmentKeys.{required, usable, secret as secret_of, optional as optional_of, environment};
+
+use cfg_types::{
+    AccountId, AwsCredentialFeature, Credentials, CredentialsBuilder, CredentialsError, Env,
+    NotLoadedCause, OutOfMemory, Seq, Text, UnhandledCause, VarError, is_blank, trimmed,
+};
+use cfg_world::Halt;
+use std::alloc::Global;
+
+/// The keys that the variables of the AWS SDKs and tools hold: `AWS_ACCESS_KEY_ID`,
+/// `AWS_SECRET_ACCESS_KEY` with its older name `SECRET_ACCESS_KEY`, `AWS_SESSION_TOKEN` and
+/// `AWS_ACCOUNT_ID`.
+#[tactic(auto, unfolding(crate::specs::EnvironmentKeys::environment))]
+pub fn environment_credentials(
+    alloc: Global,
+    env: &Env,
+) -> Result<Credentials, Halt<CredentialsError>>
+    ensures { GivesAnswer (λ c. c) result (environment env.now) }
+{
+    let id = required_variable(alloc, env, "AWS_ACCESS_KEY_ID")?;
+    let secret = secret_key(alloc, env)?;
+    let token = text_of(alloc, optional_variable(env, "AWS_SESSION_TOKEN"))?;
+    let account = account_of(alloc, optional_variable(env, "AWS_ACCOUNT_ID"))?;
+    let origin = Seq::of_slice(alloc, &[AwsCredentialFeature::CredentialsEnvVars])?;
+    let mut builder = CredentialsBuilder::new(alloc, id, secret, "EnvironmentVariable")?;
+    builder.set_session_token(token).set_account_id(account);
+    Ok(builder.features(origin).build()?)
+}
+
+// A variable's text, where it can be read and is not blank.
+fn usable_variable<'a>(env: &'a Env, name: &str) -> Option<&'a str>
+    ensures { option_map (λ t. characters t.now) result ≡ usable (variable env.now name.now) }
+{
+    match env.get(name) {
+        Ok(text) if !is_blank(text) => Some(text),
+        _ => None,
+    }
+}
+
+// A variable that has to be there, and not blank. It is not trimmed.
+fn required_variable<'a>(
+    alloc: Global,
+    env: &'a Env,
+    name: &str,
+) -> Result<&'a str, Halt<CredentialsError>>
+    ensures { GivesAnswer (λ t. characters t.now) result (required (characters name.now) (variable env.now name.now)) }
+{
+    match env.get(name) {
+        Ok(text) if !is_blank(text) => Ok(text),
+        Err(VarError::NotUnicode) => {
+            let name = Text::of(alloc, name)?;
+            let cause = UnhandledCause::NotUnicode(name);
+            Err(Halt::Refused(CredentialsError::Unhandled(cause)))
+        }
+        _ => {
+            let name = Text::of(alloc, name)?;
+            let cause = NotLoadedCause::NotSet(name);
+            Err(Halt::Refused(CredentialsError::CredentialsNotLoaded(cause)))
+        }
+    }
+}
+
+// The secret. An older name stands in where the first one cannot be used.
+fn secret_key<'a>(alloc: Global, env: &'a Env) -> Result<&'a str, Halt<CredentialsError>>
+    ensures { GivesAnswer (λ t. characters t.now) result (secret_of env.now) }
+{
+    match usable_variable(env, "AWS_SECRET_ACCESS_KEY") {
+        Some(text) => Ok(text),
+        None => required_variable(alloc, env, "SECRET_ACCESS_KEY"),
+    }
+}
+
+// A variable that may be missing: its text without the white space at its ends, if any is left.
+fn optional_variable<'a>(env: &'a Env, name: &str) -> Option<&'a str>
+    ensures { option_map (λ t. characters t.now) result ≡ optional_of (variable env.now name.now) }
+{
+    match usable_variable(env, name) {
+        Some(text) => Some(trimmed(text)),
+        None => None,
+    }
+}
+
+fn text_of(alloc: Global, text: Option<&str>) -> Result<Option<Text>, OutOfMemory>
+    ensures { IfOk result (λ o. o ≡ option_map (λ t. characters t.now) text.entry) }
+{
+    match text {
+        None => Ok(None),
+        Some(text) => Ok(Some(Text::of(alloc, text)?)),
+    }
+}
+
+fn account_of(alloc: Global, id: Option<&str>) -> Result<Option<AccountId>, OutOfMemory>
+    ensures { IfOk result (λ o. o ≡ option_map (λ t. characters t.now) id.entry) }
+{
+    match id {
+        None => Ok(None),
+        Some(id) => Ok(Some(AccountId::new(alloc, id)?)),
+    }
+}

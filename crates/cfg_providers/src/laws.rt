@@ -1,0 +1,40 @@
+//! Laws, each on a call that carries it.
+ghost use Rattle.std.specs.Prelude.{◌≡◌, ◌≢◌, ℕ, List, Option, None, Result, Err, option_and_then};
+ghost use Rattle.std.specs.List.{last_or};
+ghost use Rattle.std.specs.Result.{result_err};
+ghost use Rattle.cfg_types.specs.Keys.{Keys};
+ghost use Rattle.cfg_types.specs.declared.document.InvalidJsonCredentials.TheVariants as invalid;
+ghost use Rattle.cfg_types.specs.declared.errors.CredentialsError.{CredentialsError as Refusal};
+ghost use Rattle.cfg_json.specs.Documents.{Read, AnswersDocument, IsProcessTable};
+ghost use Rattle.cfg_world.specs.Fits.{Pair};
+ghost use Rattle.cfg_world.specs.Inquiry.{Reads};
+ghost use Rattle.cfg_profile.specs.Configuration.{Configuration};
+ghost use Rattle.cfg_providers.specs.declared.web_identity_token.StaticConfiguration.{StaticConfiguration as Given};
+ghost use Rattle.cfg_providers.specs.declared.web_identity_token.WebIdentity.{WebIdentity as Identity};
+ghost use Rattle.cfg_providers.specs.ProcessDocuments.{process_document};
+ghost use Rattle.cfg_providers.specs.Processes.{credential_process, why_process};
+ghost use Rattle.cfg_providers.specs.WebIdentities.{assumes_by_web_identity, web_identity, why_entry, why_web_identity};
+
+/// What the document of a process says is the one answer that its grammar and its table of fields
+/// allow, beside want of memory.
+pub fn a_process_document_says_one_thing()
+    ensures said { (account : Option (List ℕ)) (text : List ℕ) → AnswersDocument (IsProcessTable account) text (process_document text account) }
+    ensures only { (account : Option (List ℕ)) (text : List ℕ) (answer : Read Keys) →
+        AnswersDocument (IsProcessTable account) text answer → answer ≢ Err invalid.OutOfMemory → answer ≡ process_document text account }
+{}
+
+/// A process fails by what the last entry of its part shows, and gives credentials where that shows no
+/// fault.
+pub fn a_process_fails_by_its_last_entry()
+    ensures { (command : List ℕ) (account : Option (List ℕ)) (part : List Pair) (out : Result Keys Refusal) →
+        Reads (credential_process command account) part out → result_err out ≡ why_process account part }
+{}
+
+/// Web identity fails by a variable that is missing, or by what the last entry of its part shows, and
+/// gives credentials where that shows no fault.
+pub fn web_identity_fails_by_its_last_entry()
+    ensures given { (conf : Configuration) (given : Option Given) (part : List Pair) (out : Result Keys Refusal) →
+        Reads (web_identity conf given) part out → result_err out ≡ why_web_identity conf given part }
+    ensures identity { (conf : Configuration) (base : List ℕ) (identity : Identity) (part : List Pair) (out : Result Keys Refusal) →
+        Reads (assumes_by_web_identity conf base identity) part out → result_err out ≡ option_and_then why_entry (last_or None part) }
+{}

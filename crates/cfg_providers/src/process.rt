@@ -1,0 +1,228 @@
+//! Credentials that a process prints.
+ghost use Rattle.std.specs.Prelude.{◌≡◌, IfOk, option_map, None, true, false};
+ghost use Rattle.cfg_values.specs.Text.{characters};
+ghost use Rattle.cfg_world.specs.Follows.{Follows};
+ghost use Rattle.cfg_world.specs.Leaves.{running};
+ghost use Rattle.cfg_providers.specs.Provides.{is_memory as is_memory_answer, Provides, Interrupted};
+ghost use Rattle.cfg_providers.specs.ProcessDocuments.{is_memory as is_memory_of, process_document};
+ghost use Rattle.cfg_providers.specs.Processes.{by_process, by_text, ended as ended_of, ran as ran_of, process_answer as process_answer_of, credential_process as credential_process_of, why_process};
+
+use crate::utf8::{text_in, utf8};
+use cfg_json::parse_credential_process_json_credentials;
+use cfg_types::{
+    AccountId, AwsCredentialFeature, CommandWithSensitiveArgs, Credentials, CredentialsError,
+    FailKind, Finished, InvalidJsonCredentials, OutOfMemory, ProcessCause, ProviderCause, Text,
+};
+use cfg_world::{Asking, Devices, Stop, World, run_command};
+use std::alloc::Global;
+use std::marker::Model;
+
+/// Runs this command, and answers the credentials that it prints. The account is the one that its
+/// document names, or else this one.
+#[tactic(auto, using(cfg_world::proofs::Inquiries::asking_steps, crate::proofs::QuietSteps::quiet_steps), unfolding(crate::specs::Processes::credential_process))]
+pub fn credential_process<A: Asking>(
+    alloc: Global,
+    command: &CommandWithSensitiveArgs,
+    account_id: Option<&AccountId>,
+    asking: &mut A,
+) -> Result<Result<Credentials, CredentialsError>, Stop>
+    ensures { Follows ⟦<A as Asking>⟧ (credential_process_of command.now (option_map (λ a. a.now) account_id.entry)) asking.old asking.new result }
+{
+    let finished = run(alloc, command, asking)?;
+    let answer = process_answer(alloc, finished, account_id)?;
+    Ok(answer)
+}
+
+#[tactic(auto, using(cfg_world::proofs::Inquiries::asking_steps))]
+fn run<A: Asking>(
+    alloc: Global,
+    command: &CommandWithSensitiveArgs,
+    asking: &mut A,
+) -> Result<Result<Finished, FailKind>, Stop>
+    ensures { Follows ⟦<A as Asking>⟧ (running command.now) asking.old asking.new result }
+{
+    let command = text_of(alloc, command)?;
+    run_command(alloc, command, asking)
+}
+
+fn text_of(alloc: Global, command: &CommandWithSensitiveArgs) -> Result<Text, OutOfMemory>
+    ensures { IfOk result (λ text. text ≡ command.now) }
+{
+    Text::of(alloc, command.unredacted())
+}
+
+#[tactic(auto, unfolding(crate::specs::Processes::process_answer))]
+fn process_answer(
+    alloc: Global,
+    finished: Result<Finished, FailKind>,
+    account_id: Option<&AccountId>,
+) -> Result<Result<Credentials, CredentialsError>, OutOfMemory>
+    ensures { IfOk result (λ r. process_answer_of (option_map (λ a. a.now) account_id.entry) finished ≡ r) }
+{
+    match ran(alloc, finished, account_id)? {
+        Ok(credentials) => Ok(Ok(credentials)),
+        Err(cause) => Ok(Err(CredentialsError::ProviderError(ProviderCause::Process(cause)))),
+    }
+}
+
+fn ran(
+    alloc: Global,
+    finished: Result<Finished, FailKind>,
+    account_id: Option<&AccountId>,
+) -> Result<Result<Credentials, ProcessCause>, OutOfMemory>
+    ensures { IfOk result (λ r. r ≡ ran_of (option_map (λ a. a.now) account_id.entry) finished) }
+{
+    match finished {
+        Ok(finished) => ended(alloc, &finished, account_id),
+        Err(_) => Ok(Err(ProcessCause::NotRun)),
+    }
+}
+
+fn ended(
+    alloc: Global,
+    finished: &Finished,
+    account_id: Option<&AccountId>,
+) -> Result<Result<Credentials, ProcessCause>, OutOfMemory>
+    ensures { IfOk result (λ r. r ≡ ended_of (option_map (λ a. a.now) account_id.entry) finished.now) }
+{
+    if finished.status == 0 {
+        return printed(alloc, utf8(finished.output.as_slice()), account_id);
+    }
+    let errors = text_in(alloc, finished.errors.as_slice())?;
+    Ok(Err(ProcessCause::Status {
+        code: finished.status,
+        errors,
+    }))
+}
+
+// What an output gives that is a text, or none.
+fn printed(
+    alloc: Global,
+    output: Option<&str>,
+    account_id: Option<&AccountId>,
+) -> Result<Result<Credentials, ProcessCause>, OutOfMemory>
+    ensures { IfOk result (λ r. r ≡ by_text (option_map (λ a. a.now) account_id.entry) (option_map (λ t. t.now) output.entry)) }
+{
+    let Some(text) = output else {
+        return Ok(Err(ProcessCause::NotUtf8));
+    };
+    match document(alloc, text, account_id)? {
+        Ok(credentials) => {
+            let credentials = mark(credentials)?;
+            Ok(Ok(credentials))
+        }
+        Err(error) => Ok(Err(ProcessCause::Document(error))),
+    }
+}
+
+fn is_memory(said: &Result<Credentials, InvalidJsonCredentials>) -> bool
+    ensures { result ≡ is_memory_of said.now }
+{
+    match said {
+        Err(InvalidJsonCredentials::OutOfMemory) => true,
+        _ => false,
+    }
+}
+
+// What the document of a process says, or why the text is none.
+fn document(
+    alloc: Global,
+    text: &str,
+    account_id: Option<&AccountId>,
+) -> Result<Result<Credentials, InvalidJsonCredentials>, OutOfMemory>
+    ensures { IfOk result (λ said. said ≡ process_document text.now (option_map (λ a. a.now) account_id.entry)) }
+{
+    let said = parse_credential_process_json_credentials(alloc, text, account_id);
+    if is_memory(&said) {
+        return Err(OutOfMemory);
+    }
+    Ok(said)
+}
+
+// Credentials that a process printed, marked as such.
+fn mark(credentials: Credentials) -> Result<Credentials, OutOfMemory>
+    ensures { IfOk result (λ c. c ≡ by_process credentials) }
+{
+    let mut credentials = credentials;
+    credentials.add_feature(AwsCredentialFeature::CredentialsProcess)?;
+    Ok(credentials)
+}
+
+/// Credentials by a process: a command that prints a document of them. Contracts see the command, and
+/// the account that its credentials are of where the document names none.
+pub struct CredentialProcessProvider {
+    alloc: Global,
+    command: CommandWithSensitiveArgs,
+    account_id: Option<AccountId>,
+}
+
+impl Drop for CredentialProcessProvider {
+    fn drop(self) {
+        let CredentialProcessProvider {
+            alloc: _,
+            command: _,
+            account_id: _,
+        } = self;
+    }
+}
+
+impl Model for CredentialProcessProvider {
+    ghost use Rattle.cfg_providers.specs.ProcessSetups.{ProcessSetup};
+
+    ghost Value = { ProcessSetup };
+
+    ghost view = { λ p. record { command = p.command; account_id = p.account_id } };
+}
+
+impl CredentialProcessProvider {
+    /// A provider over the command of this text, which a shell runs.
+    pub fn new(alloc: Global, command: &str) -> Result<CredentialProcessProvider, OutOfMemory>
+        ensures { IfOk result (λ p. p ≡ record { command = characters command.now; account_id = None }) }
+    {
+        let command = CommandWithSensitiveArgs::new(Text::of(alloc, command)?);
+        Ok(CredentialProcessProvider {
+            alloc,
+            command,
+            account_id: None,
+        })
+    }
+
+    /// With the account that its credentials are of where their document names none.
+    pub fn with_account_id(mut self, account_id: AccountId) -> CredentialProcessProvider
+        ensures { result ≡ record self { account_id = Some account_id } }
+    {
+        self.account_id = Some(account_id);
+        self
+    }
+
+    /// The body of [`Self::provide_credentials`], over anything that can be asked.
+    pub fn follow<A: Asking>(
+        &self,
+        asking: &mut A,
+    ) -> Result<Result<Credentials, CredentialsError>, Stop>
+        ensures { Follows ⟦<A as Asking>⟧ (credential_process_of self.now.command self.now.account_id) asking.old asking.new result }
+    {
+        credential_process(self.alloc, &self.command, self.account_id.as_ref(), asking)
+    }
+
+    /// Runs the command once, and answers the credentials that it prints.
+    ///
+    /// # Errors
+    ///
+    /// `ProviderError(Process)`: the command did not run (`NotRun`), it ended with a status other than
+    /// 0 (`Status`, with what it wrote to standard error where that is UTF-8), or what it printed is
+    /// not UTF-8 (`NotUtf8`) or no document of credentials (`Document`). `OutOfMemory` where memory
+    /// runs out. The journal then has gained the beginning of such a part.
+    pub fn provide_credentials<D: Devices>(
+        &self,
+        world: &mut World<D>,
+    ) -> Result<Credentials, CredentialsError>
+        ensures provides { is_memory_answer result ≡ false → Provides ⟦<D as Devices>⟧ (credential_process_of self.now.command self.now.account_id) (why_process self.now.account_id) world.old world.new result }
+        ensures stays { is_memory_answer result ≡ true → Interrupted ⟦<D as Devices>⟧ (credential_process_of self.now.command self.now.account_id) world.old world.new }
+    {
+        match self.follow(world) {
+            Ok(outcome) => outcome,
+            Err(_) => Err(CredentialsError::OutOfMemory),
+        }
+    }
+}

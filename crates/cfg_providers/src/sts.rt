@@ -1,0 +1,82 @@
+ghost use Rattle.std.specs.Prelude.{◌≡◌, IfOk, option_map};
+ghost use Rattle.cfg_values.specs.Text.{characters};
+ghost use Rattle.cfg_providers.specs.Sts.{behind_colon as behind, before_colon as before, fifth_part as fifth_part_of, account_of as reply_account, into_credentials as credentials_in};
+
+use cfg_types::{
+    AccountId, Credentials, CredentialsBuilder, OutOfMemory, StsReply, Text, TryCopy,
+    UnhandledCause,
+};
+use std::alloc::Global;
+
+/// The credentials of a reply, from the provider of this name. The account is the fifth part of the
+/// reply's ARN. A reply without credentials is refused, and so is an ARN of fewer parts.
+#[tactic(auto, unfolding(crate::specs::Sts::into_credentials))]
+pub fn into_credentials(
+    alloc: Global,
+    reply: &StsReply,
+    provider: &str,
+) -> Result<Result<Credentials, UnhandledCause>, OutOfMemory>
+    ensures { IfOk result (λ r. r ≡ credentials_in reply.now (characters provider.now)) }
+{
+    let Some(keys) = &reply.credentials else {
+        return Ok(Err(UnhandledCause::StsNoCredentials));
+    };
+    let account = match account_of(alloc, &reply.arn)? {
+        Ok(account) => account,
+        Err(cause) => return Ok(Err(cause)),
+    };
+    let token = keys.session_token.copy(alloc)?;
+    let id = keys.access_key_id.as_str();
+    let secret = keys.secret_access_key.as_str();
+    let mut builder = CredentialsBuilder::new(alloc, id, secret, provider)?;
+    builder
+        .set_session_token(Some(token))
+        .set_expiry(Some(keys.expiration))
+        .set_account_id(account);
+    Ok(Ok(builder.build()?))
+}
+
+fn account_of(
+    alloc: Global,
+    arn: &Option<Text>,
+) -> Result<Result<Option<AccountId>, UnhandledCause>, OutOfMemory>
+    ensures { IfOk result (λ r. r ≡ reply_account arn.now) }
+{
+    let Some(arn) = arn else {
+        return Ok(Ok(None));
+    };
+    if let Some(account) = fifth_part(arn.as_str()) {
+        let account = AccountId::new(alloc, account)?;
+        return Ok(Ok(Some(account)));
+    }
+    Ok(Err(UnhandledCause::StsArn(arn.copy(alloc)?)))
+}
+
+// The fifth part of an ARN, cut at each `:`.
+fn fifth_part(arn: &str) -> Option<&str>
+    ensures { option_map (λ p. p.now) result ≡ fifth_part_of arn.now }
+{
+    let rest = behind_colon(arn)?;
+    let rest = behind_colon(rest)?;
+    let rest = behind_colon(rest)?;
+    let rest = behind_colon(rest)?;
+    Some(before_colon(rest))
+}
+
+fn behind_colon(text: &str) -> Option<&str>
+    ensures { option_map (λ p. p.now) result ≡ behind text.now }
+{
+    match text.split_once(':') {
+        Some((_, rest)) => Some(rest),
+        None => None,
+    }
+}
+
+fn before_colon(text: &str) -> &str
+    ensures { result.now ≡ before text.now }
+{
+    match text.split_once(':') {
+        Some((first, _)) => first,
+        None => text,
+    }
+}

@@ -1,0 +1,9 @@
+//! The tests of cfg_providers, over public calls: what no clause says.
+#![tactic(auto)]
+
+#[cfg(test)]
+mod process;
+#[cfg(test)]
+mod setup;
+#[cfg(test)]
+mod web_identity;

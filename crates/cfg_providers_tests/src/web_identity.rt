@@ -1,0 +1,162 @@
+// What web identity gives, by its variables, its file and its reply.
+use crate::setup::{Outcome, Setup, answer_words, questions, set_up};
+use cfg_profile::ProviderConfig;
+use cfg_providers::{StaticConfiguration, WebIdentityTokenCredentialsProvider};
+use cfg_types::{OutOfMemory, Text};
+use cfg_world::{ScriptDevices, World};
+use std::alloc::Global;
+use std::test::Fail;
+
+fn static_configuration(alloc: Global) -> Result<StaticConfiguration, OutOfMemory> {
+    Ok(StaticConfiguration {
+        web_identity_token_file: Text::of(alloc, "/f")?,
+        role_arn: Text::of(alloc, "b")?,
+        session_name: Text::of(alloc, "n")?,
+    })
+}
+
+fn provider(
+    alloc: Global,
+    fixed: bool,
+    config: &ProviderConfig,
+) -> Result<WebIdentityTokenCredentialsProvider, OutOfMemory> {
+    let builder = WebIdentityTokenCredentialsProvider::builder(alloc)?.configure(config)?;
+    if fixed {
+        return builder
+            .static_configuration(static_configuration(alloc)?)
+            .build();
+    }
+    builder.build()
+}
+
+fn called(
+    alloc: Global,
+    fixed: bool,
+    config: &ProviderConfig,
+    devices: ScriptDevices,
+) -> Result<String, OutOfMemory> {
+    let provider = provider(alloc, fixed, config)?;
+    let mut world = World::new(alloc, devices);
+    let outcome = Outcome {
+        answer: provider.provide_credentials(&mut world),
+    };
+    let answer = answer_words(alloc, &outcome)?;
+    let questions = questions(alloc, world.journal())?;
+    Ok(format!(in alloc; "{answer}{questions}")?)
+}
+
+fn words_of(alloc: Global, fixed: bool, script: &str) -> Result<String, OutOfMemory> {
+    match set_up(alloc, script)? {
+        None => Ok(String::from_str(alloc, "no script")?),
+        Some(Setup { config, devices }) => called(alloc, fixed, &config, devices),
+    }
+}
+
+#[test]
+fn variables_of_web_identity(rt: HostRuntime) -> Result<(), Fail> {
+    let table: &[(&str, &str)] = &[
+        ("[]", "AWS_WEB_IDENTITY_TOKEN_FILE"),
+        (
+            r#"[["AWS_ROLE_ARN","a"],["AWS_WEB_IDENTITY_TOKEN_FILE",null]]"#,
+            "AWS_WEB_IDENTITY_TOKEN_FILE",
+        ),
+        (r#"[["AWS_WEB_IDENTITY_TOKEN_FILE",""]]"#, "AWS_ROLE_ARN"),
+        (
+            r#"[["AWS_WEB_IDENTITY_TOKEN_FILE","/j"],["AWS_ROLE_ARN",null]]"#,
+            "AWS_ROLE_ARN",
+        ),
+    ];
+    for (variables, want) in table {
+        let script = format!(in rt.alloc(); "{{\"variables\":{variables}}}")?;
+        let words = words_of(rt.alloc(), false, script.as_str())?;
+        let want = format!(in rt.alloc(); "CredentialsNotLoaded(NotSet(\"{want}\"))")?;
+        assert_eq!(rt; words.as_str(), want.as_str(), "{variables}");
+    }
+    Ok(())
+}
+
+const FROM_CLOCK: &str =
+    r#"Now Read { path: "/j" } Send(AssumeRoleWithWebIdentity(AssumeRoleWithWebIdentity { role_arn: "a", session_name: "web-identity-token-1000", secrets: "** redacted **" })) jwt"#;
+
+#[test]
+fn replies_to_web_identity(rt: HostRuntime) -> Result<(), Fail> {
+    let table: &[(&str, &str)] = &[
+        (
+            r#"{"id":"W","secret":"S","token":"T","expires":900}"#,
+            r#"Credentials { provider_name: "WebIdentityToken", access_key_id: "W", secret_access_key: "** redacted **", expires_after: 900 s 0 ns } S Some("T") [CredentialsProfileStsWebIdToken]"#,
+        ),
+        (
+            r#"{"id":"W","secret":"S","token":"T","expires":900,"arn":"a:b:c:d:7"}"#,
+            r#"Credentials { provider_name: "WebIdentityToken", access_key_id: "W", secret_access_key: "** redacted **", expires_after: 900 s 0 ns, account_id: "7" } S Some("T") [CredentialsProfileStsWebIdToken]"#,
+        ),
+        (
+            r#"{"id":"W","secret":"S","token":"T","expires":900,"arn":"a:b:c:d"}"#,
+            r#"Unhandled(StsArn("a:b:c:d"))"#,
+        ),
+        (
+            r#"{"id":"W","secret":"S","token":"T","expires":900,"arn":""}"#,
+            r#"Unhandled(StsArn(""))"#,
+        ),
+        ("null", "Unhandled(StsNoCredentials)"),
+        (r#""timeout""#, "ProviderError(Sent(Timeout))"),
+        (r#""dispatch""#, "ProviderError(Sent(Dispatch))"),
+        (
+            r#"{"refused":"RegionDisabled","message":"m"}"#,
+            r#"ProviderError(Refused(Refusal { kind: RegionDisabled, message: "m" }))"#,
+        ),
+        (
+            r#"{"refused":"Other","message":""}"#,
+            r#"ProviderError(Refused(Refusal { kind: Other, message: "" }))"#,
+        ),
+    ];
+    for (reply, want) in table {
+        let script = format!(in rt.alloc();
+            "{{\"variables\":[[\"AWS_WEB_IDENTITY_TOKEN_FILE\",\"/j\"],[\"AWS_ROLE_ARN\",\"a\"]],\"files\":[[\"/j\",\"jwt\"]],\"clock\":[1],\"replies\":{{\"web-identity\":[{reply}]}}}}"
+        )?;
+        let words = words_of(rt.alloc(), false, script.as_str())?;
+        let want = format!(in rt.alloc(); "{want} {FROM_CLOCK}")?;
+        assert_eq!(rt; words.as_str(), want.as_str(), "{reply}");
+    }
+    Ok(())
+}
+
+#[test]
+fn files_of_web_identity(rt: HostRuntime) -> Result<(), Fail> {
+    let names =
+        r#""variables":[["AWS_WEB_IDENTITY_TOKEN_FILE","/j"],["AWS_ROLE_ARN","a"],["AWS_ROLE_SESSION_NAME","s"]]"#;
+    let table: &[(bool, &str, &str)] = &[
+        (
+            false,
+            r#"[["/j",null]]"#,
+            r#"ProviderError(File("/j")) Read { path: "/j" }"#,
+        ),
+        (
+            false,
+            r#"[["/j",{"hex":"ff"}]]"#,
+            r#"Unhandled(NotUtf8) Read { path: "/j" }"#,
+        ),
+        (
+            false,
+            r#"[["/j",""]]"#,
+            r#"Unhandled(StsNoCredentials) Read { path: "/j" } Send(AssumeRoleWithWebIdentity(AssumeRoleWithWebIdentity { role_arn: "a", session_name: "s", secrets: "** redacted **" })) "#,
+        ),
+        (
+            true,
+            r#"[["/j","x"]]"#,
+            r#"ProviderError(File("/f")) Read { path: "/f" }"#,
+        ),
+        (
+            true,
+            r#"[["/f"," x\n"]]"#,
+            "Unhandled(StsNoCredentials) Read { path: \"/f\" } Send(AssumeRoleWithWebIdentity(AssumeRoleWithWebIdentity { role_arn: \"b\", session_name: \"n\", secrets: \"** redacted **\" }))  x\n",
+        ),
+    ];
+    for (fixed, files, want) in table {
+        let script = format!(in rt.alloc();
+            "{{{names},\"files\":{files},\"replies\":{{\"web-identity\":[null]}}}}"
+        )?;
+        let words = words_of(rt.alloc(), *fixed, script.as_str())?;
+        assert_eq!(rt; words.as_str(), *want, "{files}");
+    }
+    Ok(())
+}
