@@ -35,6 +35,7 @@ impl<T: FileToken> Record<T> {
         self.receipts.as_slice()
     }
 
+    /// The token that the load gave, or why it gave none.
     pub fn outcome(&self) -> &Result<T, T::Error>
         ensures { result.now ≡ self.now.outcome }
     {
@@ -107,6 +108,7 @@ impl<T: FileToken> Model for Load<T> {
 impl<T: FileToken> Load<T> {
     ghost use Rattle.cfg_token.specs.Histories.{IsTokenLoad};
 
+    /// The load that gave the token, from nothing kept.
     pub fn loaded_by(&self) -> &Record<T>
         ensures is { result.now ≡ self.now.loaded_by }
         ensures loaded { IsTokenLoad T.rules self.now }
@@ -114,12 +116,14 @@ impl<T: FileToken> Load<T> {
         &self.loaded_by
     }
 
+    /// The last attempt that was noted before this load.
     pub fn before(&self) -> Option<Instant>
         ensures { result ≡ self.now.before }
     {
         self.before
     }
 
+    /// The token that the load gave.
     pub fn token(&self) -> &T
         ensures { Some result.now ≡ token_of self.now }
     {
@@ -129,6 +133,7 @@ impl<T: FileToken> Load<T> {
         }
     }
 
+    /// A copy of the load, with its receipts.
     pub fn copy(&self, alloc: Global) -> Result<Load<T>, OutOfMemory>
         ensures { IfOk result (λ l. l ≡ self.now) }
     {

@@ -36,6 +36,7 @@ impl<T: FileToken> TokenState<T> {
         }
     }
 
+    /// Whose token it is.
     pub fn key(&self) -> &TokenKey
         ensures { result.now ≡ self.now.key }
     {
