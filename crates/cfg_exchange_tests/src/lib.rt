@@ -6,4 +6,6 @@ mod addresses;
 #[cfg(test)]
 mod attempts;
 #[cfg(test)]
+mod containers;
+#[cfg(test)]
 mod readings;
