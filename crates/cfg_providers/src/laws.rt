@@ -16,7 +16,7 @@ ghost use Rattle.cfg_providers.specs.Processes.{credential_process, why_process}
 ghost use Rattle.cfg_providers.specs.WebIdentities.{assumes_by_web_identity, web_identity, why_entry, why_web_identity};
 
 /// What the document of a process says is the one answer that its grammar and its table of fields
-/// allow, beside want of memory.
+/// allow, but for running out of memory.
 pub fn a_process_document_says_one_thing()
     ensures said { (account : Option (List ℕ)) (text : List ℕ) → AnswersDocument (IsProcessTable account) text (process_document text account) }
     ensures only { (account : Option (List ℕ)) (text : List ℕ) (answer : Read Keys) →

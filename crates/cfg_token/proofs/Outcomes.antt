@@ -49,7 +49,7 @@ pub gives_after : {A B : Type 0} (p : Inquiry A) (f : A → Inquiry B) (Q : List
 gives_after (Done x) f Q P g h = h [] x g
 gives_after (Ask q next) f Q P g h = λ a. gives_after (next a) f (λ J x. Q ((q, a) ∷ J) x) (λ J out. P ((q, a) ∷ J) out) (g a) (λ J x k. h ((q, a) ∷ J) x k)
 
--- no want of memory
+-- not that memory ran out
 abbrev pub NoMemory : {T E : Type 0} → Rules T E → Result T E → Type 0
 NoMemory t (Ok token) = Unit {0}
 NoMemory t (Err e) = t.is_memory e ≡ false
@@ -316,7 +316,7 @@ module _ {T E : Type 0} (t : Rules T E) (tells : Tells t) where
       first_is e = cc
   ends_after_reading kept last (x ∷ records) m (suc i) r at = ends_after_reading (ok_of x.outcome) (option_or x.noted last) records m.1 i r at
 
--- no section answers want of memory by its rules
+-- no section answers by its rules that memory ran out
 pub section_tells : {T E : Type 0} (t : Rules T E) → Tells t → (key : TokenKey) (env : Variables) (settings : CallSettings) (kept : Option T) (last : Option Moment) (J : List Pair) (s : Sectioned T E) →
     Reads (Sections.section t key env settings kept last) J s → is_memory t (Sections.answer_of s) ≡ false
 section_tells {T} {E} t tells key env settings kept last J s h = told J s (gives_reads (Sections.section t key env settings kept last) (λ J s. FairSection t last J s) J s (section_fair t tells key env settings kept last) h)

@@ -28,10 +28,10 @@ pub record Rules (T E : Type 0) : Type 0 where
   -- the bytes that are written for a new token; what comes of one that was not saved: an error, or nothing
   pub text : T → Option (List ℕ)
   pub unsaved : Unsaved → Option E
-  -- the error that stands for want of memory
+  -- whether an error says that memory ran out
   pub is_memory : E → Bool
 
--- No rule gives want of memory, and a new token ends after the reading at which it was asked for.
+-- No rule says that memory ran out, and a new token ends after the reading at which it was asked for.
 pub record Tells {T E : Type 0} (rules : Rules T E) : Type 0 where
   pub path : (key : TokenKey) (env : Variables) (e : E) → rules.path key env ≡ Err e → rules.is_memory e ≡ false
   pub reading : (bytes : List ℕ) (e : E) → rules.reading bytes ≡ Err e → rules.is_memory e ≡ false

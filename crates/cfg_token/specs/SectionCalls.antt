@@ -41,7 +41,7 @@ abbrev pub SectionFollows : {A T E : Type 0} → Rules T E → Ghosts A → Toke
 SectionFollows t a key env settings old before new later (Ok made) = SectionEnds t a key env settings old before new later made
 SectionFollows t a key env settings old before new later (Err stop) = SectionHalts t a key env settings old before new later stop
 
--- the answer is want of memory
+-- the answer is that memory ran out
 abbrev pub is_memory : {T E : Type 0} → Rules T E → Result T E → Bool
 is_memory t (Ok token) = false
 is_memory t (Err e) = t.is_memory e

@@ -93,7 +93,7 @@ pub trait FileToken: TryCopy {
     fn save_error(fault: Unsaved) -> Option<Self::Error>
         ensures { result ≡ rules.unsaved fault };
 
-    /// Want of memory.
+    /// The error where memory runs out.
     fn out_of_memory() -> Self::Error
         ensures { rules.is_memory result ≡ true };
 

@@ -91,11 +91,11 @@ impl<T: FileToken> TokenState<T> {
 
 /// Hands out the kept token while more than 300 seconds of it are left. Else the token's file is
 /// read, and its token refreshed where that is due. A finished load adds one record, whose receipts
-/// are the journal's new entries, and a hit adds none. After want of memory the state is as it was.
+/// are the journal's new entries, and a hit adds none. Where memory runs out the state is as it was.
 ///
 /// # Errors
 ///
-/// Those of the token's kind. The error that stands for want of memory comes where memory runs out,
+/// Those of the token's kind. That memory ran out is answered where it does,
 /// and each other one exactly where the rules of that kind give it over the journal's new entries.
 pub fn section<T: FileToken, D: Devices>(
     state: &mut TokenState<T>,
