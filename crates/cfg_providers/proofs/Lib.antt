@@ -1,4 +1,5 @@
 pub mod EnvironmentSteps
+pub mod EnvironmentFailures
 pub mod QuietSteps
 pub mod SessionSteps
 pub mod RoleSteps

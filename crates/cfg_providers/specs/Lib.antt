@@ -2,6 +2,7 @@ pub mod Gives
 pub mod Provides
 pub mod Utf8
 pub mod EnvironmentKeys
+pub mod EnvironmentCauses
 pub mod Sts
 pub mod SessionNames
 pub mod AssumeRole
