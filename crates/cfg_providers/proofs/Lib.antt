@@ -1,3 +1,4 @@
+pub mod CustomNames
 pub mod EnvironmentSteps
 pub mod EnvironmentFailures
 pub mod QuietSteps

@@ -1,6 +1,7 @@
 pub mod Gives
 pub mod Provides
 pub mod Utf8
+pub mod CustomSources
 pub mod EnvironmentKeys
 pub mod EnvironmentCauses
 pub mod Sts

@@ -181,6 +181,12 @@ impl EnvironmentVariableCredentialsProvider {
         ensures cause { is_memory result ≡ false → result_err result ≡ why_environment self.now }
         ensures world { _world.new ≡ _world.old }
     {
+        self.answer()
+    }
+
+    fn answer(&self) -> Result<Credentials, CredentialsError>
+        ensures { is_memory result ≡ false → environment self.now ≡ result }
+    {
         match environment_credentials(self.alloc, &self.env) {
             Ok(credentials) => Ok(credentials),
             Err(Halt::Refused(error)) => Err(error),

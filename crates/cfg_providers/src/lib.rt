@@ -4,6 +4,7 @@
 #![tactic(auto)]
 
 pub mod assume_role;
+pub mod custom;
 pub mod environment;
 pub mod laws;
 pub mod process;
@@ -14,6 +15,9 @@ mod utf8;
 pub mod web_identity_token;
 
 pub use assume_role::assume_roles;
+pub use custom::{
+    CustomProvider, CustomSource, ProvideCredentials, custom_source, names_of, provide_by_name,
+};
 pub use environment::{
     EnvironmentVariableCredentialsProvider, environment_credentials, follow_environment,
 };

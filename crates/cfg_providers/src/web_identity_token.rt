@@ -219,7 +219,15 @@ fn with_token<A: Asking>(
     match token {
         Err(error) => Ok(Err(error)),
         Ok(token) => {
-            let answer = send(alloc, config, policies, identity, session_name, token, asking)?;
+            let answer = send(
+                alloc,
+                config,
+                policies,
+                identity,
+                session_name,
+                token,
+                asking,
+            )?;
             let outcome = identity_answer(alloc, answer)?;
             Ok(outcome)
         }
