@@ -2,6 +2,12 @@
 #![tactic(auto)]
 
 #[cfg(test)]
+mod account;
+#[cfg(test)]
+mod custom;
+#[cfg(test)]
+mod environment;
+#[cfg(test)]
 mod process;
 #[cfg(test)]
 mod setup;
