@@ -9,6 +9,10 @@ use Rattle.cfg_profile.specs.Laws.{lowered}
 use Rattle.cfg_profile.specs.NamedSources.{is_named, is_custom}
 use Rattle.cfg_providers.specs.CustomSources.{last_named}
 
+or_either : (a b c : Bool) → ((a || b) || c) ≡ (a || (b || c))
+or_either true b c = refl
+or_either false b c = refl
+
 module _ {A : Type 0} where
   pub named_in_any_case : (sources : List (List ℕ × A)) (name other : List ℕ) → lowered name ≡ lowered other → last_named name sources ≡ last_named other sources
   named_in_any_case sources name other h = ap (λ bytes. fold (λ found s. if bytes_eq (lowered s.0) bytes then Some s.1 else found) None sources) h
@@ -26,10 +30,6 @@ module _ {A : Type 0} where
   found_more true (Some x) answer = refl
   found_more false None answer = refl
   found_more false (Some x) answer = refl
-
-  or_either : (a b c : Bool) → ((a || b) || c) ≡ (a || (b || c))
-  or_either true b c = refl
-  or_either false b c = refl
 
   found_from : (name : List ℕ) (found : Option A) (sources : List (List ℕ × A)) →
       is_some (fold (step name) found sources) ≡ (is_some found || is_custom (map (λ s. s.0) sources) name)

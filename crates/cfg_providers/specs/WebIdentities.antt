@@ -28,7 +28,6 @@ use Rattle.cfg_world.specs.Inquiry.{Inquiry, Done, after}
 use Rattle.cfg_world.specs.Leaves.{reading_file, assuming_by_web_identity, granted_of}
 use Rattle.cfg_profile.specs.Configuration.{Configuration}
 use Rattle.cfg_profile.specs.Settings.{settings_of}
-use Rattle.cfg_providers.specs.declared.session_policies.SessionPolicies.{SessionPolicies}
 use Rattle.cfg_providers.specs.declared.web_identity_token.WebIdentity.{WebIdentity}
 use Rattle.cfg_providers.specs.declared.web_identity_token.StaticConfiguration.{StaticConfiguration}
 use Rattle.cfg_providers.specs.EnvironmentKeys.{not_set}
@@ -74,14 +73,14 @@ token_in file (Err kind) = Err (ProviderError (cause.File file))
 unfoldable pub identity_token : List ℕ → Inquiry (Result (List ℕ) CredentialsError)
 identity_token file = after (reading_file file) (λ contents. Done (token_in file contents))
 
--- the request with this token, for a session of this name and these policies
-abbrev pub request : Configuration → SessionPolicies → WebIdentity → List ℕ → List ℕ → AssumeRoleWithWebIdentity
-request conf policies identity name token = record {
+-- the request with this token, for a session of this name
+abbrev pub request : Configuration → WebIdentity → List ℕ → List ℕ → AssumeRoleWithWebIdentity
+request conf identity name token = record {
   role_arn = identity.role_arn;
   session_name = name;
   token = token;
-  policy = policies.policy;
-  policy_arns = policies.policy_arns;
+  policy = None;
+  policy_arns = None;
   settings = settings_of conf;
 }
 
@@ -100,24 +99,24 @@ identity_answer (Err (Refused refusal)) = Err (ProviderError (cause.Refused refu
 identity_answer (Ok reply) = or_unhandled (into_credentials reply (codes "WebIdentityToken"))
 
 -- one request with the token, where there is one
-unfoldable pub with_token : Configuration → SessionPolicies → WebIdentity → List ℕ → Result (List ℕ) CredentialsError → Inquiry (Result Keys CredentialsError)
-with_token conf policies identity name (Err e) = Done (Err e)
-with_token conf policies identity name (Ok token) = after (assuming_by_web_identity (request conf policies identity name token)) (λ given. Done (identity_answer given))
+unfoldable pub with_token : Configuration → WebIdentity → List ℕ → Result (List ℕ) CredentialsError → Inquiry (Result Keys CredentialsError)
+with_token conf identity name (Err e) = Done (Err e)
+with_token conf identity name (Ok token) = after (assuming_by_web_identity (request conf identity name token)) (λ given. Done (identity_answer given))
 
-abbrev pub with_name : Configuration → SessionPolicies → WebIdentity → List ℕ → Inquiry (Result Keys CredentialsError)
-with_name conf policies identity name = after (identity_token identity.web_identity_token_file) (with_token conf policies identity name)
+abbrev pub with_name : Configuration → WebIdentity → List ℕ → Inquiry (Result Keys CredentialsError)
+with_name conf identity name = after (identity_token identity.web_identity_token_file) (with_token conf identity name)
 
 -- A name for the session, then the file, then one request. A name that is made begins with base.
-unfoldable pub assumes_by_web_identity : Configuration → SessionPolicies → List ℕ → WebIdentity → Inquiry (Result Keys CredentialsError)
-assumes_by_web_identity conf policies base identity = after (session_name base identity.session_name) (with_name conf policies identity)
+unfoldable pub assumes_by_web_identity : Configuration → List ℕ → WebIdentity → Inquiry (Result Keys CredentialsError)
+assumes_by_web_identity conf base identity = after (session_name base identity.session_name) (with_name conf identity)
 
-abbrev pub by_identity : Configuration → SessionPolicies → Result WebIdentity CredentialsError → Inquiry (Result Keys CredentialsError)
-by_identity conf policies (Err e) = Done (Err e)
-by_identity conf policies (Ok identity) = assumes_by_web_identity conf policies (codes "web-identity-token") identity
+abbrev pub by_identity : Configuration → Result WebIdentity CredentialsError → Inquiry (Result Keys CredentialsError)
+by_identity conf (Err e) = Done (Err e)
+by_identity conf (Ok identity) = assumes_by_web_identity conf (codes "web-identity-token") identity
 
 -- the given web identity, or else that of the environment
-unfoldable pub web_identity : Configuration → SessionPolicies → Option StaticConfiguration → Inquiry (Result Keys CredentialsError)
-web_identity conf policies given = by_identity conf policies (identity_of conf.environment given)
+unfoldable pub web_identity : Configuration → Option StaticConfiguration → Inquiry (Result Keys CredentialsError)
+web_identity conf given = by_identity conf (identity_of conf.environment given)
 
 -- Why the contents of a file are no token.
 abbrev pub why_text : Option (List ℕ) → Option CredentialsError

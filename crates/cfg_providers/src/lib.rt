@@ -9,7 +9,6 @@ pub mod environment;
 pub mod laws;
 pub mod process;
 pub mod session_name;
-pub mod session_policies;
 pub mod sts;
 mod utf8;
 pub mod web_identity_token;
@@ -23,7 +22,6 @@ pub use environment::{
 };
 pub use process::{CredentialProcessProvider, credential_process};
 pub use session_name::default_session_name;
-pub use session_policies::SessionPolicies;
 pub use sts::{into_credentials, parse_account_id};
 pub use web_identity_token::{
     StaticConfiguration, WebIdentity, WebIdentityTokenCredentialsProvider, assume_by_web_identity,

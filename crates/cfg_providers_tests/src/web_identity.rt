@@ -2,8 +2,8 @@
 use crate::setup::{Outcome, Setup, answer_words, questions, set_up};
 use cfg_profile::ProviderConfig;
 use cfg_providers::{StaticConfiguration, WebIdentityTokenCredentialsProvider};
-use cfg_types::{OutOfMemory, Request, Text};
-use cfg_world::{Question, ScriptDevices, World};
+use cfg_types::{OutOfMemory, Text};
+use cfg_world::{ScriptDevices, World};
 use std::alloc::Global;
 use std::test::Fail;
 
@@ -158,48 +158,5 @@ fn files_of_web_identity(rt: HostRuntime) -> Result<(), Fail> {
         let words = words_of(rt.alloc(), *fixed, script.as_str())?;
         assert_eq!(rt; words.as_str(), *want, "{files}");
     }
-    Ok(())
-}
-
-// The policies of the requests of one call.
-fn policies_of(
-    alloc: Global,
-    config: &ProviderConfig,
-    devices: ScriptDevices,
-) -> Result<String, OutOfMemory> {
-    let mut arns = Vec::new(alloc);
-    arns.push(String::from_str(alloc, "arn:1")?)?;
-    arns.push(String::from_str(alloc, "arn:2")?)?;
-    let provider = WebIdentityTokenCredentialsProvider::builder(alloc)?
-        .configure(config)?
-        .policy("{}")?
-        .policy_arns(arns)?
-        .build()?;
-    let mut world = World::new(alloc, devices);
-    let _outcome = Outcome {
-        answer: provider.provide_credentials(&mut world),
-    };
-    let mut words = String::new(alloc);
-    for entry in world.journal() {
-        if let Question::Send(Request::AssumeRoleWithWebIdentity(request)) = entry.question() {
-            let policy = &request.policy;
-            let arns = &request.policy_arns;
-            let sent = format!(in alloc; "{policy:?} {arns:?}")?;
-            words.push_str(sent.as_str())?;
-        }
-    }
-    Ok(words)
-}
-
-#[test]
-fn policies_of_web_identity(rt: HostRuntime) -> Result<(), Fail> {
-    let alloc = rt.alloc();
-    let script =
-        r#"{"variables":[["AWS_WEB_IDENTITY_TOKEN_FILE","/j"],["AWS_ROLE_ARN","a"],["AWS_ROLE_SESSION_NAME","s"]],"files":[["/j","jwt"]],"replies":{"web-identity":[null]}}"#;
-    let words = match set_up(alloc, script)? {
-        None => String::from_str(alloc, "no script")?,
-        Some(Setup { config, devices }) => policies_of(alloc, &config, devices)?,
-    };
-    assert_eq!(rt; words.as_str(), r#"Some("{}") Some(["arn:1", "arn:2"])"#);
     Ok(())
 }
