@@ -1,0 +1,4 @@
+pub mod Kinds
+pub mod KeptInquiry
+pub mod Holds
+pub mod Beginnings
