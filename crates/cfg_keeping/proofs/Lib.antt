@@ -5,3 +5,4 @@ pub mod Told
 pub mod Agreeing
 pub mod Beginnings
 pub mod OneHolding
+pub mod SsoSteps

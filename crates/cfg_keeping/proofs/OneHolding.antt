@@ -1,5 +1,5 @@
 -- One holding of a kept value.
-use Rattle.std.proofs.Common.{◌≡◌, List, [], ◌∷◌, ◌++◌, Ok, Err, Option, Some, None, IfSome, refl, sym, ◌∙◌, ap, subst, append-nil}
+use Rattle.std.proofs.Common.{◌≡◌, List, [], ◌∷◌, ◌++◌, Result, Ok, Err, Option, Some, None, IfSome, refl, sym, ◌∙◌, ap, subst, append-nil}
 use Rattle.cfg_world.specs.declared.ask.Question.{Question}
 use Rattle.cfg_world.specs.declared.asking.Asking.{Ghosts}
 use Rattle.cfg_world.specs.declared.asking.Stop.{Stop}
@@ -9,11 +9,11 @@ use Rattle.cfg_world.specs.Inquiry as low
 use Rattle.cfg_world.specs.Inquiry.{Inquiry}
 use Rattle.cfg_world.specs.Follows.{Ends, Halts}
 use Rattle.cfg_world.proofs.Counts.{Same-refl, Counted-none}
-use Rattle.cfg_keeping.specs.Kinds.{Spot, Value, States, spot_of}
+use Rattle.cfg_keeping.specs.Kinds.{Spot, Value, States, spot_of, value_at, with_value}
 use Rattle.cfg_keeping.specs.KeptInquiry.{KeptInquiry, Gives, Finds, Leaves, Runs, Asks, Begins, StandsIn, leave, lift, onwards}
-use Rattle.cfg_keeping.specs.Holds.{Holdings, held, HoldsFound, leaves_in, HoldsEnds, HoldsBreaks, HoldsHalts, HoldsOne, left_by, holding}
+use Rattle.cfg_keeping.specs.Holds.{Holdings, held, HoldsFound, leaves_in, HoldsEnds, HoldsBreaks, HoldsHalts, HoldsFollows, HoldsOne, left_by, holding}
 use Rattle.cfg_keeping.proofs.Trees.{runs_then, asks_first, begins_first, begins_here, lift_runs, lift_asks, lift_begins}
-use Rattle.cfg_keeping.proofs.Told.{leaves_same}
+use Rattle.cfg_keeping.proofs.Told.{leaves_same, run_begins}
 
 holding_open : {R T : Type 0} (spot : Spot) (at : T → Value) (body : Value → Inquiry (R × T)) (f : Value) (kept : Option States) (journal : List Pair) (left : Option Question) → spot_of f ≡ spot → StandsIn kept f →
     IfSome left (low.AsksNext (body f) journal) → IfSome left (λ q. Asks (holding spot at body) kept (f ∷ []) journal q kept)
@@ -90,8 +90,9 @@ module _ {W : Type 0} (w : Ghosts W) {R T : Type 0} (spot : Spot) (at : T → Va
 
 module _ {W : Type 0} (w : Ghosts W) where
   -- memory ran out before anything was found
-  pub nothing_held : {R : Type 0} (p : KeptInquiry R) (old : W) (found later : List Value) (was is : Value) → is ≡ was → later ≡ found → HoldsOne w p old old found later was is (Err OutOfMemory)
-  nothing_held p old found later was is same e = λ kept stands. record {
+  pub nothing_held : {R : Type 0} (p : KeptInquiry R) (old : W) (found later : List Value) (was is : Value) (result : Result R Stop) → result ≡ Err OutOfMemory → is ≡ was → later ≡ found →
+      HoldsOne w p old old found later was is result
+  nothing_held p old found later was is result out same e = λ kept stands. subst (λ r. HoldsFollows w p old (held found kept) old (held later (leave kept is)) r) (sym out) (record {
     part = [];
     grows = sym (append-nil (w.journal old));
     fits = tt;
@@ -101,6 +102,29 @@ module _ {W : Type 0} (w : Ghosts W) where
     found = [];
     finds = e ∙ sym (append-nil found);
     begins = subst (λ k. Begins p kept [] [] k) (sym (ap (leave kept) same ∙ leaves_same kept was stands)) (begins_here p kept);
+  })
+
+  -- one holding, where the kept states are told
+  pub one_told : {K R : Type 0} (key : Option K) (p : K → KeptInquiry R) (old new : W) (found later : List Value) (was is : Value) (result : Result R Stop) (states : States) → was ≡ value_at states (spot_of was) →
+      IfSome key (λ k. HoldsOne w (p k) old new found later was is result) →
+      IfSome key (λ k. HoldsFollows w (p k) old (held found (Some states)) new (held later (Some (with_value states is))) result)
+  one_told None p old new found later was is result states stands h = h
+  one_told (Some k) p old new found later was is result states stands h = h (Some states) stands
+
+  -- a call that came to an end has begun
+  pub ended_breaks : {K R : Type 0} (key : Option K) (p : K → KeptInquiry R) (old new : W) (before later : Holdings) (out : R) →
+      IfSome key (λ k. HoldsEnds w (p k) old before new later out) → IfSome key (λ k. HoldsBreaks w (p k) old before new later)
+  ended_breaks None p old new before later out h = h
+  ended_breaks (Some k) p old new before later out h = record {
+    part = h.part;
+    grows = h.grows;
+    fits = h.fits;
+    made = h.made;
+    same = h.same;
+    counted = h.counted;
+    found = h.found;
+    finds = h.finds;
+    begins = run_begins (p k) before.kept later.kept h.found h.part out h.runs;
   }
 
   -- a value that was left
