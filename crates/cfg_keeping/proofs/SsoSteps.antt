@@ -14,7 +14,7 @@ use Rattle.cfg_token.specs.declared.token_key.TokenKey.{TokenKey}
 use Rattle.cfg_token.specs.declared.sso_token.CachedSsoToken.{CachedSsoToken}
 use Rattle.cfg_token.specs.declared.sections.Sectioned.{Sectioned}
 use Rattle.cfg_token.specs.declared.sections.Sectioned.TheVariants.{Hit, Load}
-use Rattle.cfg_token.specs.Sections.{section, answer_of, ok_of}
+use Rattle.cfg_token.specs.Sections.{answer_of, ok_of}
 use Rattle.cfg_token.specs.Histories.{Told, TokenLoad, History, token_in, kept_in, load_in, kept_by, with_section}
 use Rattle.cfg_token.specs.SectionCalls.{section_on, SectionEnds}
 use Rattle.cfg_token.specs.SsoTokens.{Given, sso_rules}

@@ -5,7 +5,7 @@ use Rattle.cfg_token.specs.declared.token_key.TokenKey.{TokenKey}
 use Rattle.cfg_token.specs.declared.sso_token.CachedSsoToken.{CachedSsoToken}
 use Rattle.cfg_token.specs.declared.state.TokenState.{TokenState}
 use Rattle.cfg_token.specs.SsoTokens.{is_sso}
-use Rattle.cfg_keeping.specs.Kinds.{KeptToken, States}
+use Rattle.cfg_keeping.specs.Kinds.{KeptToken}
 use Rattle.cfg_keeping.specs.SsoHoldings.{kept_of}
 
 -- the state of a token of IAM Identity Center, or else a key of another kind, or neither

@@ -1,5 +1,5 @@
 -- One holding of the section of a token of IAM Identity Center.
-use Rattle.std.specs.Prelude.{Option, Some, None, Result}
+use Rattle.std.specs.Prelude.{Result}
 use Rattle.cfg_types.specs.Environment.{Variables}
 use Rattle.cfg_types.specs.declared.settings.CallSettings.{CallSettings}
 use Rattle.cfg_world.specs.Inquiry.{Inquiry, Done, after}
