@@ -10,3 +10,4 @@ pub mod ProcessSetups
 pub mod Processes
 pub mod WebIdentities
 pub mod WebIdentitySetups
+pub mod ContainerSetups

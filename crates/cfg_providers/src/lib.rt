@@ -1,9 +1,10 @@
-//! Providers of credentials, each over anything that can be asked. It stands on cfg_profile, cfg_world
-//! and cfg_json. The layers above may use that a provider asks what its tree of questions asks, in that
-//! order, and answers what the tree says over their answers.
+//! Providers of credentials, each over anything that can be asked. It stands on cfg_profile, cfg_world,
+//! cfg_json and cfg_exchange. The layers above may use that a provider asks what its tree of questions
+//! asks, in that order, and answers what the tree says over their answers.
 #![tactic(auto)]
 
 pub mod assume_role;
+pub mod ecs;
 pub mod environment;
 pub mod laws;
 pub mod process;
@@ -13,6 +14,7 @@ mod utf8;
 pub mod web_identity_token;
 
 pub use assume_role::assume_roles;
+pub use ecs::EcsCredentialsProvider;
 pub use environment::environment_credentials;
 pub use process::{CredentialProcessProvider, credential_process};
 pub use session_name::default_session_name;
