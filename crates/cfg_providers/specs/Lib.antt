@@ -12,3 +12,4 @@ pub mod ProcessSetups
 pub mod Processes
 pub mod WebIdentities
 pub mod WebIdentitySetups
+pub mod ContainerSetups

@@ -1,10 +1,11 @@
-//! Providers of credentials, each over anything that can be asked. It stands on cfg_profile, cfg_world
-//! and cfg_json. The layers above may use that a provider asks what its tree of questions asks, in that
-//! order, and answers what the tree says over their answers.
+//! Providers of credentials, each over anything that can be asked. It stands on cfg_profile, cfg_world,
+//! cfg_json and cfg_exchange. The layers above may use that a provider asks what its tree of questions
+//! asks, in that order, and answers what the tree says over their answers.
 #![tactic(auto)]
 
 pub mod assume_role;
 pub mod custom;
+pub mod ecs;
 pub mod environment;
 pub mod laws;
 pub mod process;
@@ -17,6 +18,7 @@ pub use assume_role::assume_roles;
 pub use custom::{
     CustomProvider, CustomSource, ProvideCredentials, custom_source, names_of, provide_by_name,
 };
+pub use ecs::EcsCredentialsProvider;
 pub use environment::{
     EnvironmentVariableCredentialsProvider, environment_credentials, follow_environment,
 };
