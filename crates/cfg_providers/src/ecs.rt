@@ -173,10 +173,10 @@ impl EcsCredentialsProvider {
     /// what the variables name: that of [`Self::container_uri`].
     pub fn follow_named<A: Asking>(
         &self,
-        named: ContainerUri,
+        named: &ContainerUri,
         asking: &mut A,
     ) -> Result<Result<Credentials, CredentialsError>, Stop>
-        ensures { Follows ⟦<A as Asking>⟧ (asks_container self.now named) asking.old asking.new result }
+        ensures { Follows ⟦<A as Asking>⟧ (asks_container self.now named.now) asking.old asking.new result }
     {
         let settings = self.settings();
         follow_container(self.alloc, self.config.env(), &settings, named, asking)
