@@ -21,7 +21,7 @@ mod walk;
 pub use cfg_types::{OutOfMemory, ProfileFileError};
 pub use chain::{BaseProvider, ProfileChain, RoleArn};
 pub use generated::generated_set;
-pub use plan::{plan_of, plan_of_profile};
+pub use plan::{is_named, plan_of, plan_of_profile};
 pub use provider_config::{ProviderConfig, selected_name};
 pub use region::{region_of, region_of_profile};
 pub use resolve::{chain_of_profile, resolve_chain};

@@ -116,7 +116,9 @@ fn is_built_in(name: &Text) -> bool
     false
 }
 
-fn is_named(name: &Text, source: &Text) -> bool
+/// Whether this is the name of a source, ASCII case of letters apart. Every other byte counts, blanks
+/// too.
+pub fn is_named(name: &Text, source: &Text) -> bool
     ensures { result ≡ named name.now source.now }
 {
     is_alike(name, source.as_str())
