@@ -4,6 +4,7 @@
 #![tactic(auto)]
 
 pub mod assume_role;
+pub mod custom;
 pub mod environment;
 pub mod laws;
 pub mod process;
@@ -13,10 +14,15 @@ mod utf8;
 pub mod web_identity_token;
 
 pub use assume_role::assume_roles;
-pub use environment::environment_credentials;
+pub use custom::{
+    CustomProvider, CustomSource, ProvideCredentials, custom_source, names_of, provide_by_name,
+};
+pub use environment::{
+    EnvironmentVariableCredentialsProvider, environment_credentials, follow_environment,
+};
 pub use process::{CredentialProcessProvider, credential_process};
 pub use session_name::default_session_name;
-pub use sts::into_credentials;
+pub use sts::{into_credentials, parse_account_id};
 pub use web_identity_token::{
     StaticConfiguration, WebIdentity, WebIdentityTokenCredentialsProvider, assume_by_web_identity,
     web_identity,
