@@ -4,6 +4,8 @@
 #[cfg(test)]
 mod account;
 #[cfg(test)]
+mod container;
+#[cfg(test)]
 mod custom;
 #[cfg(test)]
 mod environment;
