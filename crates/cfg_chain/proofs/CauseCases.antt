@@ -27,11 +27,12 @@ use Rattle.cfg_chain.specs.declared.member.Turn.TheVariants.{PassedOver, Answers
 use Rattle.cfg_profile.specs.Configuration.{Configuration}
 use Rattle.cfg_values.specs.Gives.{◌>>=◌}
 use Rattle.cfg_providers.specs.EnvironmentKeys.{required_by, secret_or, optional, usable, is_not_unicode, environment}
+use Rattle.cfg_providers.specs.EnvironmentCauses.{environment_is_passed_over, unreadable_variable, named_variable, is_not_loaded_answer}
 use Rattle.cfg_chain.specs.Members.{member_inquiry, is_not_loaded, turn}
 use Rattle.cfg_chain.specs.Chains.{Attempts, none_loaded}
 use Rattle.cfg_chain.specs.Resolves.{Resolves, IsPassedOver}
-use Rattle.cfg_chain.specs.PassedOver.{is_passed_over, environment_is_passed_over, plan_is_passed_over}
-use Rattle.cfg_chain.specs.Causes.{HasCause, unreadable_variable, fault_of_plan, first_failure, named_variable, is_not_loaded_answer, told_fault, fault_of_cause, tells_role, is_of_role, is_memory}
+use Rattle.cfg_chain.specs.PassedOver.{is_passed_over, plan_is_passed_over}
+use Rattle.cfg_chain.specs.Causes.{HasCause, fault_of_plan, first_failure, told_fault, fault_of_cause, tells_role, is_of_role, is_memory}
 use Rattle.cfg_chain.proofs.RoleCauses.{Derived, derived}
 
 abbrev id_name : List ℕ

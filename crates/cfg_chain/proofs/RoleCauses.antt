@@ -17,7 +17,8 @@ use Rattle.cfg_profile.specs.declared.chain.RoleArn.{RoleArn}
 use Rattle.cfg_profile.specs.Configuration.{Configuration}
 use Rattle.cfg_providers.specs.SessionNames.{session_name}
 use Rattle.cfg_providers.specs.AssumeRole.{role_session, request, granted, in_role, exchange, assumes, assumes_roles}
-use Rattle.cfg_chain.specs.Causes.{error_of, exchange_failure, first_failure, named_variable, is_not_loaded_answer, told_fault, tells_role}
+use Rattle.cfg_chain.specs.Causes.{error_of, exchange_failure, first_failure, told_fault, tells_role}
+use Rattle.cfg_providers.specs.EnvironmentCauses.{named_variable, is_not_loaded_answer}
 
 -- the answer of one role
 record Assumed (part : List Pair) (out : Result Keys CredentialsError) : Type 0 where

@@ -29,8 +29,9 @@ use Rattle.cfg_providers.specs.EnvironmentKeys.{usable, is_not_unicode}
 use Rattle.cfg_profile.specs.Configuration.{Configuration}
 use Rattle.cfg_chain.specs.profile.Plans.{plan}
 use Rattle.cfg_chain.specs.Resolves.{default_members}
-use Rattle.cfg_chain.specs.PassedOver.{is_passed_over, environment_is_passed_over, plan_is_passed_over}
-use Rattle.cfg_chain.specs.Causes.{HasCause, error_of, exchange_failure, first_failure, unreadable_variable, fault_of_plan, fault}
+use Rattle.cfg_chain.specs.PassedOver.{is_passed_over, plan_is_passed_over}
+use Rattle.cfg_chain.specs.Causes.{HasCause, error_of, exchange_failure, first_failure, fault_of_plan, fault}
+use Rattle.cfg_providers.specs.EnvironmentCauses.{environment_is_passed_over, unreadable_variable}
 use Rattle.cfg_chain.specs.Valid.{colons, HasFiveParts, HoldsCredentials, IsUsable, IsGranted, HasTexts, HoldsKeys, IsValid}
 use Rattle.cfg_chain.proofs.CauseCases.{passed_by, stopped_by}
 

@@ -3,7 +3,7 @@ use Rattle.std.specs.Option.{option_or}
 use Rattle.std.specs.Prelude.{◌≡◌, ℕ, List, [], ◌∷◌, Bool, true, false, not, ◌&&◌, Option, Some, None, IfSome, is_some, is_none, option_and_then, is_ok, Result, Ok, Err, codes, if◌then◌else◌}
 use Rattle.std.specs.List.{list_all}
 use Rattle.cfg_types.specs.Keys.{Keys}
-use Rattle.cfg_types.specs.Classes.{is_of_class, configuration_cause, provider_cause, unhandled_cause}
+use Rattle.cfg_types.specs.Classes.{is_of_class, configuration_cause, provider_cause}
 use Rattle.cfg_types.specs.declared.errors.Class.TheVariants as class
 use Rattle.cfg_types.specs.declared.errors.CredentialsError.{CredentialsError}
 use Rattle.cfg_types.specs.declared.errors.CredentialsError.TheOpen.{ProviderCause-F}
@@ -12,9 +12,6 @@ use Rattle.cfg_types.specs.declared.errors.ProviderCause.{ProviderCause, out-Pro
 use Rattle.cfg_types.specs.declared.errors.ConfigCause.{ConfigCause}
 use Rattle.cfg_types.specs.declared.errors.ConfigCause.TheVariants as config
 use Rattle.cfg_types.specs.declared.errors.ProfileFileError.{ProfileFileError}
-use Rattle.cfg_types.specs.declared.errors.UnhandledCause.{UnhandledCause}
-use Rattle.cfg_types.specs.declared.errors.UnhandledCause.TheVariants as unhandled
-use Rattle.cfg_types.specs.Environment.{Variables, variable}
 use Rattle.cfg_world.specs.declared.ask.Question.{Question}
 use Rattle.cfg_world.specs.declared.ask.Question.TheVariants.{Send}
 use Rattle.cfg_world.specs.declared.ask.Answer.{Answer}
@@ -23,17 +20,12 @@ use Rattle.cfg_types.specs.Replies.{sts_in}
 use Rattle.cfg_world.specs.Leaves.{granted_of}
 use Rattle.cfg_chain.specs.declared.profile.plan.KeyPlan.{KeyPlan}
 use Rattle.cfg_profile.specs.Configuration.{Configuration}
-use Rattle.cfg_chain.specs.Members.{is_not_loaded}
 use Rattle.cfg_chain.specs.Resolves.{default_members}
 use Rattle.cfg_chain.specs.profile.Plans.{plan}
 use Rattle.cfg_chain.specs.profile.Profiles.{is_not_loaded_error}
-use Rattle.cfg_chain.specs.PassedOver.{is_passed_over, environment_is_passed_over, needs_older_secret}
+use Rattle.cfg_chain.specs.PassedOver.{is_passed_over}
 use Rattle.cfg_providers.specs.AssumeRole.{granted, in_role}
-use Rattle.cfg_providers.specs.EnvironmentKeys.{usable, is_not_unicode}
-
--- a variable whose value is no text
-abbrev pub is_unreadable : Variables → List ℕ → Bool
-is_unreadable env name = is_none (usable (variable env name)) && is_not_unicode (variable env name)
+use Rattle.cfg_providers.specs.EnvironmentCauses.{environment_is_passed_over, unreadable_variable, is_not_loaded_answer, named_variable}
 
 -- what is wrong with the selected profile
 abbrev pub fault_of_plan : Result KeyPlan ProfileFileError → Option ProfileFileError
@@ -59,21 +51,6 @@ abbrev pub first_failure : List Pair → Option CredentialsError
 first_failure [] = None
 first_failure (e ∷ part) = option_or (exchange_failure e.0 e.1) (first_failure part)
 
--- the variable that stops the environment, since it is not Unicode
-abbrev pub unreadable_variable : Variables → Option (List ℕ)
-unreadable_variable env =
-    if is_unreadable env (codes "AWS_ACCESS_KEY_ID") then Some (codes "AWS_ACCESS_KEY_ID")
-    else (if needs_older_secret env && is_unreadable env (codes "SECRET_ACCESS_KEY") then Some (codes "SECRET_ACCESS_KEY") else None)
-
-abbrev pub variable_of_cause : UnhandledCause → Option (List ℕ)
-variable_of_cause (unhandled.NotUnicode name) = Some name
-variable_of_cause _ = None
-
--- the variable that an answer names as not Unicode
-abbrev pub named_variable : Result Keys CredentialsError → Option (List ℕ)
-named_variable (Ok keys) = None
-named_variable (Err e) = option_and_then variable_of_cause (unhandled_cause e)
-
 abbrev pub fault_of_cause : ConfigCause → Option ProfileFileError
 fault_of_cause (config.Profile e) = Some e
 fault_of_cause _ = None
@@ -95,11 +72,6 @@ is_of_role (Some cause) = is_role_cause (out-ProviderCause cause)
 abbrev pub tells_role : Result Keys CredentialsError → Bool
 tells_role (Ok keys) = false
 tells_role (Err e) = is_of_role (provider_cause e)
-
--- whether an answer says that nothing was loaded
-abbrev pub is_not_loaded_answer : Result Keys CredentialsError → Bool
-is_not_loaded_answer (Ok keys) = false
-is_not_loaded_answer (Err e) = is_not_loaded e
 
 -- whether memory ran out
 abbrev pub is_memory : Result Keys CredentialsError → Bool

@@ -11,7 +11,7 @@ ghost use Rattle.cfg_profile.specs.Configuration.{Configuration};
 ghost use Rattle.cfg_profile.specs.NamedSources.{IsPlan};
 ghost use Rattle.cfg_profile.specs.SectionSets.{SectionSets};
 ghost use Rattle.cfg_chain.specs.profile.Plans.{Planned, profile_plan};
-ghost use Rattle.cfg_chain.specs.Causes.{is_not_loaded_answer};
+ghost use Rattle.cfg_providers.specs.EnvironmentCauses.{is_not_loaded_answer};
 ghost use Rattle.cfg_chain.specs.Members.{member_inquiry};
 ghost use Rattle.cfg_chain.specs.PassedOver.{is_passed_over};
 ghost use Rattle.cfg_chain.specs.Chains.{Attempts, chain};

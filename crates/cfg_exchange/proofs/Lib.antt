@@ -10,3 +10,7 @@ pub mod Checks
 pub mod Naming
 pub mod Causes
 pub mod ContainerSteps
+pub mod OneUri
+pub mod OnePlace
+pub mod Unset
+pub mod SafeRequests

@@ -2,6 +2,7 @@
 use Rattle.std.specs.Option.{option_or}
 use Rattle.std.specs.Prelude.{ℕ, List, [], ◌∷◌, Bool, Option, Some, None, option_map, Result, Ok, Err, if◌then◌else◌}
 use Rattle.std.specs.List.{list_all}
+use Rattle.std.specs.Result.{result_err}
 use Rattle.std.specs.Str.{encode_utf8_all}
 use Rattle.cfg_values.specs.declared.address.Address.{Address}
 use Rattle.cfg_types.specs.Environment.{Variables}
@@ -26,11 +27,6 @@ use Rattle.cfg_exchange.specs.declared.full_uri.FullUri.TheVariants.{Unreadable,
 use Rattle.cfg_exchange.specs.Addresses.{is_allowed}
 use Rattle.cfg_exchange.specs.HeaderValues.{is_header_value}
 use Rattle.cfg_exchange.specs.Containers.{token_file, token_text, answer_keys}
-
--- why an answer gives no credentials
-abbrev pub error_of : {A : Type 0} → Result A CredentialsError → Option CredentialsError
-error_of (Ok given) = None
-error_of (Err e) = Some e
 
 -- ---- what a part was answered
 
@@ -107,7 +103,7 @@ address_fault dns (uri.Full text named) part = option_map (λ e. InvalidConfigur
 
 abbrev pub fault_of_answer : Option Answer → Option CredentialsError
 fault_of_answer None = None
-fault_of_answer (Some answer) = error_of (answer_keys answer)
+fault_of_answer (Some answer) = result_err (answer_keys answer)
 
 -- why the last attempt gives no credentials
 abbrev pub answer_fault : List Pair → Option CredentialsError

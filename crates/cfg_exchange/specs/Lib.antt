@@ -11,3 +11,5 @@ pub mod AllowedTargets
 pub mod Validates
 pub mod Containers
 pub mod ContainerCauses
+pub mod ContainerUnset
+pub mod ContainerRequests

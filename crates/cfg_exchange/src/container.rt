@@ -18,7 +18,7 @@ use cfg_json::JsonCredentials;
 use cfg_types::{
     AccountId, AwsCredentialFeature, Bytes, ConfigCause, Credentials, CredentialsBuilder,
     CredentialsError, Env, FailKind, Http, HttpReply, InvalidFullUriError, NotLoadedCause,
-    OutOfMemory, ProviderCause, Reply, Request, Seq, Text, Timeouts, UnhandledCause,
+    OutOfMemory, ProviderCause, Reply, Request, Seq, Text, Timeouts, TryCopy, UnhandledCause,
 };
 use cfg_world::{Answer, Asking, Receipt, Stop, read_file};
 use std::alloc::Global;
@@ -56,6 +56,20 @@ impl Drop for ContainerUri {
             ContainerUri::NoRelative(_) => {}
             ContainerUri::Full { uri: _, named: _ } => {}
         }
+    }
+}
+
+impl TryCopy for ContainerUri {
+    fn copy(&self, alloc: Global) -> Result<ContainerUri, OutOfMemory> {
+        Ok(match self {
+            ContainerUri::NotSet => ContainerUri::NotSet,
+            ContainerUri::Relative(target) => ContainerUri::Relative(target.copy(alloc)?),
+            ContainerUri::NoRelative(text) => ContainerUri::NoRelative(text.copy(alloc)?),
+            ContainerUri::Full { uri, named } => ContainerUri::Full {
+                uri: uri.copy(alloc)?,
+                named: named.copy(alloc)?,
+            },
+        })
     }
 }
 
@@ -360,8 +374,22 @@ fn fetch_keys<A: Asking>(
 }
 
 /// The credentials, where it is known what the variables name, as `container_credentials` gives them.
-#[tactic(auto, using(crate::proofs::ContainerSteps::container_steps))]
+#[tactic(auto, using(cfg_world::proofs::Inquiries::asking_steps))]
 pub fn follow_container<A: Asking>(
+    alloc: Global,
+    env: &Env,
+    settings: &ContainerSettings,
+    named: &ContainerUri,
+    asking: &mut A,
+) -> Result<Result<Credentials, CredentialsError>, Stop>
+    ensures { Follows ⟦<A as Asking>⟧ (container_of env.now settings.now named.now) asking.old asking.new result }
+{
+    let named = named.copy(alloc)?;
+    follow_uri(alloc, env, settings, named, asking)
+}
+
+#[tactic(auto, using(crate::proofs::ContainerSteps::container_steps))]
+fn follow_uri<A: Asking>(
     alloc: Global,
     env: &Env,
     settings: &ContainerSettings,
@@ -410,5 +438,5 @@ pub fn container_credentials<A: Asking>(
     ensures { FollowsContainer ⟦<A as Asking>⟧ env.now settings.now asking.old asking.new result }
 {
     let named = container_uri(alloc, env)?;
-    follow_container(alloc, env, settings, named, asking)
+    follow_uri(alloc, env, settings, named, asking)
 }

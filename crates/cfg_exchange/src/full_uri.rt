@@ -12,7 +12,7 @@ ghost use Rattle.cfg_exchange.specs.Validates.{FollowsText, is_memory, Validates
 
 use crate::addresses::is_full_uri_ip_allowed;
 use crate::target::{Target, full_target};
-use cfg_types::{Address, FailKind, InvalidFullUriError, OutOfMemory, Seq, Text};
+use cfg_types::{Address, FailKind, InvalidFullUriError, OutOfMemory, Seq, Text, TryCopy};
 use cfg_world::{Asking, Devices, Stop, World, look_up};
 use http_uri::{Uri, UriError};
 use std::alloc::Global;
@@ -46,6 +46,25 @@ impl Drop for FullUri {
             } => {}
             FullUri::AtName { target: _, host: _ } => {}
         }
+    }
+}
+
+impl TryCopy for FullUri {
+    fn copy(&self, alloc: Global) -> Result<FullUri, OutOfMemory> {
+        Ok(match self {
+            FullUri::Unreadable => FullUri::Unreadable,
+            FullUri::Hostless => FullUri::Hostless,
+            FullUri::Schemeless => FullUri::Schemeless,
+            FullUri::Secure(target) => FullUri::Secure(target.copy(alloc)?),
+            FullUri::AtAddress { target, address } => FullUri::AtAddress {
+                target: target.copy(alloc)?,
+                address: *address,
+            },
+            FullUri::AtName { target, host } => FullUri::AtName {
+                target: target.copy(alloc)?,
+                host: host.copy(alloc)?,
+            },
+        })
     }
 }
 

@@ -1,5 +1,7 @@
 //! Laws, each on a call that carries it.
-ghost use Rattle.std.specs.Prelude.{◌≡◌, ◌≢◌, ◌↔◌, ℕ, ◌+◌, Bool, List, Result, Ok, Err};
+ghost use Rattle.std.specs.Prelude.{◌≡◌, ◌≢◌, ◌↔◌, ℕ, ◌+◌, Bool, true, List, Result, Ok, Err};
+ghost use Rattle.std.specs.List.{AllByRecursion};
+ghost use Rattle.std.specs.Result.{result_err};
 ghost use Rattle.cfg_types.specs.Keys.{Keys};
 ghost use Rattle.cfg_types.specs.Environment.{Variables};
 ghost use Rattle.cfg_types.specs.declared.errors.CredentialsError.{CredentialsError as Refusal};
@@ -9,7 +11,7 @@ ghost use Rattle.cfg_json.specs.Documents.{Read, AnswersDocument, IsTable};
 ghost use Rattle.cfg_world.specs.declared.ask.Question.{Question};
 ghost use Rattle.cfg_world.specs.declared.ask.Answer.{Answer};
 ghost use Rattle.cfg_world.specs.Fits.{Pair};
-ghost use Rattle.cfg_world.specs.Inquiry.{Reads};
+ghost use Rattle.cfg_world.specs.Inquiry.{Reads, Begun};
 ghost use Rattle.cfg_exchange.specs.Documents.{document};
 ghost use Rattle.cfg_exchange.specs.Attempts.{attempts, Attempts};
 ghost use Rattle.cfg_exchange.specs.declared.target.Target.{Target as TargetGiven};
@@ -19,8 +21,10 @@ ghost use Rattle.cfg_exchange.specs.Targets.{full_target};
 ghost use Rattle.cfg_exchange.specs.AllowedTargets.{IsAllowedTarget};
 ghost use Rattle.cfg_exchange.specs.declared.container.ContainerSettings.{ContainerSettings as Settings};
 ghost use Rattle.cfg_exchange.specs.declared.container.ContainerUri.{ContainerUri as Place};
-ghost use Rattle.cfg_exchange.specs.Containers.{container};
-ghost use Rattle.cfg_exchange.specs.ContainerCauses.{error_of, why_container};
+ghost use Rattle.cfg_exchange.specs.Containers.{IsContainerUri, container};
+ghost use Rattle.cfg_exchange.specs.ContainerCauses.{why_container};
+ghost use Rattle.cfg_exchange.specs.ContainerUnset.{is_not_loaded, IsUnset};
+ghost use Rattle.cfg_exchange.specs.ContainerRequests.{look_ups, IsSafeQuestion};
 
 /// The journal of an exchange is attempts of its request, and the other way round: at least one and at
 /// most the limit, all of the same question. All but the last are repeated; the last is not, or the
@@ -45,9 +49,30 @@ pub fn a_target_is_allowed()
         IsFullUri text named → Reads (full_target dns named) part (Ok target) → IsAllowedTarget text part target }
 {}
 
+/// The text of a full address names one thing, and the variables one address of a container.
+pub fn a_container_has_one_address()
+    ensures full { (text : List ℕ) (a b : Named) → IsFullUri text a → IsFullUri text b → a ≡ b }
+    ensures variables { (env : Variables) (a b : Place) → IsContainerUri env a → IsContainerUri env b → a ≡ b }
+{}
+
 /// A container's answer has its cause in the variables and in the part, and it gives credentials
 /// exactly where there is none: the token, else the address, else the last answer.
 pub fn a_container_has_its_cause()
     ensures { (env : Variables) (settings : Settings) (place : Place) (part : List Pair) (out : Result Keys Refusal) →
-        Reads (container env settings place) part out → error_of out ≡ why_container env settings place part }
+        Reads (container env settings place) part out → result_err out ≡ why_container env settings place part }
+{}
+
+/// A container is passed over exactly where nothing is wrong with its token, neither address can be
+/// read, and the token's file at most was read.
+pub fn a_container_is_passed_over_where_no_address_is_set()
+    ensures { (env : Variables) (settings : Settings) (place : Place) (part : List Pair) (out : Result Keys Refusal) →
+        IsContainerUri env place → Reads (container env settings place) part out → (is_not_loaded out ≡ true) ↔ IsUnset env part }
+{}
+
+/// Each request of a container goes to the agent of Amazon ECS, or to the target of the full address
+/// that its variable holds. That is HTTPS, or its host is an allowed address, or a name that has
+/// allowed addresses alone by a look-up in the same part. It holds of a part that has only begun, too.
+pub fn a_container_asks_safe_targets()
+    ensures { (env : Variables) (settings : Settings) (place : Place) (part : List Pair) →
+        IsContainerUri env place → Begun (container env settings place) part → AllByRecursion (λ e. IsSafeQuestion env (look_ups part) e.0) part }
 {}

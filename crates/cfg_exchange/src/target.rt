@@ -4,7 +4,7 @@ ghost use Rattle.http_uri.specs.ByteClasses.{framed_text};
 ghost use Rattle.http_uri.specs.Uri.{uri_scheme, uri_data, uri_path, uri_query};
 ghost use Rattle.cfg_exchange.specs.FullUris.{path_and_query as path_and_query_of, without_slash as without_slash_of, relative_at, full_at, IsRelativeUri};
 
-use cfg_types::{OutOfMemory, Text};
+use cfg_types::{OutOfMemory, Text, TryCopy};
 use http_uri::{Uri, UriError};
 use std::alloc::Global;
 
@@ -32,6 +32,15 @@ impl Target {
     {
         let Target { endpoint, path } = self;
         (endpoint, path)
+    }
+}
+
+impl TryCopy for Target {
+    fn copy(&self, alloc: Global) -> Result<Target, OutOfMemory> {
+        Ok(Target {
+            endpoint: self.endpoint.copy(alloc)?,
+            path: self.path.copy(alloc)?,
+        })
     }
 }
 

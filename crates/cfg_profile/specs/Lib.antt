@@ -4,6 +4,7 @@ pub mod LastUnder
 pub mod SectionSets
 pub mod Configuration
 pub mod Selected
+pub mod Settings
 pub mod Properties
 pub mod StaticKeys
 pub mod SignOn

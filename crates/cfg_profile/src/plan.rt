@@ -116,14 +116,16 @@ fn is_built_in(name: &Text) -> bool
     false
 }
 
-fn is_named(name: &Text, source: &Text) -> bool
+/// Whether this is the name of a source, ASCII case of letters apart. Every other byte counts, blanks
+/// too.
+pub fn is_named(name: &Text, source: &Text) -> bool
     ensures { result ≡ named name.now source.now }
 {
     is_alike(name, source.as_str())
 }
 
-// Whether this is the name, ASCII case apart.
-fn is_alike(name: &Text, source: &str) -> bool
+/// Whether this is the name of the source, ASCII case of letters apart. Blanks count.
+pub fn is_alike(name: &Text, source: &str) -> bool
     ensures { result ≡ alike name.now source.now }
 {
     source.eq_ignore_ascii_case(name.as_str())

@@ -5,17 +5,25 @@ ghost use Rattle.cfg_profile.specs.Configuration.{nothing_configured};
 ghost use Rattle.cfg_profile.specs.Selected.{selected_name as selected_name_of};
 
 use crate::sections::{ProfileSet, ProfileSource};
-use cfg_types::{Env, OutOfMemory, Region, TryCopy, copy_option};
+use cfg_types::{
+    BehaviorVersion, Env, OutOfMemory, Region, RetryConfig, Timeouts, TryCopy, copy_option,
+};
 use std::alloc::Global;
 use std::marker::Model;
 
-/// What providers are given: environment variables, sections, the name of a profile, a region, and
-/// whether they may sleep between attempts. Each call changes what it is named for, and nothing else.
+/// What providers are given: environment variables, sections, the name of a profile, a region, how
+/// calls are sent, and whether they may sleep between attempts. Each call changes what it is named for,
+/// and nothing else.
 pub struct ProviderConfig {
     env: Env,
     profiles: ProfileSource,
     profile_name: Option<String>,
     region: Option<Region>,
+    use_fips: Option<bool>,
+    use_dual_stack: Option<bool>,
+    retry_config: Option<RetryConfig>,
+    timeout_config: Option<Timeouts>,
+    behavior_version: Option<BehaviorVersion>,
     sleep: bool,
 }
 
@@ -26,6 +34,11 @@ impl Drop for ProviderConfig {
             profiles: _,
             profile_name: _,
             region: _,
+            use_fips: _,
+            use_dual_stack: _,
+            retry_config: _,
+            timeout_config: _,
+            behavior_version: _,
             sleep: _,
         } = self;
     }
@@ -44,12 +57,17 @@ impl Model for ProviderConfig {
       profiles = c.profiles;
       profile_name = option_map (λ s. string_bytes s) c.profile_name;
       region = c.region;
+      use_fips = c.use_fips;
+      use_dual_stack = c.use_dual_stack;
+      retry_config = c.retry_config;
+      timeout_config = c.timeout_config;
+      behavior_version = c.behavior_version;
       sleep = c.sleep;
     } };
 }
 
 impl ProviderConfig {
-    /// No variables, no sections, no region, and no sleep.
+    /// No variables, no sections, no region, no settings of calls, and no sleep.
     pub fn empty(alloc: Global) -> Result<ProviderConfig, OutOfMemory>
         ensures { IfOk result (λ c. c ≡ nothing_configured false) }
     {
@@ -63,11 +81,16 @@ impl ProviderConfig {
             )?),
             profile_name: None,
             region: None,
+            use_fips: None,
+            use_dual_stack: None,
+            retry_config: None,
+            timeout_config: None,
+            behavior_version: None,
             sleep: false,
         })
     }
 
-    /// No variables, no sections and no region. Providers may sleep.
+    /// No variables, no sections, no region and no settings of calls. Providers may sleep.
     pub fn without_region(alloc: Global) -> Result<ProviderConfig, OutOfMemory>
         ensures { IfOk result (λ c. c ≡ nothing_configured true) }
     {
@@ -111,6 +134,49 @@ impl ProviderConfig {
         self
     }
 
+    /// Whether calls go to endpoints that are validated by FIPS 140, or none.
+    pub fn with_use_fips(mut self, use_fips: Option<bool>) -> ProviderConfig
+        ensures { result ≡ record self { use_fips = use_fips } }
+    {
+        self.use_fips = use_fips;
+        self
+    }
+
+    /// Whether calls go to endpoints of both IPv4 and IPv6, or none.
+    pub fn with_use_dual_stack(mut self, use_dual_stack: Option<bool>) -> ProviderConfig
+        ensures { result ≡ record self { use_dual_stack = use_dual_stack } }
+    {
+        self.use_dual_stack = use_dual_stack;
+        self
+    }
+
+    /// How often calls are tried.
+    pub fn with_retry_config(mut self, retry_config: RetryConfig) -> ProviderConfig
+        ensures { result ≡ record self { retry_config = Some retry_config } }
+    {
+        self.retry_config = Some(retry_config);
+        self
+    }
+
+    /// The limits of time of calls.
+    pub fn with_timeout_config(mut self, timeout_config: Timeouts) -> ProviderConfig
+        ensures { result ≡ record self { timeout_config = Some timeout_config } }
+    {
+        self.timeout_config = Some(timeout_config);
+        self
+    }
+
+    /// With this behavior version, or none.
+    pub fn with_behavior_version(
+        mut self,
+        behavior_version: Option<BehaviorVersion>,
+    ) -> ProviderConfig
+        ensures { result ≡ record self { behavior_version = behavior_version } }
+    {
+        self.behavior_version = behavior_version;
+        self
+    }
+
     /// Whether providers may sleep between attempts.
     pub fn with_sleep_impl(mut self, sleep: bool) -> ProviderConfig
         ensures { result ≡ record self { sleep = sleep } }
@@ -150,6 +216,41 @@ impl ProviderConfig {
         self.region.as_ref()
     }
 
+    /// Whether calls go to endpoints that are validated by FIPS 140, where that was said.
+    pub fn use_fips(&self) -> Option<bool>
+        ensures { result ≡ self.now.use_fips }
+    {
+        self.use_fips
+    }
+
+    /// Whether calls go to endpoints of both IPv4 and IPv6, where that was said.
+    pub fn use_dual_stack(&self) -> Option<bool>
+        ensures { result ≡ self.now.use_dual_stack }
+    {
+        self.use_dual_stack
+    }
+
+    /// How often calls are tried, where that was said.
+    pub fn retry_config(&self) -> Option<&RetryConfig>
+        ensures { option_map (λ r. r.now) result ≡ self.now.retry_config }
+    {
+        self.retry_config.as_ref()
+    }
+
+    /// The limits of time of calls, where they were said.
+    pub fn timeout_config(&self) -> Option<&Timeouts>
+        ensures { option_map (λ t. t.now) result ≡ self.now.timeout_config }
+    {
+        self.timeout_config.as_ref()
+    }
+
+    /// The behavior version, where there is one.
+    pub fn behavior_version(&self) -> Option<BehaviorVersion>
+        ensures { result ≡ self.now.behavior_version }
+    {
+        self.behavior_version
+    }
+
     /// Whether providers may sleep between attempts.
     pub fn sleep_impl(&self) -> bool
         ensures { result ≡ self.now.sleep }
@@ -186,6 +287,11 @@ impl TryCopy for ProviderConfig {
             profiles,
             profile_name,
             region,
+            use_fips: self.use_fips,
+            use_dual_stack: self.use_dual_stack,
+            retry_config: self.retry_config,
+            timeout_config: self.timeout_config,
+            behavior_version: self.behavior_version,
             sleep: self.sleep,
         })
     }

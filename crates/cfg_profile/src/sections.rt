@@ -2,6 +2,7 @@ ghost use Rattle.std.specs.Prelude.{◌≡◌, ◌↔◌, IsTrue, IfOk, map, opt
 ghost use Rattle.std.specs.Option.{option_copied};
 ghost use Rattle.std.specs.FinMap.{get as entry_of, len};
 ghost use Rattle.cfg_values.specs.Entries.{each_set};
+ghost use Rattle.cfg_values.specs.Text.{characters};
 ghost use Rattle.std.specs.Str.{str_eq_ignore_ascii_case};
 ghost use Rattle.cfg_profile.specs.Sections.{bytes_of, property, text_property as text_property_of, named_section, last_match};
 
@@ -61,6 +62,19 @@ impl Section {
         ensures { result.now ≡ self.now.name }
     {
         self.name.as_str()
+    }
+
+    /// The section's name, and a message that tells of it.
+    pub(crate) fn with_message(
+        &self,
+        alloc: Global,
+        message: &str,
+    ) -> Result<(Text, Text), OutOfMemory>
+        ensures { IfOk result (λ told. told ≡ (characters self.now.name, characters message.now)) }
+    {
+        let name = Text::of(alloc, self.name())?;
+        let message = Text::of(alloc, message)?;
+        Ok((name, message))
     }
 
     /// The value of a key, where it is there.

@@ -3,7 +3,7 @@ ghost use Rattle.std.specs.Prelude.{◌≡◌, IfOk, codes};
 ghost use Rattle.cfg_values.specs.Gives.{Gives};
 ghost use Rattle.cfg_types.specs.declared.errors.ProfileFileError.TheVariants.{OutOfMemory as memory};
 ghost use Rattle.cfg_profile.specs.Sections.{text_property as text_of};
-ghost use Rattle.cfg_profile.specs.SignOn.{has_sign_on as by_sign_on, invalid_sign_on as invalid_of, missing_setting as missing_of, missing_session as missing_session_of, sign_on_by as sign_on_of_settings, sign_on_at as sign_on_in, sign_on_of_session as sign_on_of, single_sign_on as single_sign_on_of};
+ghost use Rattle.cfg_profile.specs.SignOn.{has_sign_on as by_sign_on, invalid_sign_on as invalid_sign_on_of, missing_setting as missing_of, missing_session as missing_session_of, sign_on_by as sign_on_of_settings, sign_on_at as sign_on_in, sign_on_of_session as sign_on_of, single_sign_on as single_sign_on_of};
 
 use crate::chain::BaseProvider;
 use crate::keys::has_key;
@@ -126,10 +126,9 @@ fn invalid_sign_on(
     section: &Section,
     message: &str,
 ) -> Result<ProfileFileError, OutOfMemory>
-    ensures { IfOk result (λ e. e ≡ invalid_of section.now message.now) }
+    ensures { IfOk result (λ e. e ≡ invalid_sign_on_of section.now message.now) }
 {
-    let profile = Text::of(alloc, section.name())?;
-    let message = Text::of(alloc, message)?;
+    let (profile, message) = section.with_message(alloc, message)?;
     Ok(ProfileFileError::InvalidSsoConfig { profile, message })
 }
 
@@ -140,8 +139,7 @@ fn missing_setting(
 ) -> Result<ProfileFileError, OutOfMemory>
     ensures { IfOk result (λ e. e ≡ missing_of section.now message.now) }
 {
-    let profile = Text::of(alloc, section.name())?;
-    let message = Text::of(alloc, message)?;
+    let (profile, message) = section.with_message(alloc, message)?;
     Ok(ProfileFileError::MissingProfile { profile, message })
 }
 

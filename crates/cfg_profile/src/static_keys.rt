@@ -47,7 +47,6 @@ pub(crate) fn invalid(
 ) -> Result<ProfileFileError, OutOfMemory>
     ensures { IfOk result (λ e. e ≡ invalid_of section.now message.now) }
 {
-    let profile = Text::of(alloc, section.name())?;
-    let message = Text::of(alloc, message)?;
+    let (profile, message) = section.with_message(alloc, message)?;
     Ok(ProfileFileError::InvalidCredentialSource { profile, message })
 }

@@ -1,6 +1,6 @@
 use crate::sets::set_of;
-use cfg_profile::{OutOfMemory, ProfileSource, ProviderConfig, selected_name};
-use cfg_types::{Env, EnvText, Region, Text, TryCopy};
+use cfg_profile::{OutOfMemory, ProfileSource, ProviderConfig, call_settings, selected_name};
+use cfg_types::{BehaviorVersion, Env, EnvText, Region, RetryConfig, Text, Timeouts, TryCopy};
 use std::alloc::Global;
 use std::test::Fail;
 
@@ -43,6 +43,43 @@ fn configurations(rt: HostRuntime) -> Result<(), Fail> {
     assert_eq!(rt;
         words.as_str(),
         "n Some(\"n\") Some(\"r\") true Some(\"refused\")"
+    );
+    Ok(())
+}
+
+// How calls are sent, with the behavior version.
+fn call_words(alloc: Global, config: &ProviderConfig) -> Result<String, OutOfMemory> {
+    let settings = call_settings(alloc, config)?;
+    let version = config.behavior_version();
+    Ok(format!(in alloc; "{settings:?} {version:?}")?)
+}
+
+#[test]
+fn settings_of_calls(rt: HostRuntime) -> Result<(), Fail> {
+    let alloc = rt.alloc();
+    let config = ProviderConfig::without_region(alloc)?;
+    let words = call_words(alloc, &config)?;
+    assert_eq!(rt;
+        words.as_str(),
+        "CallSettings { region: None, use_fips: None, use_dual_stack: None, max_attempts: 3, timeouts: Timeouts { connect_ms: None, read_ms: None, operation_ms: None, attempt_ms: None } } None"
+    );
+    let config = config
+        .with_region(Some(Region::new(alloc, "r")?))
+        .with_use_fips(Some(true))
+        .with_use_dual_stack(Some(false))
+        .with_retry_config(RetryConfig { max_attempts: 0 })
+        .with_timeout_config(Timeouts {
+            connect_ms: Some(1),
+            read_ms: Some(2),
+            operation_ms: None,
+            attempt_ms: Some(4),
+        })
+        .with_behavior_version(Some(BehaviorVersion(5)))
+        .copy(alloc)?;
+    let words = call_words(alloc, &config)?;
+    assert_eq!(rt;
+        words.as_str(),
+        "CallSettings { region: Some(\"r\"), use_fips: Some(true), use_dual_stack: Some(false), max_attempts: 0, timeouts: Timeouts { connect_ms: Some(1), read_ms: Some(2), operation_ms: None, attempt_ms: Some(4) } } Some(BehaviorVersion(5))"
     );
     Ok(())
 }

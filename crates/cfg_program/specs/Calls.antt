@@ -44,6 +44,11 @@ configured_by variables profiles selected sleep = record {
   profiles = profiles;
   profile_name = selected;
   region = None;
+  use_fips = None;
+  use_dual_stack = None;
+  retry_config = None;
+  timeout_config = None;
+  behavior_version = None;
   sleep = sleep;
 }
 

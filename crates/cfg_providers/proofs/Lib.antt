@@ -1,4 +1,6 @@
+pub mod CustomNames
 pub mod EnvironmentSteps
+pub mod EnvironmentFailures
 pub mod QuietSteps
 pub mod SessionSteps
 pub mod RoleSteps

@@ -7,30 +7,19 @@ use Rattle.cfg_types.specs.declared.errors.ProviderCause.TheVariants as cause
 use Rattle.cfg_types.specs.declared.errors.UnhandledCause.{UnhandledCause}
 use Rattle.cfg_types.specs.declared.reply.sts.StsReply.{StsReply}
 use Rattle.cfg_types.specs.declared.request.sts.AssumeRole.{AssumeRole}
-use Rattle.cfg_types.specs.declared.settings.CallSettings.{CallSettings}
 use Rattle.cfg_world.specs.Inquiry.{Inquiry, Done, after, ◌>>=◌}
 use Rattle.cfg_world.specs.declared.leaves.NotGranted.{NotGranted}
 use Rattle.cfg_world.specs.declared.leaves.NotGranted.TheVariants.{Failed, Refused}
 use Rattle.cfg_world.specs.Leaves.{assuming}
 use Rattle.cfg_profile.specs.declared.chain.RoleArn.{RoleArn}
 use Rattle.cfg_profile.specs.Configuration.{Configuration}
+use Rattle.cfg_profile.specs.Settings.{settings_of}
 use Rattle.cfg_providers.specs.SessionNames.{session_name}
 use Rattle.cfg_providers.specs.Sts.{into_credentials}
 
 -- what the names begin with of sessions that were given none
 abbrev pub role_session : List ℕ
 role_session = codes "assume-role-from-profile"
-
--- How the calls of a configuration are sent: in three attempts at most, as many as the standard retry
--- mode of the AWS SDKs makes.
-abbrev pub settings_of : Configuration → CallSettings
-settings_of conf = record {
-  region = conf.region;
-  use_fips = None;
-  use_dual_stack = None;
-  max_attempts = 3;
-  timeouts = record { connect_ms = None; read_ms = None; operation_ms = None; attempt_ms = None };
-}
 
 -- the request for a role's session of this name
 abbrev pub request : Configuration → RoleArn → Keys → List ℕ → AssumeRole

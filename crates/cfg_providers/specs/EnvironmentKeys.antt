@@ -11,6 +11,7 @@ use Rattle.cfg_types.specs.Keys.{Keys}
 use Rattle.cfg_values.specs.WhiteSpace.{trimmed, is_blank}
 use Rattle.cfg_types.specs.Environment.{Variables, variable}
 use Rattle.cfg_values.specs.Gives.{◌>>=◌}
+use Rattle.cfg_world.specs.Inquiry.{Inquiry, Done}
 
 -- the answer for a variable that is not set, or blank
 abbrev pub not_set : List ℕ → CredentialsError
@@ -70,3 +71,7 @@ environment env = do
     provider_name = codes "EnvironmentVariable";
     features = CredentialsEnvVars ∷ [];
   })
+
+-- the environment asks nothing
+abbrev pub by_environment : Variables → Inquiry (Result Keys CredentialsError)
+by_environment env = Done (environment env)

@@ -1,7 +1,9 @@
 pub mod Gives
 pub mod Provides
 pub mod Utf8
+pub mod CustomSources
 pub mod EnvironmentKeys
+pub mod EnvironmentCauses
 pub mod Sts
 pub mod SessionNames
 pub mod AssumeRole
@@ -10,3 +12,4 @@ pub mod ProcessSetups
 pub mod Processes
 pub mod WebIdentities
 pub mod WebIdentitySetups
+pub mod ContainerSetups

@@ -3,6 +3,8 @@ use Rattle.std.specs.Prelude.{ℕ, List, [], ◌∷◌, ◌==◌, Option, Some, 
 use Rattle.std.specs.Str.{encode_utf8_all}
 use Rattle.cfg_values.specs.Text.{characters}
 use Rattle.cfg_types.specs.Keys.{Keys}
+use Rattle.cfg_types.specs.declared.errors.CredentialsError.{CredentialsError}
+use Rattle.cfg_types.specs.declared.errors.CredentialsError.TheVariants.{Unhandled}
 use Rattle.cfg_types.specs.declared.errors.UnhandledCause.{UnhandledCause}
 use Rattle.cfg_types.specs.declared.errors.UnhandledCause.TheVariants.{StsNoCredentials, StsArn}
 use Rattle.cfg_types.specs.declared.reply.sts.StsReply.{StsReply}
@@ -23,6 +25,14 @@ before_colon (b ∷ bytes) = if b == 58 then [] else b ∷ before_colon bytes
 -- arn:PARTITION:SERVICE:REGION:ACCOUNT:RESOURCE.
 abbrev pub fifth_part : List ℕ → Option (List ℕ)
 fifth_part arn = option_map before_colon (option_and_then behind_colon (option_and_then behind_colon (option_and_then behind_colon (behind_colon arn))))
+
+abbrev pub named_account : List ℕ → Option (List ℕ) → Result (List ℕ) CredentialsError
+named_account arn (Some account) = Ok (characters account)
+named_account arn None = Err (Unhandled (StsArn (characters arn)))
+
+-- the account that an ARN of these bytes names; one of fewer than five parts is refused
+abbrev pub parsed_account : List ℕ → Result (List ℕ) CredentialsError
+parsed_account arn = named_account arn (fifth_part arn)
 
 -- the account that an ARN names
 abbrev pub account_of_arn : List ℕ → Option (List ℕ)

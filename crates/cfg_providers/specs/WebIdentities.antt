@@ -27,9 +27,9 @@ use Rattle.cfg_world.specs.Fits.{Pair}
 use Rattle.cfg_world.specs.Inquiry.{Inquiry, Done, after}
 use Rattle.cfg_world.specs.Leaves.{reading_file, assuming_by_web_identity, granted_of}
 use Rattle.cfg_profile.specs.Configuration.{Configuration}
+use Rattle.cfg_profile.specs.Settings.{settings_of}
 use Rattle.cfg_providers.specs.declared.web_identity_token.WebIdentity.{WebIdentity}
 use Rattle.cfg_providers.specs.declared.web_identity_token.StaticConfiguration.{StaticConfiguration}
-use Rattle.cfg_providers.specs.AssumeRole.{settings_of}
 use Rattle.cfg_providers.specs.EnvironmentKeys.{not_set}
 use Rattle.cfg_providers.specs.SessionNames.{session_name}
 use Rattle.cfg_providers.specs.Sts.{into_credentials}

@@ -1,13 +1,13 @@
 ghost use Rattle.std.specs.Prelude.{◌≡◌, IfOk};
 ghost use Rattle.cfg_world.specs.Follows.{Follows};
-ghost use Rattle.cfg_providers.specs.AssumeRole.{settings_of, request as request_of, granted as granted_of, in_role, assumes, assumes_roles};
+ghost use Rattle.cfg_providers.specs.AssumeRole.{request as request_of, granted as granted_of, in_role, assumes, assumes_roles};
 
 use crate::session_name::session_name;
 use crate::sts::into_credentials;
-use cfg_profile::{ProviderConfig, RoleArn};
+use cfg_profile::{ProviderConfig, RoleArn, call_settings};
 use cfg_types::{
-    AssumeRole, Boxed, CallSettings, Credentials, CredentialsError, OutOfMemory, ProviderCause,
-    StsReply, Text, Timeouts, TryCopy, copy_option,
+    AssumeRole, Boxed, Credentials, CredentialsError, OutOfMemory, ProviderCause, StsReply, Text,
+    TryCopy, copy_option,
 };
 use cfg_world::{Asking, NotGranted, Stop, leaves};
 use std::alloc::Global;
@@ -69,7 +69,7 @@ fn request(
 {
     let role_arn = role.role_arn.copy(alloc)?;
     let external_id = copy_option(alloc, &role.external_id)?;
-    let settings = settings(alloc, config)?;
+    let settings = call_settings(alloc, config)?;
     Ok(AssumeRole {
         signer,
         role_arn,
@@ -80,29 +80,6 @@ fn request(
         duration_seconds: None,
         tags: None,
         settings,
-    })
-}
-
-// How the calls of a configuration are sent.
-pub(crate) fn settings(alloc: Global, config: &ProviderConfig) -> Result<CallSettings, OutOfMemory>
-    ensures { IfOk result (λ s. s ≡ settings_of config.now) }
-{
-    let region = match config.region() {
-        None => None,
-        Some(region) => Some(region.copy(alloc)?),
-    };
-    Ok(CallSettings {
-        region,
-        use_fips: None,
-        use_dual_stack: None,
-        // The standard retry mode of the AWS SDKs makes three attempts.
-        max_attempts: 3,
-        timeouts: Timeouts {
-            connect_ms: None,
-            read_ms: None,
-            operation_ms: None,
-            attempt_ms: None,
-        },
     })
 }
 

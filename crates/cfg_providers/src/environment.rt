@@ -1,15 +1,20 @@
-ghost use Rattle.std.specs.Prelude.{◌≡◌, IfOk, option_map};
+ghost use Rattle.std.specs.Prelude.{◌≡◌, IfOk, option_map, false};
+ghost use Rattle.std.specs.Result.{result_err};
 ghost use Rattle.cfg_values.specs.Text.{characters};
 ghost use Rattle.cfg_types.specs.Environment.{variable};
+ghost use Rattle.cfg_world.specs.Follows.{Follows};
 ghost use Rattle.cfg_providers.specs.Gives.{GivesAnswer};
-ghost use Rattle.cfg_providers.specs.EnvironmentKeys.{required, usable, secret as secret_of, optional as optional_of, environment};
+ghost use Rattle.cfg_providers.specs.Provides.{is_memory};
+ghost use Rattle.cfg_providers.specs.EnvironmentKeys.{required, usable, secret as secret_of, optional as optional_of, environment, by_environment};
+ghost use Rattle.cfg_providers.specs.EnvironmentCauses.{why_environment};
 
 use cfg_types::{
     AccountId, AwsCredentialFeature, Credentials, CredentialsBuilder, CredentialsError, Env,
-    NotLoadedCause, OutOfMemory, Seq, Text, UnhandledCause, VarError, is_blank, trimmed,
+    NotLoadedCause, OutOfMemory, Seq, Text, TryCopy, UnhandledCause, VarError, is_blank, trimmed,
 };
-use cfg_world::Halt;
+use cfg_world::{Asking, Devices, Halt, Stop, World};
 use std::alloc::Global;
+use std::marker::Model;
 
 /// The keys that the variables of the AWS SDKs and tools hold: `AWS_ACCESS_KEY_ID`,
 /// `AWS_SECRET_ACCESS_KEY` with its older name `SECRET_ACCESS_KEY`, `AWS_SESSION_TOKEN` and
@@ -29,6 +34,22 @@ pub fn environment_credentials(
     let mut builder = CredentialsBuilder::new(alloc, id, secret, "EnvironmentVariable")?;
     builder.set_session_token(token).set_account_id(account);
     Ok(builder.features(origin).build()?)
+}
+
+/// The keys that the variables hold, as a provider's answer. Nothing is asked for them.
+#[tactic(auto, using(crate::proofs::QuietSteps::quiet_steps))]
+pub fn follow_environment<A: Asking>(
+    alloc: Global,
+    env: &Env,
+    _asking: &mut A,
+) -> Result<Result<Credentials, CredentialsError>, Stop>
+    ensures { Follows ⟦<A as Asking>⟧ (by_environment env.now) _asking.old _asking.new result }
+{
+    match environment_credentials(alloc, env) {
+        Ok(credentials) => Ok(Ok(credentials)),
+        Err(Halt::Refused(error)) => Ok(Err(error)),
+        Err(Halt::Stopped(_)) => Err(Stop::OutOfMemory),
+    }
 }
 
 // A variable's text, where it can be read and is not blank.
@@ -99,5 +120,84 @@ fn account_of(alloc: Global, id: Option<&str>) -> Result<Option<AccountId>, OutO
     match id {
         None => Ok(None),
         Some(id) => Ok(Some(AccountId::new(alloc, id)?)),
+    }
+}
+
+/// Credentials by environment variables. Contracts see the variables.
+pub struct EnvironmentVariableCredentialsProvider {
+    alloc: Global,
+    env: Env,
+}
+
+impl Drop for EnvironmentVariableCredentialsProvider {
+    fn drop(self) {
+        let EnvironmentVariableCredentialsProvider { alloc: _, env: _ } = self;
+    }
+}
+
+impl Model for EnvironmentVariableCredentialsProvider {
+    ghost use Rattle.cfg_values.specs.TextMap.{named_code};
+    ghost use Rattle.cfg_types.specs.Environment.{Variables};
+    ghost use Rattle.cfg_types.specs.contracts.environment.EnvText.{the_row};
+
+    ghost Value = { Variables };
+
+    ghost coded = { named_code the_row.coded };
+
+    ghost view = { λ p. p.env };
+}
+
+impl EnvironmentVariableCredentialsProvider {
+    /// A provider over these variables.
+    pub fn new(alloc: Global, env: Env) -> EnvironmentVariableCredentialsProvider
+        ensures { result ≡ env }
+    {
+        EnvironmentVariableCredentialsProvider { alloc, env }
+    }
+
+    /// The body of [`Self::provide_credentials`], over anything that can be asked. Nothing is asked.
+    pub fn follow<A: Asking>(
+        &self,
+        asking: &mut A,
+    ) -> Result<Result<Credentials, CredentialsError>, Stop>
+        ensures { Follows ⟦<A as Asking>⟧ (by_environment self.now) asking.old asking.new result }
+    {
+        follow_environment(self.alloc, &self.env, asking)
+    }
+
+    /// The keys that the variables hold. The world is asked nothing, and stays as it was.
+    ///
+    /// # Errors
+    ///
+    /// - `CredentialsNotLoaded(NotSet)`: `AWS_ACCESS_KEY_ID` is absent or blank, or else
+    ///   `SECRET_ACCESS_KEY` is, and `AWS_SECRET_ACCESS_KEY` cannot be used. It names the variable.
+    /// - `Unhandled(NotUnicode)`: the same variables, where the value is not Unicode.
+    /// - `OutOfMemory` where memory runs out.
+    pub fn provide_credentials<D: Devices>(
+        &self,
+        _world: &mut World<D>,
+    ) -> Result<Credentials, CredentialsError>
+        ensures answer { is_memory result ≡ false → environment self.now ≡ result }
+        ensures cause { is_memory result ≡ false → result_err result ≡ why_environment self.now }
+        ensures world { _world.new ≡ _world.old }
+    {
+        self.answer()
+    }
+
+    fn answer(&self) -> Result<Credentials, CredentialsError>
+        ensures { is_memory result ≡ false → environment self.now ≡ result }
+    {
+        match environment_credentials(self.alloc, &self.env) {
+            Ok(credentials) => Ok(credentials),
+            Err(Halt::Refused(error)) => Err(error),
+            Err(Halt::Stopped(_)) => Err(CredentialsError::OutOfMemory),
+        }
+    }
+}
+
+impl TryCopy for EnvironmentVariableCredentialsProvider {
+    fn copy(&self, alloc: Global) -> Result<EnvironmentVariableCredentialsProvider, OutOfMemory> {
+        let env = self.env.copy(alloc)?;
+        Ok(EnvironmentVariableCredentialsProvider { alloc, env })
     }
 }

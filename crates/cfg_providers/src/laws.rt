@@ -1,5 +1,5 @@
 //! Laws, each on a call that carries it.
-ghost use Rattle.std.specs.Prelude.{◌≡◌, ◌≢◌, ℕ, List, Option, None, Result, Err, option_and_then};
+ghost use Rattle.std.specs.Prelude.{◌≡◌, ◌≢◌, ◌++◌, ◌∷◌, [], ℕ, List, map, Option, Some, None, is_some, Result, Err, option_and_then, if◌then◌else◌};
 ghost use Rattle.std.specs.List.{last_or};
 ghost use Rattle.std.specs.Result.{result_err};
 ghost use Rattle.cfg_types.specs.Keys.{Keys};
@@ -9,11 +9,34 @@ ghost use Rattle.cfg_json.specs.Documents.{Read, AnswersDocument, IsProcessTable
 ghost use Rattle.cfg_world.specs.Fits.{Pair};
 ghost use Rattle.cfg_world.specs.Inquiry.{Reads};
 ghost use Rattle.cfg_profile.specs.Configuration.{Configuration};
+ghost use Rattle.cfg_profile.specs.Laws.{lowered};
+ghost use Rattle.cfg_profile.specs.NamedSources.{is_named, is_custom};
 ghost use Rattle.cfg_providers.specs.declared.web_identity_token.StaticConfiguration.{StaticConfiguration as Given};
 ghost use Rattle.cfg_providers.specs.declared.web_identity_token.WebIdentity.{WebIdentity as Identity};
+ghost use Rattle.cfg_types.specs.Environment.{Variables};
+ghost use Rattle.cfg_providers.specs.CustomSources.{Answer, NamedAnswer, last_named};
+ghost use Rattle.cfg_providers.specs.EnvironmentKeys.{environment};
+ghost use Rattle.cfg_providers.specs.EnvironmentCauses.{environment_is_passed_over, unreadable_variable, why_environment, is_not_loaded_answer, named_variable};
 ghost use Rattle.cfg_providers.specs.ProcessDocuments.{process_document};
 ghost use Rattle.cfg_providers.specs.Processes.{credential_process, why_process};
 ghost use Rattle.cfg_providers.specs.WebIdentities.{assumes_by_web_identity, web_identity, why_entry, why_web_identity};
+
+/// The last custom source of a name is meant, in any ASCII case of it, and the sources that are found
+/// are those that a plan knows.
+pub fn the_last_custom_source_is_meant()
+    ensures any_case { (sources : List NamedAnswer) (name other : List ℕ) → lowered name ≡ lowered other → last_named name sources ≡ last_named other sources }
+    ensures later { (sources : List NamedAnswer) (name source : List ℕ) (answer : Answer) →
+        last_named name (sources ++ (source, answer) ∷ []) ≡ (if is_named name source then Some answer else last_named name sources) }
+    ensures known { (sources : List NamedAnswer) (name : List ℕ) → is_some (last_named name sources) ≡ is_custom (map (λ s. s.0) sources) name }
+{}
+
+/// The environment fails by one variable: it is not loaded exactly where one is absent or blank that is
+/// needed, and names one as not Unicode exactly where that one stops it.
+pub fn the_environment_fails_by_one_variable()
+    ensures cause { (env : Variables) → result_err (environment env) ≡ why_environment env }
+    ensures not_loaded { (env : Variables) → is_not_loaded_answer (environment env) ≡ environment_is_passed_over env }
+    ensures not_unicode { (env : Variables) → named_variable (environment env) ≡ unreadable_variable env }
+{}
 
 /// What the document of a process says is the one answer that its grammar and its table of fields
 /// allow, but for running out of memory.

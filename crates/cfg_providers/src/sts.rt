@@ -1,10 +1,12 @@
 ghost use Rattle.std.specs.Prelude.{◌≡◌, IfOk, option_map};
+ghost use Rattle.cfg_values.specs.Gives.{Gives};
 ghost use Rattle.cfg_values.specs.Text.{characters};
-ghost use Rattle.cfg_providers.specs.Sts.{behind_colon as behind, before_colon as before, fifth_part as fifth_part_of, account_of as reply_account, into_credentials as credentials_in};
+ghost use Rattle.cfg_types.specs.declared.errors.CredentialsError.TheVariants.{OutOfMemory as memory};
+ghost use Rattle.cfg_providers.specs.Sts.{parsed_account, behind_colon as behind, before_colon as before, fifth_part as fifth_part_of, account_of as reply_account, into_credentials as credentials_in};
 
 use cfg_types::{
-    AccountId, Credentials, CredentialsBuilder, OutOfMemory, StsReply, Text, TryCopy,
-    UnhandledCause,
+    AccountId, Credentials, CredentialsBuilder, CredentialsError, OutOfMemory, StsReply, Text,
+    TryCopy, UnhandledCause,
 };
 use std::alloc::Global;
 
@@ -50,6 +52,25 @@ fn account_of(
         return Ok(Ok(Some(account)));
     }
     Ok(Err(UnhandledCause::StsArn(arn.copy(alloc)?)))
+}
+
+/// The account that an ARN names: its fifth part, cut at each `:`, as in
+/// `arn:PARTITION:SERVICE:REGION:ACCOUNT:RESOURCE` of AWS's documentation on Amazon Resource Names.
+///
+/// # Errors
+///
+/// `Unhandled(StsArn)` with the ARN, exactly where it has fewer than five parts. `OutOfMemory` where
+/// memory runs out.
+pub fn parse_account_id(alloc: Global, arn: &str) -> Result<AccountId, CredentialsError>
+    ensures { Gives memory result (λ answer. answer ≡ parsed_account arn.now) }
+{
+    match fifth_part(arn) {
+        Some(account) => Ok(AccountId::new(alloc, account)?),
+        None => {
+            let arn = Text::of(alloc, arn)?;
+            Err(CredentialsError::Unhandled(UnhandledCause::StsArn(arn)))
+        }
+    }
 }
 
 // The fifth part of an ARN, cut at each `:`.

@@ -9,11 +9,10 @@ ghost use Rattle.cfg_providers.specs.Gives.{GivesAnswer};
 ghost use Rattle.cfg_providers.specs.Provides.{is_memory, Provides, Interrupted};
 ghost use Rattle.cfg_providers.specs.WebIdentities.{readable as readable_of, needed as needed_of, identity_in as identity_in_of, identity_of, token_in as token_in_of, identity_token as identity_token_of, request as request_of, by_web_identity, identity_answer as identity_answer_of, with_token as with_token_of, assumes_by_web_identity, web_identity as web_identity_of, why_web_identity};
 
-use crate::assume_role::settings;
 use crate::session_name::session_name;
 use crate::sts::into_credentials;
 use crate::utf8::utf8;
-use cfg_profile::ProviderConfig;
+use cfg_profile::{ProviderConfig, call_settings};
 use cfg_types::{
     AssumeRoleWithWebIdentity, AwsCredentialFeature, Bytes, Credentials, CredentialsError, Env,
     FailKind, NotLoadedCause, OutOfMemory, ProviderCause, StsReply, Text, TryCopy, UnhandledCause,
@@ -245,7 +244,7 @@ fn request(
     ensures { IfOk result (λ r. r ≡ request_of config.now identity.now session_name token) }
 {
     let role_arn = identity.role_arn.copy(alloc)?;
-    let settings = settings(alloc, config)?;
+    let settings = call_settings(alloc, config)?;
     Ok(AssumeRoleWithWebIdentity {
         role_arn,
         session_name,

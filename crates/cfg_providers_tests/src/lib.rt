@@ -2,6 +2,14 @@
 #![tactic(auto)]
 
 #[cfg(test)]
+mod account;
+#[cfg(test)]
+mod container;
+#[cfg(test)]
+mod custom;
+#[cfg(test)]
+mod environment;
+#[cfg(test)]
 mod process;
 #[cfg(test)]
 mod setup;

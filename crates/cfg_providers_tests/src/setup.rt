@@ -18,12 +18,15 @@ pub(crate) struct Setup {
 fn set_up_over(
     alloc: Global,
     variables: Vec<(String, EnvText)>,
+    sleep: bool,
     lists: DeviceLists,
 ) -> Result<Setup, OutOfMemory>
     requires { AllFit lists }
 {
     let devices = ScriptDevices::new(alloc, lists)?;
-    let config = ProviderConfig::empty(alloc)?.with_env(Env::new(alloc, variables)?);
+    let config = ProviderConfig::empty(alloc)?
+        .with_env(Env::new(alloc, variables)?)
+        .with_sleep_impl(sleep);
     Ok(Setup { config, devices })
 }
 
@@ -35,13 +38,14 @@ fn set_up_by(alloc: Global, script: Script) -> Result<Setup, OutOfMemory>
         profiles: _,
         selected: _,
         region: _,
-        sleep: _,
+        sleep,
         devices,
     } = script;
-    set_up_over(alloc, variables, devices)
+    set_up_over(alloc, variables, sleep, devices)
 }
 
-/// The variables of a script, and the devices that it scripts. None for what is no script.
+/// The variables of a script, whether it sleeps, and the devices that it scripts. None for what is no
+/// script.
 pub(crate) fn set_up(alloc: Global, script: &str) -> Result<Option<Setup>, OutOfMemory> {
     match read_script(alloc, script.as_bytes()) {
         Ok(script) => Ok(Some(set_up_by(alloc, script)?)),

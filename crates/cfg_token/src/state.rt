@@ -129,8 +129,8 @@ pub fn section_on<T: FileToken, D: Devices>(
     }
 }
 
-// What a section answers.
-fn answer<T, E>(made: Sectioned<T, E>) -> Result<T, E>
+/// What a section answers.
+pub fn answer<T, E>(made: Sectioned<T, E>) -> Result<T, E>
     ensures { result ≡ answer_of made }
 {
     match made {

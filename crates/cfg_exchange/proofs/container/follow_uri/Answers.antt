@@ -1,7 +1,7 @@
 -- The token is known, and there is no target, or its check stops.
 use Rattle.std.proofs.lemmas.Result.{err_from_is_err_and}
 use Rattle.cfg_exchange.proofs.ContainerSteps.{container_target_halts, container_untargeted}
-use Rattle.cfg_exchange.proofs.container.follow_container.Goals as goal
+use Rattle.cfg_exchange.proofs.container.follow_uri.Goals as goal
 
 pub returns-in_err-target : goal.returns-in_err-target
 returns-in_err-target g c =

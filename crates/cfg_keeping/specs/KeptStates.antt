@@ -1,0 +1,20 @@
+-- What is lent to a call, as contracts see it.
+use Rattle.std.specs.Prelude.{Option, Some, map}
+use Rattle.cfg_token.specs.declared.token_key.TokenKey.{TokenKey}
+use Rattle.cfg_keeping.specs.declared.kept.Kept.{Kept}
+use Rattle.cfg_keeping.specs.Kinds.{States}
+use Rattle.cfg_keeping.specs.FoundValues.{bare}
+use Rattle.cfg_keeping.specs.KeyedStates.{key_of, sso_kept}
+use Rattle.cfg_keeping.specs.Holds.{Holdings, held}
+
+-- the kept states, receipts left aside
+abbrev pub states_of : Kept → States
+states_of kept = record { sso = sso_kept kept.token.sso }
+
+-- the found values and the kept states
+abbrev pub kept_holdings : Kept → Holdings
+kept_holdings kept = held (map bare kept.found.items) (Some (states_of kept))
+
+-- the key of the token, where there is one
+abbrev pub kept_key : Kept → Option TokenKey
+kept_key kept = key_of kept.token

@@ -1,0 +1,119 @@
+//! What is kept from one call to the next, lent to one call at a time.
+ghost use Rattle.std.specs.Prelude.{◌≡◌, ◌↔◌, [], IsTrue, None, Option, is_some};
+ghost use Rattle.std.specs.Option.{option_copied};
+ghost use Rattle.cfg_keeping.specs.KeyedStates.{is_sso_key};
+ghost use Rattle.cfg_keeping.specs.KeptStates.{states_of, kept_key};
+
+use crate::found::Found;
+use crate::keeper::Keeper;
+use crate::keyed::KeyedState;
+use cfg_token::{CachedSsoToken, TokenKey, TokenState};
+use cfg_types::{CallSettings, Env, SsoTokenProviderError};
+use cfg_world::same::Same;
+use cfg_world::{Asking, Stop};
+use std::alloc::Global;
+
+/// The kept states, and the values that were found in them.
+pub struct Kept {
+    token: KeyedState,
+    found: Vec<Found>,
+}
+
+impl Drop for Kept {
+    fn drop(self) {
+        let Kept { token: _, found: _ } = self;
+    }
+}
+
+impl Kept {
+    /// Nothing is kept, and nothing was found. The key says whose token will be kept.
+    pub fn new(alloc: Global, key: Option<TokenKey>) -> Kept
+        ensures key { kept_key result ≡ key }
+        ensures nothing { states_of result ≡ record { sso = record { token = None; last = None } } }
+        ensures found { result.found.items ≡ [] }
+    {
+        Kept {
+            token: KeyedState::new(alloc, key),
+            found: Vec::new(alloc),
+        }
+    }
+
+    /// Whether the kept states are those of a chain with this key: the keys are equal, or both are
+    /// none.
+    pub fn fits(&self, key: Option<&TokenKey>) -> bool
+        ensures { IsTrue result ↔ (kept_key self.now ≡ option_copied key.entry) }
+    {
+        match (self.token.key(), key) {
+            (None, None) => true,
+            (Some(one), Some(other)) => same_key(one, other),
+            _ => false,
+        }
+    }
+
+    /// The state of the token of IAM Identity Center, there exactly where the key is of that kind. No
+    /// holding.
+    pub fn sso_state(&self) -> Option<&TokenState<CachedSsoToken>>
+        ensures is { option_copied result ≡ self.now.token.sso }
+        ensures there { is_some (option_copied result) ≡ is_sso_key (kept_key self.now) }
+    {
+        self.token.sso_state()
+    }
+
+    /// The values that were found are given up. What is kept stays.
+    pub fn clear_found(&mut self)
+        ensures found { self.new.found.items ≡ [] }
+        ensures kept { states_of self.new ≡ states_of self.old }
+        ensures key { kept_key self.new ≡ kept_key self.old }
+    {
+        self.found.clear();
+    }
+}
+
+// Whether both are one key.
+fn same_key(one: &TokenKey, other: &TokenKey) -> bool
+    ensures { IsTrue result ↔ (one.now ≡ other.now) }
+{
+    match (one, other) {
+        (
+            TokenKey::Sso {
+                session,
+                region,
+                start_url,
+            },
+            TokenKey::Sso {
+                session: other_session,
+                region: other_region,
+                start_url: other_url,
+            },
+        ) => session.same(other_session) && region.same(other_region) && start_url.same(other_url),
+        (TokenKey::Login { session }, TokenKey::Login { session: other }) => session.same(other),
+        _ => false,
+    }
+}
+
+impl Keeper for Kept {
+    ghost use Rattle.cfg_keeping.specs.KeptStates.{kept_holdings, kept_key};
+
+    ghost holdings = { kept_holdings };
+
+    ghost key_held = { kept_key };
+
+    fn sso_section<A: Asking>(
+        &mut self,
+        alloc: Global,
+        env: &Env,
+        settings: &CallSettings,
+        asking: &mut A,
+    ) -> Result<Result<CachedSsoToken, SsoTokenProviderError>, Stop> {
+        self.token
+            .hold_sso(alloc, &mut self.found, env, settings, asking)
+    }
+
+    fn key(&self) -> Option<&TokenKey> {
+        self.token.key()
+    }
+
+    fn found(&self) -> &[Found] {
+        self.found.as_slice()
+    }
+}

@@ -1,0 +1,7 @@
+//! The tests of cfg_keeping, over public calls: what no clause says, and worked examples.
+#![tactic(auto)]
+
+#[cfg(test)]
+mod holdings;
+#[cfg(test)]
+mod keys;
