@@ -1,15 +1,19 @@
 //! The program `bujerova`: it hands `cfg_program::run` the words after its name, standard input and
-//! output, and the variables that are set, and ends with the number of the status. Where the status
-//! says that the input was refused, standard error has a line that says why.
+//! output, the variables that are set and one source of credentials of its own, and ends with the number
+//! of the status. Where the status says that the input was refused, standard error has a line that says
+//! why.
 #![tactic(auto)]
 
+mod fixed;
 mod keeping;
 
 use cfg_program::run::run;
 use cfg_program::{LIMIT, Status, USAGE};
+use cfg_providers::CustomSource;
 use cfg_script::{find_fault, find_unbuilt};
 use cfg_types::{EnvText, OutOfMemory, Text};
-use cfg_world::{LocalDevices, ReaderSource, World, WriterSink};
+use cfg_world::{Devices, LocalDevices, ReaderSource, Sink, Source, World, WriterSink};
+use fixed::Fixed;
 use keeping::KeepingSource;
 use std::alloc::Global;
 use std::env;
@@ -18,32 +22,58 @@ use std::io::ErrorKind;
 use std::process::ExitCode;
 
 fn main(rt: HostRuntime) -> ExitCode {
-    let mut source = KeepingSource::new(rt.alloc(), ReaderSource::new(rt.stdin()));
-    let status = match words_of(&rt) {
-        Ok(words) => {
-            let mut sink = WriterSink::new(rt.stdout());
-            let mut world = World::new(rt.alloc(), LocalDevices::new(rt.alloc(), &rt));
-            match variables_of(&rt) {
-                Ok(vars) => run(
-                    rt.alloc(),
-                    words.as_slice(),
-                    &mut source,
-                    &mut sink,
-                    vars,
-                    &mut world,
-                ),
-                Err(OutOfMemory) => Status::OutOfMemory,
-            }
+    let alloc = rt.alloc();
+    let mut source = KeepingSource::new(alloc, ReaderSource::new(rt.stdin()));
+    let mut sink = WriterSink::new(rt.stdout());
+    let mut world = World::new(alloc, LocalDevices::new(alloc, &rt));
+    let status = match given(&rt) {
+        Ok((words, variables)) => {
+            let ended = run_with(
+                alloc,
+                words.as_slice(),
+                &mut source,
+                &mut sink,
+                variables,
+                &mut world,
+            );
+            ended.unwrap_or(Status::OutOfMemory)
         }
         Err(status) => status,
     };
     if status == Status::Words {
         let _ = rt.eprintln(USAGE);
     }
-    if let Ok(Some(reason)) = reason_of(rt.alloc(), status, source.kept()) {
+    if let Ok(Some(reason)) = reason_of(alloc, status, source.kept()) {
         let _ = eprintln!(rt; "bujerova: {reason}");
     }
     ExitCode::from(status.number())
+}
+
+// How a run ends that has the program's own source of credentials.
+fn run_with<S: Source, K: Sink, D: Devices>(
+    alloc: Global,
+    words: &[String],
+    source: &mut S,
+    sink: &mut K,
+    variables: Vec<(String, EnvText)>,
+    world: &mut World<D>,
+) -> Result<Status, OutOfMemory> {
+    let name = Text::of(alloc, fixed::NAME)?;
+    let provider = Box::new(alloc, Fixed::new(alloc))?;
+    let own = CustomSource::new(name, provider);
+    let ended = run(alloc, words, source, sink, variables, world, &[own]);
+    Ok(ended)
+}
+
+// The words after the program's name, and the variables that are set.
+fn given(
+    rt: &(impl std::rt::Env + AllocGlobal),
+) -> Result<(Vec<String>, Vec<(String, EnvText)>), Status> {
+    let words = words_of(rt)?;
+    match variables_of(rt) {
+        Ok(variables) => Ok((words, variables)),
+        Err(OutOfMemory) => Err(Status::OutOfMemory),
+    }
 }
 
 // Why the input was refused, where the status says that it was, and what was read of it is known.
@@ -93,13 +123,20 @@ fn status_of(kind: ErrorKind) -> Status {
 }
 
 // The names of the variables that providers ask for.
-const ASKED: [&str; 6] = [
+const ASKED: [&str; 13] = [
     "AWS_ACCESS_KEY_ID",
     "AWS_SECRET_ACCESS_KEY",
     "SECRET_ACCESS_KEY",
     "AWS_SESSION_TOKEN",
     "AWS_ACCOUNT_ID",
     "AWS_PROFILE",
+    "AWS_WEB_IDENTITY_TOKEN_FILE",
+    "AWS_ROLE_ARN",
+    "AWS_ROLE_SESSION_NAME",
+    "AWS_CONTAINER_CREDENTIALS_RELATIVE_URI",
+    "AWS_CONTAINER_CREDENTIALS_FULL_URI",
+    "AWS_CONTAINER_AUTHORIZATION_TOKEN_FILE",
+    "AWS_CONTAINER_AUTHORIZATION_TOKEN",
 ];
 
 // The variables that are set, of those that providers ask for.

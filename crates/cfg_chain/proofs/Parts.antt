@@ -1,122 +1,115 @@
 -- A chain's journal is its members' parts, in order.
-use Rattle.std.proofs.Common.{◌≡◌, Bool, true, false, cond, List, [], ◌∷◌, ◌++◌, Result, Ok, Err, inl, inr, refl, sym, ap, ◌∙◌, subst, append-nil}
-use Rattle.cfg_types.specs.Keys.{Keys}
-use Rattle.cfg_types.specs.declared.errors.CredentialsError.{CredentialsError}
+use Rattle.std.proofs.Common.{◌≡◌, List, [], ◌∷◌, ◌++◌, Option, Some, None, Result, Err, inl, inr, refl, sym, ap, ◌∙◌, subst, append-nil}
+use Rattle.cfg_types.specs.declared.errors.ProviderAttempt.{ProviderAttempt}
 use Rattle.cfg_world.specs.Fits.{Pair}
-use Rattle.cfg_world.specs.Inquiry.{Inquiry, Done, Reads, Begun}
-use Rattle.cfg_world.proofs.Inquiries.{split_after, reads_after, begun_first, begun_after}
-use Rattle.cfg_world.proofs.Agreeing.{one_script_one_journal}
-use Rattle.cfg_world.proofs.Beginnings.{begun_splits, read_begins}
-use Rattle.cfg_world.specs.declared.script.DeviceLists.{DeviceLists}
-use Rattle.cfg_world.specs.Script.{Place, Given}
-use Rattle.cfg_chain.specs.declared.member.Member.{Member}
-use Rattle.cfg_chain.specs.declared.member.Turn.{Turn}
-use Rattle.cfg_chain.specs.declared.member.Turn.TheVariants.{PassedOver, Answers}
-use Rattle.cfg_profile.specs.Configuration.{Configuration}
-use Rattle.cfg_chain.specs.Members.{member_inquiry, is_not_loaded, turn, attempt}
-use Rattle.cfg_chain.specs.Chains.{Attempts, chain, go_on, none_loaded}
-use Rattle.cfg_chain.specs.Resolves.{AreParts, AreBegunParts, Resolves, default_members}
+use Rattle.cfg_keeping.specs.Kinds.{Value, States}
+use Rattle.cfg_keeping.specs.KeptInquiry.{KeptInquiry, Gives, Reads, Runs, Begins}
+use Rattle.cfg_keeping.proofs.Trees.{runs_then, begins_then, begins_first}
+use Rattle.cfg_keeping.proofs.Splits.{split_onwards}
+use Rattle.cfg_keeping.proofs.Told.{run_begins}
+use Rattle.cfg_keeping.proofs.Beginnings.{begins_splits}
+use Rattle.cfg_chain.specs.Chains.{Chain, passed, attempt, go_on, chain}
+use Rattle.cfg_chain.specs.ChainParts.{MemberReads, AreParts, AreBegunParts}
 
-chosen_passes : (b : Bool) (e x : CredentialsError) → cond b (PassedOver e) (Answers (Err e)) ≡ PassedOver x → (b ≡ true) × (e ≡ x)
-chosen_passes true e x h = (refl, cc)
-chosen_passes false e x h = cc
+module _ {M V E : Type 0} (c : Chain M V E) where
+  abbrev Attempts : Type 0
+  Attempts = List (ProviderAttempt E)
 
--- an answer that is passed over is the error of a provider that was not loaded
-passes_error : (out : Result Keys CredentialsError) (e : CredentialsError) → turn out ≡ PassedOver e → (out ≡ Err e) × (is_not_loaded e ≡ true)
-passes_error (Ok keys) e h = cc
-passes_error (Err x) e h = let s = chosen_passes (is_not_loaded x) x e h in (ap Err s.1, ap is_not_loaded (sym s.1) ∙ s.0)
+  abbrev then_others : List M → M → Attempts → Result V E → KeptInquiry (Result V E)
+  then_others members member attempts out = go_on c (chain c members) member attempts out (passed c out)
 
-chosen_answers : (b : Bool) (e : CredentialsError) (out : Result Keys CredentialsError) → cond b (PassedOver e) (Answers (Err e)) ≡ Answers out → out ≡ Err e
-chosen_answers true e out h = cc
-chosen_answers false e out h = cc
-
--- an answer that decides is handed on as it is
-answers_itself : (out x : Result Keys CredentialsError) → turn out ≡ Answers x → x ≡ out
-answers_itself (Ok keys) x h = cc
-answers_itself (Err e) x h = chosen_answers (is_not_loaded e) e x h
-
--- a journal over which an inquiry came to an outcome has begun it
-pub read_begun : {R : Type 0} (inquiry : Inquiry R) (journal : List Pair) (out : R) → Reads inquiry journal out → Begun inquiry journal
-read_begun inquiry journal out h = read_begins inquiry journal [] out (subst (λ j. Reads inquiry j out) (sym (append-nil journal)) h)
-
-module _ (conf : Configuration) where
   -- what follows the first member's part
-  after_first : (member : Member) (members : List Member) (attempts : Attempts) (journal part rest : List Pair) (middle out : Result Keys CredentialsError) (t : Turn) →
-      t ≡ turn middle → journal ≡ part ++ rest → Reads (member_inquiry conf member) part middle →
-      ((more : Attempts) → Reads (chain conf members more) rest out → AreParts conf members more rest out) →
-      Reads (go_on (chain conf members) member attempts t) rest out → AreParts conf (member ∷ members) attempts journal out
-  after_first member members attempts journal part rest middle out (PassedOver e) is parts first others h =
-      let passes = passes_error middle e (sym is) in
-      inl (part, rest, e, parts, record { reads = subst (λ x. Reads (member_inquiry conf member) part x) passes.0 first; not_loaded = passes.1 }, others _ h)
-  after_first member members attempts journal part [] middle out (Answers x) is parts first others h =
-      let same : x ≡ middle = answers_itself middle x (sym is) in
-      let out_is : middle ≡ out = sym same ∙ h in
-      inr (record {
-        reads = subst (λ j. Reads (member_inquiry conf member) j out) (sym (parts ∙ append-nil part)) (subst (λ x. Reads (member_inquiry conf member) part x) out_is first);
-        answers = ap turn (sym out_is) ∙ sym is ∙ ap Answers h;
-      })
-  after_first member members attempts journal part (e ∷ rest) middle out (Answers x) is parts first others h = absurd h
+  after_first : (member : M) (members : List M) (attempts : Attempts) (found found_first found_then : List Value) (journal part rest : List Pair) (middle out : Result V E) (o : Option E) →
+      passed c middle ≡ o → found ≡ found_first ++ found_then → journal ≡ part ++ rest → Reads (c.tree member) found_first part middle →
+      ((more : Attempts) → Reads (chain c members more) found_then rest out → AreParts c (MemberReads c) members more found_then rest out) →
+      Reads (go_on c (chain c members) member attempts middle o) found_then rest out → AreParts c (MemberReads c) (member ∷ members) attempts found journal out
+  after_first member members attempts found found_first found_then journal part rest middle out (Some e) is finds parts first others h =
+      inl (found_first, found_then, part, rest, middle, e, finds, parts, first, is, others _ h)
+  after_first member members attempts found found_first [] journal part [] middle out None is finds parts first others h =
+      inr (
+        subst (λ j. Reads (c.tree member) found j out) (sym (parts ∙ append-nil part))
+            (subst (λ f. Reads (c.tree member) f part out) (sym (finds ∙ append-nil found_first))
+            (subst (λ x. Reads (c.tree member) found_first part x) h.0 first)),
+        ap (passed c) (sym h.0) ∙ is,
+      )
+  after_first member members attempts found found_first [] journal part (x ∷ rest) middle out None is finds parts first others h = absurd h
+  after_first member members attempts found found_first (f ∷ found_then) journal part rest middle out None is finds parts first others h = absurd h
 
-  pub chain_parts : (members : List Member) (attempts : Attempts) (journal : List Pair) (out : Result Keys CredentialsError) →
-      Reads (chain conf members attempts) journal out → AreParts conf members attempts journal out
+  pub chain_parts : (members : List M) (attempts : Attempts) (found : List Value) (journal : List Pair) (out : Result V E) →
+      Reads (chain c members attempts) found journal out → AreParts c (MemberReads c) members attempts found journal out
   unfolding chain
-  chain_parts [] attempts [] out h = (refl, sym h)
-  chain_parts [] attempts (e ∷ journal) out h = absurd h
-  chain_parts (member ∷ members) attempts journal out h =
-      let s = split_after (member_inquiry conf member) (λ x. go_on (chain conf members) member attempts (turn x)) journal out h in
-      after_first member members attempts journal s.part s.rest s.middle out (turn s.middle) refl s.parts s.first (λ more. chain_parts members more s.rest out) s.then
-
-  turn_passes : (b : Bool) (e : CredentialsError) → b ≡ true → PassedOver e ≡ cond b (PassedOver e) (Answers (Err e))
-  turn_passes b e h = ap (λ x. cond x (PassedOver e) (Answers (Err e))) (sym h)
+  chain_parts [] attempts [] [] out h = (refl, refl, sym h.0)
+  chain_parts [] attempts [] (x ∷ journal) out h = absurd h
+  chain_parts [] attempts (f ∷ found) journal out h = absurd h
+  chain_parts (member ∷ members) attempts found journal out h =
+      let s = split_onwards (c.tree member) (then_others members member attempts) found journal out h in
+      after_first member members attempts found s.found_first s.found_then journal s.part s.rest s.middle out (passed c s.middle) refl s.finds s.parts s.first (λ more. chain_parts members more s.found_then s.rest out) s.then
 
   -- and the other way
-  pub parts_chain : (members : List Member) (attempts : Attempts) (journal : List Pair) (out : Result Keys CredentialsError) →
-      AreParts conf members attempts journal out → Reads (chain conf members attempts) journal out
+  pub parts_chain : (members : List M) (attempts : Attempts) (found : List Value) (journal : List Pair) (out : Result V E) →
+      AreParts c (MemberReads c) members attempts found journal out → Reads (chain c members attempts) found journal out
   unfolding chain
-  parts_chain [] attempts journal out h = subst (λ j. Reads (Done (none_loaded attempts)) j out) (sym h.0) (sym h.1)
-  parts_chain (member ∷ members) attempts journal out (inl h) =
-      subst (λ j. Reads (chain conf (member ∷ members) attempts) j out) (sym h.3)
-      (reads_after (member_inquiry conf member) (λ x. go_on (chain conf members) member attempts (turn x)) h.0 h.1 (Err h.2) out h.4.reads
-      (subst (λ t. Reads (go_on (chain conf members) member attempts t) h.1 out) (turn_passes (is_not_loaded h.2) h.2 h.4.not_loaded) (parts_chain members (attempts ++ attempt member h.2 ∷ []) h.1 out h.5)))
-  parts_chain (member ∷ members) attempts journal out (inr h) =
-      subst (λ j. Reads (chain conf (member ∷ members) attempts) j out) (append-nil journal)
-      (reads_after (member_inquiry conf member) (λ x. go_on (chain conf members) member attempts (turn x)) journal [] out out h.reads
-      (subst (λ t. Reads (go_on (chain conf members) member attempts t) [] out) (sym h.answers) refl))
+  parts_chain [] attempts found journal out h =
+      subst (λ f. Reads (Gives (Err (c.none_loaded attempts))) f journal out) (sym h.0)
+      (subst (λ j. Reads (Gives (Err (c.none_loaded attempts))) [] j out) (sym h.1) (sym h.2, refl))
+  parts_chain (member ∷ members) attempts found journal out (inl h) =
+      subst (λ f. Reads (chain c (member ∷ members) attempts) f journal out) (sym h.6)
+      (subst (λ j. Reads (chain c (member ∷ members) attempts) (h.0 ++ h.1) j out) (sym h.7)
+      (runs_then (c.tree member) (then_others members member attempts) None None None h.0 h.1 h.2 h.3 h.4 out h.8
+      (subst (λ o. Reads (go_on c (chain c members) member attempts h.4 o) h.1 h.3 out) (sym h.9) (parts_chain members (attempts ++ attempt c member h.5 ∷ []) h.1 h.3 out h.10))))
+  parts_chain (member ∷ members) attempts found journal out (inr h) =
+      subst (λ f. Reads (chain c (member ∷ members) attempts) f journal out) (append-nil found)
+      (subst (λ j. Reads (chain c (member ∷ members) attempts) (found ++ []) j out) (append-nil journal)
+      (runs_then (c.tree member) (then_others members member attempts) None None None found [] journal [] out out h.0
+      (subst (λ o. Reads (go_on c (chain c members) member attempts out o) [] [] out) (sym h.1) (refl, refl))))
 
   -- a beginning behind a member that was read
-  begun_behind : (member : Member) (members : List Member) (attempts : Attempts) (journal part rest : List Pair) (middle : Result Keys CredentialsError) (t : Turn) →
-      t ≡ turn middle → journal ≡ part ++ rest → Reads (member_inquiry conf member) part middle →
-      ((more : Attempts) → Begun (chain conf members more) rest → AreBegunParts conf members rest) →
-      Begun (go_on (chain conf members) member attempts t) rest → AreBegunParts conf (member ∷ members) journal
-  begun_behind member members attempts journal part rest middle (PassedOver e) is parts first others h =
-      let passes = passes_error middle e (sym is) in
-      inl (part, rest, e, parts, record { reads = subst (λ x. Reads (member_inquiry conf member) part x) passes.0 first; not_loaded = passes.1 }, others _ h)
-  begun_behind member members attempts journal part [] middle (Answers x) is parts first others h =
-      inr (subst (λ j. Begun (member_inquiry conf member) j) (sym (parts ∙ append-nil part)) (read_begun (member_inquiry conf member) part middle first))
-  begun_behind member members attempts journal part (e ∷ rest) middle (Answers x) is parts first others h = absurd h
+  begun_behind : (member : M) (members : List M) (attempts : Attempts) (old middle new : Option States) (found found_first found_then : List Value) (journal part rest : List Pair) (given : Result V E) (o : Option E) →
+      passed c given ≡ o → found ≡ found_first ++ found_then → journal ≡ part ++ rest → Runs (c.tree member) old found_first part given middle →
+      ((more : Attempts) → Begins (chain c members more) middle found_then rest new → AreBegunParts c members middle found_then rest new) →
+      Begins (go_on c (chain c members) member attempts given o) middle found_then rest new → AreBegunParts c (member ∷ members) old found journal new
+  begun_behind member members attempts old middle new found found_first found_then journal part rest given (Some e) is finds parts first others h =
+      inl (found_first, found_then, part, rest, middle, given, e, finds, parts, first, is, others _ h)
+  begun_behind member members attempts old middle new found found_first [] journal part [] given None is finds parts first others h =
+      inr (
+      subst (λ j. Begins (c.tree member) old found j new) (sym (parts ∙ append-nil part))
+      (subst (λ f. Begins (c.tree member) old f part new) (sym (finds ∙ append-nil found_first))
+      (subst (λ k. Begins (c.tree member) old found_first part k) h (run_begins (c.tree member) old middle found_first part given first)))
+      )
+  begun_behind member members attempts old middle new found found_first [] journal part (x ∷ rest) given None is finds parts first others h = absurd h
+  begun_behind member members attempts old middle new found found_first (f ∷ found_then) journal part rest given None is finds parts first others h = absurd h
 
-  pub chain_begun : (members : List Member) (attempts : Attempts) (journal : List Pair) → Begun (chain conf members attempts) journal → AreBegunParts conf members journal
+  pub chain_begun : (members : List M) (attempts : Attempts) (old new : Option States) (found : List Value) (journal : List Pair) →
+      Begins (chain c members attempts) old found journal new → AreBegunParts c members old found journal new
   unfolding chain
-  chain_begun [] attempts [] h = refl
-  chain_begun [] attempts (e ∷ journal) h = absurd h
-  chain_begun (member ∷ members) attempts journal h =
-      elim (begun_splits (member_inquiry conf member) (λ x. go_on (chain conf members) member attempts (turn x)) journal h) [
+  chain_begun [] attempts old new [] [] h = (refl, refl, h)
+  chain_begun [] attempts old new [] (x ∷ journal) h = absurd h
+  chain_begun [] attempts old new (f ∷ found) journal h = absurd h
+  chain_begun (member ∷ members) attempts old new found journal h =
+      elim (begins_splits (c.tree member) (then_others members member attempts) old new found journal h) [
         | inl b ↦ inr b
-        | inr s ↦ begun_behind member members attempts journal s.0 s.1 s.2 (turn s.2) refl s.3 s.4 (λ more. chain_begun members more s.1) s.5
+        | inr s ↦ begun_behind member members attempts old s.middle new found s.found_before s.found_behind journal s.part s.rest s.outcome (passed c s.outcome) refl s.finds s.parts s.runs
+            (λ more. chain_begun members more s.middle new s.found_behind s.rest) s.begins
       ]
 
-  pub begun_chain : (members : List Member) (attempts : Attempts) (journal : List Pair) → AreBegunParts conf members journal → Begun (chain conf members attempts) journal
+  pub begun_chain : (members : List M) (attempts : Attempts) (old new : Option States) (found : List Value) (journal : List Pair) →
+      AreBegunParts c members old found journal new → Begins (chain c members attempts) old found journal new
   unfolding chain
-  begun_chain [] attempts journal h = subst (λ j. Begun (Done (none_loaded attempts)) j) (sym h) tt
-  begun_chain (member ∷ members) attempts journal (inl h) =
-      subst (λ j. Begun (chain conf (member ∷ members) attempts) j) (sym h.3)
-      (begun_after (member_inquiry conf member) (λ x. go_on (chain conf members) member attempts (turn x)) h.0 h.1 (Err h.2) h.4.reads
-      (subst (λ t. Begun (go_on (chain conf members) member attempts t) h.1) (turn_passes (is_not_loaded h.2) h.2 h.4.not_loaded) (begun_chain members (attempts ++ attempt member h.2 ∷ []) h.1 h.5)))
-  begun_chain (member ∷ members) attempts journal (inr h) = begun_first (member_inquiry conf member) (λ x. go_on (chain conf members) member attempts (turn x)) journal h
+  begun_chain [] attempts old new found journal h =
+      subst (λ f. Begins {R = Result V E} (Gives (Err (c.none_loaded attempts))) old f journal new) (sym h.0)
+      (subst (λ j. Begins {R = Result V E} (Gives (Err (c.none_loaded attempts))) old [] j new) (sym h.1) h.2)
+  begun_chain (member ∷ members) attempts old new found journal (inl h) =
+      subst (λ f. Begins (chain c (member ∷ members) attempts) old f journal new) (sym h.7)
+      (subst (λ j. Begins (chain c (member ∷ members) attempts) old (h.0 ++ h.1) j new) (sym h.8)
+      (begins_then (c.tree member) (then_others members member attempts) old h.4 new h.0 h.1 h.2 h.3 h.5 h.9
+      (subst (λ o. Begins (go_on c (chain c members) member attempts h.5 o) h.4 h.1 h.3 new) (sym h.10) (begun_chain members (attempts ++ attempt c member h.6 ∷ []) h.4 new h.1 h.3 h.11))))
+  begun_chain (member ∷ members) attempts old new found journal (inr h) = begins_first (c.tree member) (then_others members member attempts) old new found journal h
 
--- one script of devices, from one place, makes one call
-pub one_call : (conf : Configuration) (lists : DeviceLists) (place : Place) (one other : List Pair) (x y : Result Keys CredentialsError) →
-    Resolves conf [] one x → Resolves conf [] other y → Given lists place one → Given lists place other → (one ≡ other) × (x ≡ y)
-one_call conf lists place one other x y h k g l =
-    one_script_one_journal (chain conf default_members []) lists place one other x y g l
-    (parts_chain conf default_members [] one x h.1) (parts_chain conf default_members [] other y k.1)
+  -- the same with more said of each part
+  pub parts_more : {P Q : M → List Value → List Pair → Result V E → Type 0} →
+      ((member : M) (found : List Value) (part : List Pair) (out : Result V E) → P member found part out → Q member found part out) →
+      (members : List M) (attempts : Attempts) (found : List Value) (journal : List Pair) (out : Result V E) → AreParts c P members attempts found journal out → AreParts c Q members attempts found journal out
+  parts_more more [] attempts found journal out h = h
+  parts_more more (member ∷ members) attempts found journal out (inl h) =
+      inl (h.0, h.1, h.2, h.3, h.4, h.5, h.6, h.7, more member h.0 h.2 h.4 h.8, h.9, parts_more more members (attempts ++ attempt c member h.5 ∷ []) h.1 h.3 out h.10)
+  parts_more more (member ∷ members) attempts found journal out (inr h) = inr (more member found journal out h.0, h.1)

@@ -1,162 +1,144 @@
--- Where nothing stands in the way, there are credentials.
-use Rattle.std.proofs.Common.{◌≡◌, ◌≢◌, ◌≤◌, ◌⊎◌, ℕ, suc, List, [], ◌∷◌, Bool, true, false, cond, Option, Some, None, Result, Ok, Err, inl, inr, refl, ap, ◌∙◌, arith}
-use Rattle.std.specs.Option.{option_or}
-use Rattle.std.specs.List.{All, list_all}
-use Rattle.std.specs.Str.{encode_utf8_all}
-use Rattle.std.specs.Prelude.{not, ◌&&◌, ◌==◌, IsSome, IsNone, IfSome, IsOk, is_none, is_ok, codes, option_map, option_and_then, if◌then◌else◌}
-use Rattle.std.proofs.lemmas.List.Elements.{All-head, All-tail}
-use Rattle.cfg_types.specs.Keys.{Keys}
+-- Where nothing stands in the way, a call gives credentials.
+use Rattle.std.proofs.Common.{◌≡◌, ◌⊎◌, inl, inr, List, [], ◌∷◌, ◌++◌, true, false, None, Result, Ok, Err, refl, sym, ap, ◌∙◌, subst, append-nil}
+use Rattle.std.specs.Prelude.{IsOk, is_ok, codes}
+use Rattle.std.specs.List.{last_or}
+use Rattle.std.specs.Result.{result_err}
+use Rattle.cfg_types.specs.Environment.{Variables}
 use Rattle.cfg_types.specs.declared.errors.CredentialsError.{CredentialsError}
-use Rattle.cfg_types.specs.declared.errors.ProfileFileError.{ProfileFileError}
-use Rattle.cfg_types.specs.declared.environment.VarError.{VarError}
-use Rattle.cfg_types.specs.declared.environment.VarError.TheVariants.{NotPresent, NotUnicode}
-use Rattle.cfg_types.specs.declared.errors.UnhandledCause.{UnhandledCause}
-use Rattle.cfg_types.specs.declared.reply.sts.StsReply.{StsReply}
-use Rattle.cfg_types.specs.declared.reply.sts.StsCredentials.{StsCredentials}
-use Rattle.cfg_types.specs.Replies.{sts_in}
-use Rattle.cfg_values.specs.Text.{characters}
-use Rattle.cfg_types.specs.Environment.{Variables, variable}
-use Rattle.cfg_world.specs.declared.ask.Question.{Question}
-use Rattle.cfg_world.specs.declared.ask.Question.TheVariants as question
-use Rattle.cfg_world.specs.declared.ask.Answer.{Answer}
-use Rattle.cfg_world.specs.declared.leaves.NotGranted.{NotGranted}
-use Rattle.cfg_world.specs.Leaves.{granted_of}
+use Rattle.cfg_types.specs.declared.errors.ProviderAttempt.{ProviderAttempt}
 use Rattle.cfg_world.specs.Fits.{Pair}
-use Rattle.cfg_chain.specs.declared.profile.plan.KeyPlan.{KeyPlan}
-use Rattle.cfg_providers.specs.Sts.{behind_colon, before_colon, fifth_part, account_of, account_or, keys_in, into_credentials}
-use Rattle.cfg_providers.specs.AssumeRole.{or_unhandled, granted}
-use Rattle.cfg_providers.specs.EnvironmentKeys.{usable, is_not_unicode}
-use Rattle.cfg_profile.specs.Configuration.{Configuration}
-use Rattle.cfg_chain.specs.profile.Plans.{plan}
-use Rattle.cfg_chain.specs.Resolves.{default_members}
-use Rattle.cfg_chain.specs.PassedOver.{is_passed_over, plan_is_passed_over}
-use Rattle.cfg_chain.specs.Causes.{HasCause, error_of, exchange_failure, first_failure, fault_of_plan, fault}
-use Rattle.cfg_providers.specs.EnvironmentCauses.{environment_is_passed_over, unreadable_variable}
-use Rattle.cfg_chain.specs.Valid.{colons, HasFiveParts, HoldsCredentials, IsUsable, IsGranted, HasTexts, HoldsKeys, IsValid}
-use Rattle.cfg_chain.proofs.CauseCases.{passed_by, stopped_by}
+use Rattle.cfg_world.specs.Inquiry as low
+use Rattle.cfg_world.specs.Inquiry.{Done}
+use Rattle.cfg_keeping.specs.Kinds.{Value}
+use Rattle.cfg_keeping.proofs.Splits.{lowered}
+use Rattle.cfg_providers.specs.declared.web_identity_token.WebIdentity.{WebIdentity}
+use Rattle.cfg_providers.specs.CustomSources.{Answer}
+use Rattle.cfg_providers.specs.EnvironmentKeys.{environment}
+use Rattle.cfg_providers.specs.EnvironmentCauses.{missing_variable}
+use Rattle.cfg_providers.specs.WebIdentities.{no_policies, identity_in, by_identity, web_identity, why_identity}
+use Rattle.cfg_chain.specs.declared.member.Member.{Member}
+use Rattle.cfg_chain.specs.declared.member.Member.TheVariants.{Environment, Profile, WebIdentityToken, EcsContainer}
+use Rattle.cfg_chain.specs.Settings.{Setting, names_of}
+use Rattle.cfg_chain.specs.Chains.{attempt}
+use Rattle.cfg_chain.specs.ChainParts.{AreParts}
+use Rattle.cfg_chain.specs.Members.{member_inquiry, member_tree, credentials_chain}
+use Rattle.cfg_chain.specs.profile.Causes.{first_failure, PlannedCause}
+use Rattle.cfg_chain.specs.profile.Plans.{Planned, plan}
+use Rattle.cfg_chain.specs.profile.Profiles.{refusal, follows_plan, profile}
+use Rattle.cfg_chain.specs.Resolves.{IsPart, Resolves}
+use Rattle.cfg_chain.specs.Valid.{AreOfUse, HasTexts, HoldsKeys, IsContainer, GivesBehindEnvironment, IsValid}
+use Rattle.cfg_chain.proofs.UsableEntries.{no_success, rest_of_use}
+use Rattle.cfg_chain.proofs.UsableContainer.{container_succeeds}
+use Rattle.cfg_chain.proofs.UsableEnvironment.{no_error, texts_cause, keys_given}
+use Rattle.cfg_chain.proofs.UsableIdentities.{identity_succeeds}
+use Rattle.cfg_chain.proofs.UsableProfile.{plan_succeeds}
+use Rattle.cfg_chain.proofs.PassingErrors.{passes, at_odds, decides, goes_on, success_decides, nothing_missing, refusal_passes, plan_stays, entry_stays, no_identity_passes}
 
--- a text with a colon has a rest behind its first, with one colon less
-abbrev Behind : ℕ → List ℕ → Option (List ℕ) → Type 0
-Behind n bytes found = (rest : List ℕ) × (found ≡ Some rest) × (n ≤ colons rest)
+told : (given : Answer) (part : List Pair) (out : Answer) → low.Reads (Done given) part out → given ≡ out
+told given [] out h = h
+told given (e ∷ part) out h = absurd h
 
-behind_first : (t : Bool) (bytes : List ℕ) (n : ℕ) → (suc n ≤ colons bytes → Behind n bytes (behind_colon bytes)) →
-    suc n ≤ cond t (suc (colons bytes)) (colons bytes) → Behind n bytes (cond t (Some bytes) (behind_colon bytes))
-behind_first true bytes n more h = (bytes, refl, omega (arith, h))
-behind_first false bytes n more h = more h
+-- the variables name a web identity, or a container can be asked
+abbrev IsBehindProfile : Setting → Type 0
+IsBehindProfile s = IsOk (identity_in s.configuration.environment) ⊎ IsContainer s
 
-behind : (bytes : List ℕ) (n : ℕ) → suc n ≤ colons bytes → Behind n bytes (behind_colon bytes)
-behind [] n h = absurd (omega (arith, h))
-behind (b ∷ bytes) n h = behind_first (b == 58) bytes n (λ more. behind bytes n more) h
+module _ (s : Setting) where
+  abbrev env : Variables
+  env = s.configuration.environment
 
-five_parts : (arn : List ℕ) → HasFiveParts arn → (account : List ℕ) × (fifth_part (encode_utf8_all arn) ≡ Some account)
-five_parts arn h =
-    let bytes = encode_utf8_all arn in
-    let one = behind bytes 3 h in
-    let two = behind one.0 2 one.2 in
-    let three = behind two.0 1 two.2 in
-    let four = behind three.0 0 three.2 in (
-      before_colon four.0,
-      ap (λ o. option_map before_colon (option_and_then behind_colon (option_and_then behind_colon (option_and_then behind_colon o)))) one.1
-          ∙ ap (λ o. option_map before_colon (option_and_then behind_colon (option_and_then behind_colon o))) two.1
-          ∙ ap (λ o. option_map before_colon (option_and_then behind_colon o)) three.1
-          ∙ ap (λ o. option_map before_colon o) four.1,
-    )
+  abbrev Parts : List Member → List (ProviderAttempt CredentialsError) → List Value → List Pair → Answer → Type 0
+  Parts members attempts found journal out = AreParts (credentials_chain s) (IsPart s) members attempts found journal out
 
-account_given : (arn : Option (List ℕ)) → IfSome arn HasFiveParts → (account : Option (List ℕ)) × (account_of arn ≡ Ok account)
-account_given None h = (None, refl)
-account_given (Some arn) h =
-    let five = five_parts arn h in
-    (Some (characters five.0), ap (λ o. account_or arn (option_map characters o)) five.1)
+  reads_low : (member : Member) (found : List Value) (part : List Pair) (out : Answer) → IsPart s member found part out → low.Reads (member_inquiry s member) part out
+  unfolding member_tree
+  reads_low member found part out p = (lowered (member_inquiry s member) found part out p.reads).1
 
-keys_given : (given : Option StsCredentials) (arn : Option (List ℕ)) (provider : List ℕ) → IsSome given → IfSome arn HasFiveParts → is_ok (keys_in given arn provider) ≡ true
-keys_given None arn provider some h = cc
-keys_given (Some keys) arn provider some h = let a = account_given arn h in rw (a.1) refl
+  rest_used : (journal part rest : List Pair) → journal ≡ part ++ rest → AreOfUse env journal → AreOfUse env rest
+  rest_used journal part rest parts uses = rest_of_use env part rest (subst (AreOfUse env) parts uses)
 
-reply_given : (given : StsReply) (provider : List ℕ) → HoldsCredentials given → is_ok (into_credentials given provider) ≡ true
-unfolding into_credentials
-reply_given given provider h = keys_given given.credentials given.arn provider h.credentials h.arn
+  -- ---- a container
 
-unhandled_fine : (r : Result Keys UnhandledCause) → is_ok r ≡ true → error_of (or_unhandled r) ≡ None
-unhandled_fine (Ok keys) h = refl
-unhandled_fine (Err cause) h = cc
+  container_answers : (found : List Value) (part : List Pair) (out : Answer) → IsContainer s → AreOfUse env part → IsPart s EcsContainer found part out → is_ok out ≡ true
+  unfolding member_inquiry
+  container_answers found part out can uses p = container_succeeds s can part out (reads_low EcsContainer found part out p) uses
 
-usable_fine : (r : Result StsReply NotGranted) → IsUsable r → error_of (granted r) ≡ None
-usable_fine (Ok given) h = unhandled_fine (into_credentials given (codes "AssumeRoleProvider")) (reply_given given (codes "AssumeRoleProvider") h)
-usable_fine (Err reason) h = absurd h
+  from_container : (attempts : List (ProviderAttempt CredentialsError)) (found : List Value) (journal : List Pair) (out : Answer) → IsContainer s → AreOfUse env journal →
+      Parts (EcsContainer ∷ []) attempts found journal out → is_ok out ≡ true
+  from_container attempts found journal out can uses (inl h) =
+      let all = h.7 ∙ ap (λ r. h.2 ++ r) h.10.1 ∙ append-nil h.2 in
+      success_decides h.4 (container_answers h.0 h.2 h.4 can (subst (AreOfUse env) all uses) h.8) (goes_on s h.4 h.5 h.9)
+  from_container attempts found journal out can uses (inr h) = container_answers found journal out can uses h.0
 
-entry_fine : (asked : Question) (answer : Answer) → IsGranted asked answer → exchange_failure asked answer ≡ None
-entry_fine question.Now given h = refl
-entry_fine question.Jitter given h = refl
-entry_fine (question.Read path) given h = refl
-entry_fine (question.Write path bytes) given h = refl
-entry_fine (question.Run command) given h = refl
-entry_fine (question.LookUp host) given h = refl
-entry_fine (question.Send request) given h = usable_fine (granted_of sts_in given) h
+  -- ---- web identity
 
-abbrev granted_entry : Pair → Type 0
-granted_entry e = IsGranted e.0 e.1
+  identity_decides : (r : Result WebIdentity CredentialsError) (part : List Pair) (out : Answer) → (is_ok r ≡ false → passes (result_err r) ≡ true) →
+      low.Reads (by_identity s.configuration no_policies r) part out → passes (result_err out) ≡ false → AreOfUse env part → is_ok out ≡ true
+  identity_decides (Ok identity) part out missing reads stays uses = identity_succeeds s.configuration env identity no_policies (codes "web-identity-token") part out reads uses
+  identity_decides (Err e) part out missing reads stays uses =
+      at_odds (passes (result_err out)) (ap (λ o. passes (result_err o)) (sym (told (Err e) part out reads)) ∙ missing refl) stays
 
-part_fine : (part : List Pair) → All granted_entry part → first_failure part ≡ None
-part_fine [] h = refl
-part_fine (e ∷ part) h =
-    ap (λ o. option_or o (first_failure part)) (entry_fine e.0 e.1 (All-head granted_entry e part h)) ∙ part_fine part (All-tail granted_entry e part h)
+  -- it was passed over: a variable is missing
+  identity_passed : (r : Result WebIdentity CredentialsError) (part : List Pair) (given : Answer) → IsOk r ⊎ IsContainer s →
+      result_err given ≡ why_identity r part → passes (result_err given) ≡ true → IsContainer s
+  identity_passed (Ok identity) part given either cause passing = at_odds (passes (result_err given)) passing (ap passes cause ∙ entry_stays (last_or None part))
+  identity_passed (Err e) part given (inl fine) cause passing = no_success fine
+  identity_passed (Err e) part given (inr can) cause passing = can
 
-is_text : (v : Result (List ℕ) VarError) → v ≢ Err NotUnicode → is_not_unicode v ≡ false
-is_text (Ok text) h = refl
-is_text (Err NotPresent) h = refl
-is_text (Err NotUnicode) h = absurd (h refl)
+  identity_answers : (found : List Value) (part : List Pair) (out : Answer) → AreOfUse env part → IsPart s WebIdentityToken found part out → passes (result_err out) ≡ false → is_ok out ≡ true
+  unfolding member_inquiry web_identity
+  identity_answers found part out uses p stays = identity_decides (identity_in env) part out (no_identity_passes env) (reads_low WebIdentityToken found part out p) stays uses
 
-unstopped : (id : Option (List ℕ)) (id_unreadable : Bool) (secret older : Option (List ℕ)) (older_unreadable : Bool) →
-    id_unreadable ≡ false → (IsSome id → IsNone secret → older_unreadable ≡ false) → stopped_by id id_unreadable secret older older_unreadable ≡ None
-unstopped id true secret older u a b = cc
-unstopped None false secret older u a b = refl
-unstopped (Some i) false (Some s) older u a b = refl
-unstopped (Some i) false None (Some o) u a b = refl
-unstopped (Some i) false None None true a b = let no : true ≡ false = b refl refl in cc
-unstopped (Some i) false None None false a b = refl
+  from_identity : (attempts : List (ProviderAttempt CredentialsError)) (found : List Value) (journal : List Pair) (out : Answer) → IsBehindProfile s → AreOfUse env journal →
+      Parts (WebIdentityToken ∷ EcsContainer ∷ []) attempts found journal out → is_ok out ≡ true
+  from_identity attempts found journal out given uses (inl h) =
+      from_container _ h.1 h.3 out (identity_passed (identity_in env) h.2 h.4 given h.8.cause (goes_on s h.4 h.5 h.9)) (rest_used journal h.2 h.3 h.7 uses) h.10
+  from_identity attempts found journal out given uses (inr h) = identity_answers found journal out uses h.0 (decides s out h.1)
 
-texts_readable : (env : Variables) → HasTexts env → unreadable_variable env ≡ None
-texts_readable env h =
-    unstopped (usable (variable env (codes "AWS_ACCESS_KEY_ID"))) (is_not_unicode (variable env (codes "AWS_ACCESS_KEY_ID"))) (usable (variable env (codes "AWS_SECRET_ACCESS_KEY")))
-    (usable (variable env (codes "SECRET_ACCESS_KEY"))) (is_not_unicode (variable env (codes "SECRET_ACCESS_KEY")))
-    (is_text _ h.access_key) (λ some none. is_text _ (h.older_secret some none))
+  -- ---- the profile
 
-kept_by : (id secret older : Option (List ℕ)) (id_unreadable older_unreadable : Bool) → IsSome id → IsSome secret ⊎ IsSome older → passed_by id id_unreadable secret older older_unreadable ≡ false
-kept_by None secret older u v some either = cc
-kept_by (Some i) (Some s) older u v some either = refl
-kept_by (Some i) None (Some o) u v some either = refl
-kept_by (Some i) None None u v some (inl h) = cc
-kept_by (Some i) None None u v some (inr h) = cc
+  plan_decides : (p : Planned) (part : List Pair) (out : Answer) → GivesBehindEnvironment s p →
+      low.Reads (follows_plan s p) part out → passes (result_err out) ≡ false → AreOfUse env part → is_ok out ≡ true
+  plan_decides (Ok p) part out given reads stays uses = plan_succeeds s p given part out reads uses
+  plan_decides (Err e) part out given reads stays uses =
+      at_odds (passes (result_err out)) (ap (λ o. passes (result_err o)) (sym (told (Err (refusal e)) part out reads)) ∙ refusal_passes e given.0) stays
 
-keys_kept : (env : Variables) → HoldsKeys env → environment_is_passed_over env ≡ false
-keys_kept env h =
-    kept_by (usable (variable env (codes "AWS_ACCESS_KEY_ID"))) (usable (variable env (codes "AWS_SECRET_ACCESS_KEY"))) (usable (variable env (codes "SECRET_ACCESS_KEY")))
-    (is_not_unicode (variable env (codes "AWS_ACCESS_KEY_ID"))) (is_not_unicode (variable env (codes "SECRET_ACCESS_KEY"))) h.access_key h.secret
+  -- it was passed over: there is no plan
+  plan_passed : (p : Planned) (part : List Pair) (out : Answer) → GivesBehindEnvironment s p → PlannedCause s p part out → passes (result_err out) ≡ true → IsBehindProfile s
+  plan_passed (Ok p) part out given cause passing = at_odds (passes (result_err out)) passing (ap passes cause.cause ∙ plan_stays (result_err cause.given) (first_failure cause.role_part))
+  plan_passed (Err e) part out given cause passing = given.1
 
--- some member is not passed over, and the profile has no fault where the chain comes to it
-record HasSource (conf : Configuration) : Type 0 where
-  loaded : list_all (is_passed_over conf) default_members ≡ false
-  right : fault conf ≡ None
+  profile_answers : (found : List Value) (part : List Pair) (out : Answer) → GivesBehindEnvironment s (plan s.configuration (names_of s.sources)) → AreOfUse env part →
+      IsPart s Profile found part out → passes (result_err out) ≡ false → is_ok out ≡ true
+  unfolding member_inquiry profile
+  profile_answers found part out given uses p stays = plan_decides (plan s.configuration (names_of s.sources)) part out given (reads_low Profile found part out p) stays uses
 
-passed_plan : (environment : Bool) (p : Result KeyPlan ProfileFileError) → IsOk p → ((environment && (plan_is_passed_over p && true)) ≡ false) × ((if environment then fault_of_plan p else None) ≡ None)
-passed_plan true (Ok p) h = (refl, refl)
-passed_plan false (Ok p) h = (refl, refl)
-passed_plan environment (Err e) h = cc
+  from_profile : (attempts : List (ProviderAttempt CredentialsError)) (found : List Value) (journal : List Pair) (out : Answer) → GivesBehindEnvironment s (plan s.configuration (names_of s.sources)) →
+      AreOfUse env journal → Parts (Profile ∷ WebIdentityToken ∷ EcsContainer ∷ []) attempts found journal out → is_ok out ≡ true
+  from_profile attempts found journal out given uses (inl h) =
+      from_identity _ h.1 h.3 out (plan_passed (plan s.configuration (names_of s.sources)) h.2 h.4 given h.8.cause (goes_on s h.4 h.5 h.9)) (rest_used journal h.2 h.3 h.7 uses) h.10
+  from_profile attempts found journal out given uses (inr h) = profile_answers found journal out given uses h.0 (decides s out h.1)
 
-has_source : (conf : Configuration) → HoldsKeys conf.environment ⊎ IsOk (plan conf) → HasSource conf
-has_source conf (inl h) =
-    let kept = keys_kept conf.environment h in
-    record {
-      loaded = ap (λ b. b && (plan_is_passed_over (plan conf) && true)) kept;
-      right = ap (λ b. if b then fault_of_plan (plan conf) else None) kept;
-    }
-has_source conf (inr h) = let p = passed_plan (environment_is_passed_over conf.environment) (plan conf) h in record { loaded = p.0; right = p.1 }
+  -- ---- the environment
 
-pub valid_loaded : (conf : Configuration) (part : List Pair) (out : Result Keys CredentialsError) → HasCause conf part out → IsValid conf part → is_ok out ≡ true
-valid_loaded conf part out c v =
-    let g = has_source conf v.given in
-    c.loaded
-    ∙ ap (λ b. not b && (is_none (unreadable_variable conf.environment) && (is_none (fault conf) && is_none (first_failure part)))) g.loaded
-    ∙ ap (λ o. is_none o && (is_none (fault conf) && is_none (first_failure part))) (texts_readable conf.environment v.texts)
-    ∙ ap (λ o. is_none o && is_none (first_failure part)) g.right
-    ∙ ap is_none (part_fine part v.granted)
+  environment_told : (found : List Value) (part : List Pair) (out : Answer) → IsPart s Environment found part out → environment env ≡ out
+  unfolding member_inquiry
+  environment_told found part out p = told (environment env) part out (reads_low Environment found part out p)
+
+  environment_answers : (out : Answer) → HasTexts env → environment env ≡ out → passes (result_err out) ≡ false → is_ok out ≡ true
+  environment_answers out texts is stays =
+      let cause = ap result_err (sym is) ∙ texts_cause env texts in
+      no_error out (cause ∙ nothing_missing (missing_variable env) (ap passes (sym cause) ∙ stays))
+
+  environment_passed : (given : Answer) → HoldsKeys env ⊎ GivesBehindEnvironment s (plan s.configuration (names_of s.sources)) → environment env ≡ given → passes (result_err given) ≡ true →
+      GivesBehindEnvironment s (plan s.configuration (names_of s.sources))
+  environment_passed given (inl keys) is passing = success_decides given (ap is_ok (sym is) ∙ keys_given env keys) passing
+  environment_passed given (inr behind) is passing = behind
+
+  from_environment : (found : List Value) (journal : List Pair) (out : Answer) → IsValid s journal →
+      Parts (Environment ∷ Profile ∷ WebIdentityToken ∷ EcsContainer ∷ []) [] found journal out → is_ok out ≡ true
+  from_environment found journal out valid (inl h) =
+      from_profile (attempt (credentials_chain s) Environment h.5 ∷ []) h.1 h.3 out (environment_passed h.4 valid.given (environment_told h.0 h.2 h.4 h.8) (goes_on s h.4 h.5 h.9)) (rest_used journal h.2 h.3 h.7 valid.answers) h.10
+  from_environment found journal out valid (inr h) = environment_answers out valid.texts (environment_told found journal out h.0) (decides s out h.1)
+
+pub valid_loaded : (s : Setting) (found : List Value) (journal : List Pair) (out : Answer) → Resolves s found journal out → IsValid s journal → is_ok out ≡ true
+valid_loaded s found journal out resolves valid = from_environment s found journal out valid resolves

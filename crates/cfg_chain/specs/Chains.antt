@@ -1,31 +1,32 @@
--- A chain asks its members in order.
-use Rattle.std.specs.Prelude.{List, [], ◌∷◌, ◌++◌, Result, Err}
-use Rattle.cfg_types.specs.Keys.{Keys}
-use Rattle.cfg_types.specs.declared.errors.CredentialsError.{CredentialsError}
-use Rattle.cfg_types.specs.declared.errors.CredentialsError.TheVariants.{CredentialsNotLoaded}
-use Rattle.cfg_types.specs.declared.errors.NotLoadedCause.TheVariants.{Chain}
+-- Chains: members that are asked in order, up to the first that answers.
+use Rattle.std.specs.Prelude.{ℕ, List, [], ◌∷◌, ◌++◌, Bool, Option, Some, None, Result, Ok, Err, if◌then◌else◌}
 use Rattle.cfg_types.specs.declared.errors.ProviderAttempt.{ProviderAttempt}
-use Rattle.cfg_world.specs.Inquiry.{Inquiry, Done, after}
-use Rattle.cfg_chain.specs.declared.member.Member.{Member}
-use Rattle.cfg_chain.specs.declared.member.Turn.{Turn}
-use Rattle.cfg_chain.specs.declared.member.Turn.TheVariants.{PassedOver, Answers}
-use Rattle.cfg_profile.specs.Configuration.{Configuration}
-use Rattle.cfg_chain.specs.Members.{member_inquiry, turn, attempt}
+use Rattle.cfg_keeping.specs.KeptInquiry.{KeptInquiry, Gives, onwards}
 
--- members that were not loaded, each with its answer
-abbrev pub Attempts : Type 0
-Attempts = List (ProviderAttempt CredentialsError)
+-- What a kind of chain says of its members, over any values and errors: the name of each, and the tree
+-- that it asks; which errors are passed over, and the answer where all members were.
+pub record Chain (M V E : Type 0) : Type 0 where
+  pub name_of : M → List ℕ
+  pub tree : M → KeptInquiry (Result V E)
+  pub is_not_loaded : E → Bool
+  pub none_loaded : List (ProviderAttempt E) → E
 
--- the answer of a chain of which no member was loaded
-abbrev pub none_loaded : Attempts → Result Keys CredentialsError
-none_loaded attempts = Err (CredentialsNotLoaded (Chain (record { attempts = attempts })))
+module _ {M V E : Type 0} (c : Chain M V E) where
+  -- the error of an answer that is passed over
+  abbrev pub passed : Result V E → Option E
+  passed (Ok value) = None
+  passed (Err e) = if c.is_not_loaded e then Some e else None
 
--- on to the others after a member that was passed over
-abbrev pub go_on : (Attempts → Inquiry (Result Keys CredentialsError)) → Member → Attempts → Turn → Inquiry (Result Keys CredentialsError)
-go_on others member attempts (PassedOver e) = others (attempts ++ attempt member e ∷ [])
-go_on others member attempts (Answers out) = Done out
+  -- what is told of a member that was passed over
+  abbrev pub attempt : M → E → ProviderAttempt E
+  attempt member e = record { name = c.name_of member; error = e }
 
--- the questions of these members, in order, after these attempts
-unfoldable pub chain : Configuration → List Member → Attempts → Inquiry (Result Keys CredentialsError)
-chain conf [] attempts = Done (none_loaded attempts)
-chain conf (member ∷ members) attempts = after (member_inquiry conf member) (λ out. go_on (chain conf members) member attempts (turn out))
+  -- on to the others after a member that was passed over; any other answer is the chain's
+  abbrev pub go_on : (List (ProviderAttempt E) → KeptInquiry (Result V E)) → M → List (ProviderAttempt E) → Result V E → Option E → KeptInquiry (Result V E)
+  go_on others member attempts out (Some e) = others (attempts ++ attempt member e ∷ [])
+  go_on others member attempts out None = Gives out
+
+  -- the tree of these members, in order, after these attempts
+  unfoldable pub chain : List M → List (ProviderAttempt E) → KeptInquiry (Result V E)
+  chain [] attempts = Gives (Err (c.none_loaded attempts))
+  chain (member ∷ members) attempts = onwards (c.tree member) (λ out. go_on (chain members) member attempts out (passed out))

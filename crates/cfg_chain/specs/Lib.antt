@@ -1,10 +1,13 @@
-pub mod Members
+pub mod Settings
+pub mod Sources
 pub mod Chains
-pub mod KeptStates
+pub mod ChainParts
+pub mod profile
+pub mod Members
+pub mod Turns
 pub mod Resolves
 pub mod PassedOver
 pub mod Causes
 pub mod Valid
 pub mod Provides
 pub mod Setups
-pub mod profile

@@ -1,39 +1,58 @@
 -- What each member of the default chain asks and reads.
-use Rattle.std.specs.Prelude.{ℕ, List, Bool, Result, Ok, Err, codes, if◌then◌else◌}
+use Rattle.std.specs.Prelude.{ℕ, List, [], ◌∷◌, None, Bool, codes}
 use Rattle.cfg_types.specs.Keys.{Keys}
+use Rattle.cfg_types.specs.Classes.{is_of_class}
 use Rattle.cfg_types.specs.declared.errors.Class.TheVariants as class
 use Rattle.cfg_types.specs.declared.errors.CredentialsError.{CredentialsError}
-use Rattle.cfg_types.specs.Classes.{is_of_class}
+use Rattle.cfg_types.specs.declared.errors.CredentialsError.TheVariants as error
+use Rattle.cfg_types.specs.declared.errors.NotLoadedCause.TheVariants as cause
 use Rattle.cfg_types.specs.declared.errors.ProviderAttempt.{ProviderAttempt}
-use Rattle.cfg_world.specs.Inquiry.{Inquiry, Done}
+use Rattle.cfg_world.specs.Inquiry.{Inquiry}
+use Rattle.cfg_keeping.specs.KeptInquiry.{KeptInquiry, lift}
+use Rattle.cfg_providers.specs.CustomSources.{Answer}
+use Rattle.cfg_providers.specs.EnvironmentKeys.{by_environment}
+use Rattle.cfg_providers.specs.WebIdentities.{no_policies, web_identity}
 use Rattle.cfg_chain.specs.declared.member.Member.{Member}
-use Rattle.cfg_chain.specs.declared.member.Member.TheVariants.{Environment, Profile}
-use Rattle.cfg_chain.specs.declared.member.Turn.{Turn}
-use Rattle.cfg_chain.specs.declared.member.Turn.TheVariants.{PassedOver, Answers}
-use Rattle.cfg_profile.specs.Configuration.{Configuration}
-use Rattle.cfg_providers.specs.EnvironmentKeys.{environment}
+use Rattle.cfg_chain.specs.declared.member.Member.TheVariants.{Environment, Profile, WebIdentityToken, EcsContainer}
+use Rattle.cfg_chain.specs.Settings.{Setting}
+use Rattle.cfg_chain.specs.Chains.{Chain, chain}
+use Rattle.cfg_chain.specs.profile.Bases.{by_container}
 use Rattle.cfg_chain.specs.profile.Profiles.{profile}
 
 -- the name under which the chain tells of a member
 abbrev pub name_of : Member → List ℕ
 name_of Environment = codes "Environment"
 name_of Profile = codes "Profile"
+name_of WebIdentityToken = codes "WebIdentityToken"
+name_of EcsContainer = codes "EcsContainer"
 
--- A member's questions and, over their answers, its outcome. The environment asks nothing, and the
--- profile asks for its roles.
-unfoldable pub member_inquiry : Configuration → Member → Inquiry (Result Keys CredentialsError)
-member_inquiry conf Environment = Done (environment conf.environment)
-member_inquiry conf Profile = profile conf
+-- A member's questions and, over their answers, its outcome.
+unfoldable pub member_inquiry : Setting → Member → Inquiry Answer
+member_inquiry s Environment = by_environment s.configuration.environment
+member_inquiry s Profile = profile s
+member_inquiry s WebIdentityToken = web_identity s.configuration None no_policies
+member_inquiry s EcsContainer = by_container s.configuration s.container
+
+-- The same as a tree. No member finds or leaves a kept value yet.
+unfoldable pub member_tree : Setting → Member → KeptInquiry Answer
+member_tree s member = lift (member_inquiry s member)
 
 -- the answer of a provider that was not loaded
 abbrev pub is_not_loaded : CredentialsError → Bool
 is_not_loaded e = is_of_class class.CredentialsNotLoaded e
 
--- a member that was not loaded is passed over; any other answer is the chain's
-abbrev pub turn : Result Keys CredentialsError → Turn
-turn (Ok keys) = Answers (Ok keys)
-turn (Err e) = if is_not_loaded e then PassedOver e else Answers (Err e)
+-- the answer of a chain of which no member was loaded
+abbrev pub none_loaded : List (ProviderAttempt CredentialsError) → CredentialsError
+none_loaded attempts = error.CredentialsNotLoaded (cause.Chain (record { attempts = attempts }))
 
--- what is told of a member that was passed over
-abbrev pub attempt : Member → CredentialsError → ProviderAttempt CredentialsError
-attempt member e = record { name = name_of member; error = e }
+-- a chain of credentials providers, over this setting
+abbrev pub credentials_chain : Setting → Chain Member Keys CredentialsError
+credentials_chain s = record { name_of = name_of; tree = member_tree s; is_not_loaded = is_not_loaded; none_loaded = none_loaded }
+
+-- the members of the default chain, in its order
+abbrev pub default_members : List Member
+default_members = Environment ∷ Profile ∷ WebIdentityToken ∷ EcsContainer ∷ []
+
+-- the default chain
+abbrev pub default_chain : Setting → KeptInquiry Answer
+default_chain s = chain (credentials_chain s) default_members []

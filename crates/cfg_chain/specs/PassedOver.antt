@@ -1,20 +1,36 @@
--- Which members of the default chain are passed over, by the configuration alone.
-use Rattle.std.specs.Prelude.{Bool, false, Result, Ok, Err}
-use Rattle.cfg_types.specs.declared.errors.ProfileFileError.{ProfileFileError}
+-- Which members of the default chain are passed over: a line for each.
+use Rattle.std.specs.Prelude.{◌≡◌, ◌↔◌, List, [], true, false, Bool, Result, Ok, Err}
+use Rattle.cfg_world.specs.Fits.{Pair}
+use Rattle.cfg_exchange.specs.ContainerUnset.{IsUnset}
+use Rattle.cfg_providers.specs.EnvironmentCauses.{environment_is_passed_over, is_not_loaded_answer}
+use Rattle.cfg_providers.specs.CustomSources.{Answer}
+use Rattle.cfg_providers.specs.WebIdentities.{identity_in}
 use Rattle.cfg_chain.specs.declared.member.Member.{Member}
-use Rattle.cfg_chain.specs.declared.member.Member.TheVariants.{Environment, Profile}
-use Rattle.cfg_chain.specs.declared.profile.plan.KeyPlan.{KeyPlan}
-use Rattle.cfg_profile.specs.Configuration.{Configuration}
-use Rattle.cfg_chain.specs.profile.Plans.{plan}
+use Rattle.cfg_chain.specs.declared.member.Member.TheVariants.{Environment, Profile, WebIdentityToken, EcsContainer}
+use Rattle.cfg_chain.specs.Settings.{Setting, names_of}
+use Rattle.cfg_chain.specs.profile.Plans.{Planned, plan}
 use Rattle.cfg_chain.specs.profile.Profiles.{is_not_loaded_error}
-use Rattle.cfg_providers.specs.EnvironmentCauses.{environment_is_passed_over}
 
--- The profile is passed over exactly where there is none, or where it has no credentials.
-abbrev pub plan_is_passed_over : Result KeyPlan ProfileFileError → Bool
+-- the profile is passed over exactly where there is none, where it has no credentials, or where it
+-- gives a token in their place
+abbrev pub plan_is_passed_over : Planned → Bool
 plan_is_passed_over (Ok p) = false
 plan_is_passed_over (Err e) = is_not_loaded_error e
 
--- the table of the members, a line for each
-abbrev pub is_passed_over : Configuration → Member → Bool
-is_passed_over conf Environment = environment_is_passed_over conf.environment
-is_passed_over conf Profile = plan_is_passed_over (plan conf)
+-- a result that is an error
+abbrev pub is_error : {A E : Type 0} → Result A E → Bool
+is_error (Ok x) = false
+is_error (Err e) = true
+
+-- The table of the members that are passed over: the environment without keys, the profile without a
+-- plan that is there, web identity where a variable is missing, each without a question; and a
+-- container without an address, whose token's file at most was read.
+abbrev pub IsPassedOver : Setting → Member → List Pair → Type 0
+IsPassedOver s Environment part = (part ≡ []) × (environment_is_passed_over s.configuration.environment ≡ true)
+IsPassedOver s Profile part = (part ≡ []) × (plan_is_passed_over (plan s.configuration (names_of s.sources)) ≡ true)
+IsPassedOver s WebIdentityToken part = (part ≡ []) × (is_error (identity_in s.configuration.environment) ≡ true)
+IsPassedOver s EcsContainer part = IsUnset s.configuration.environment part
+
+-- An answer says that nothing was loaded exactly where this line of the table holds.
+abbrev pub PassesByTable : Answer → Type 0 → Type 0
+PassesByTable out line = (is_not_loaded_answer out ≡ true) ↔ line

@@ -1,21 +1,43 @@
 -- Which calls of the default chain give credentials, said of the variables, of the selected profile
 -- and of the journal's entries.
-use Rattle.std.specs.Prelude.{◌≢◌, ◌⊎◌, ◌≤◌, ℕ, suc, List, [], ◌∷◌, ◌==◌, IsSome, IsNone, IfSome, IsOk, Result, Ok, Err, codes, if◌then◌else◌}
+use Rattle.std.specs.Prelude.{◌≡◌, ◌≢◌, ◌⊎◌, ◌≤◌, ℕ, suc, pos, List, [], ◌∷◌, ◌==◌, Bool, true, false, Option, Some, None, IsSome, IsNone, IfSome, IsOk, Result, Ok, Err, codes, if◌then◌else◌}
 use Rattle.std.specs.List.{All}
-use Rattle.std.specs.Str.{encode_utf8_all}
+use Rattle.std.specs.Str.{encode_utf8_all, is_utf8}
+use Rattle.cfg_values.specs.declared.address.Address.{Address}
 use Rattle.cfg_types.specs.Environment.{Variables, variable}
-use Rattle.cfg_types.specs.declared.environment.VarError.TheVariants.{NotUnicode}
-use Rattle.cfg_types.specs.declared.reply.sts.StsReply.{StsReply}
 use Rattle.cfg_types.specs.Replies.{sts_in}
+use Rattle.cfg_types.specs.declared.command.Finished.{Finished}
+use Rattle.cfg_types.specs.declared.environment.VarError.TheVariants.{NotUnicode}
+use Rattle.cfg_types.specs.declared.reply.FailKind.{FailKind}
+use Rattle.cfg_types.specs.declared.reply.sts.StsReply.{StsReply}
+use Rattle.cfg_types.specs.declared.request.Request.{Request}
+use Rattle.cfg_types.specs.declared.request.Request.TheVariants as request
 use Rattle.cfg_world.specs.declared.ask.Question.{Question}
 use Rattle.cfg_world.specs.declared.ask.Question.TheVariants as question
-use Rattle.cfg_world.specs.declared.ask.Answer.{Answer}
+use Rattle.cfg_world.specs.declared.ask.Answer.{Answer as Given}
+use Rattle.cfg_world.specs.declared.ask.Answer.TheVariants as answer
 use Rattle.cfg_world.specs.declared.leaves.NotGranted.{NotGranted}
-use Rattle.cfg_world.specs.Leaves.{granted_of}
+use Rattle.cfg_world.specs.Leaves.{contents_of, addresses_of, granted_of}
 use Rattle.cfg_world.specs.Fits.{Pair}
+use Rattle.cfg_exchange.specs.declared.container.ContainerUri.{ContainerUri}
+use Rattle.cfg_exchange.specs.declared.container.ContainerUri.TheVariants as uri
+use Rattle.cfg_exchange.specs.declared.full_uri.FullUri.{FullUri}
+use Rattle.cfg_exchange.specs.declared.full_uri.FullUri.TheVariants.{Secure, AtAddress, AtName}
+use Rattle.cfg_exchange.specs.Addresses.{is_allowed}
+use Rattle.cfg_exchange.specs.Containers.{token_file, token_text, answer_keys}
+use Rattle.cfg_exchange.specs.HeaderValues.{is_header_value}
+use Rattle.cfg_profile.specs.declared.chain.BaseProvider.{BaseProvider}
+use Rattle.cfg_profile.specs.declared.chain.BaseProvider.TheVariants as base
+use Rattle.cfg_profile.specs.NamedSources.{is_alike}
+use Rattle.cfg_providers.specs.CustomSources.{Answer, last_named}
 use Rattle.cfg_providers.specs.EnvironmentKeys.{usable}
-use Rattle.cfg_profile.specs.Configuration.{Configuration}
-use Rattle.cfg_chain.specs.profile.Plans.{plan}
+use Rattle.cfg_providers.specs.ProcessDocuments.{process_document}
+use Rattle.cfg_providers.specs.WebIdentities.{identity_in}
+use Rattle.cfg_chain.specs.Settings.{Setting, names_of}
+use Rattle.cfg_chain.specs.profile.Plans.{Planned, plan}
+use Rattle.cfg_chain.specs.profile.Profiles.{is_not_loaded_error}
+
+-- ---- the entries
 
 -- the number of colons, each the byte 58
 abbrev pub colons : List ℕ → ℕ
@@ -37,11 +59,53 @@ abbrev pub IsUsable : Result StsReply NotGranted → Type 0
 IsUsable (Ok given) = HoldsCredentials given
 IsUsable (Err reason) = ⊥
 
--- A request was answered and not refused, and its reply holds credentials. Nothing is asked of the
--- answers to other questions.
-abbrev pub IsGranted : Question → Answer → Type 0
-IsGranted (question.Send request) given = IsUsable (granted_of sts_in given)
+-- A request for a role was granted, and a container's reply is a document of credentials. No other
+-- request is sent.
+abbrev pub IsGranted : Request → Given → Type 0
+IsGranted (request.AssumeRole call) given = IsUsable (granted_of sts_in given)
+IsGranted (request.AssumeRoleWithWebIdentity call) given = IsUsable (granted_of sts_in given)
+IsGranted (request.Http call) given = IsOk (answer_keys given)
 IsGranted _ given = Unit {0}
+
+-- A file was read and is UTF-8, and that of a container's token holds a header value.
+abbrev pub IsTokenFile : Variables → List ℕ → Result (List ℕ) FailKind → Type 0
+IsTokenFile env path (Ok bytes) = (is_utf8 bytes ≡ true) × (token_file env ≡ Some path → is_header_value bytes ≡ true)
+IsTokenFile env path (Err kind) = ⊥
+
+-- A command ended with the status 0, and its output is a document of credentials, in UTF-8.
+pub record HasPrinted (finished : Finished) : Type 0 where
+  pub ended : finished.status ≡ pos 0
+  pub text : is_utf8 finished.output ≡ true
+  pub document : (account : Option (List ℕ)) → IsOk (process_document finished.output account)
+
+abbrev pub IsPrinted : Given → Type 0
+IsPrinted (answer.Finished finished) = HasPrinted finished
+IsPrinted _ = ⊥
+
+-- All addresses of a name are allowed.
+abbrev pub AreAllowed : Result (List Address) FailKind → Type 0
+AreAllowed (Ok addresses) = All (λ a. is_allowed a ≡ true) addresses
+AreAllowed (Err kind) = ⊥
+
+-- The answer is of use.
+abbrev pub IsOfUse : Variables → Question → Given → Type 0
+IsOfUse env (question.Read path) given = IsTokenFile env path (contents_of given)
+IsOfUse env (question.Run command) given = IsPrinted given
+IsOfUse env (question.LookUp host) given = AreAllowed (addresses_of given)
+IsOfUse env (question.Send request) given = IsGranted request given
+IsOfUse env _ given = Unit {0}
+
+-- The next entry asks the same again.
+abbrev pub IsRepeated : Question → List Pair → Type 0
+IsRepeated q [] = ⊥
+IsRepeated q (e ∷ rest) = e.0 ≡ q
+
+-- Each answer is of use, but for those of attempts that are made again.
+abbrev pub AreOfUse : Variables → List Pair → Type 0
+AreOfUse env [] = Unit {0}
+AreOfUse env (e ∷ rest) = (IsOfUse env e.0 e.1 ⊎ IsRepeated e.0 rest) × AreOfUse env rest
+
+-- ---- the variables and the profile
 
 -- The variables that the environment needs are Unicode where they are set: the access key, and
 -- behind it the older name of the secret, where the first name gives none.
@@ -54,9 +118,59 @@ pub record HoldsKeys (env : Variables) : Type 0 where
   pub access_key : IsSome (usable (variable env (codes "AWS_ACCESS_KEY_ID")))
   pub secret : IsSome (usable (variable env (codes "AWS_SECRET_ACCESS_KEY"))) ⊎ IsSome (usable (variable env (codes "SECRET_ACCESS_KEY")))
 
--- Nothing stands in the way of credentials: the variables are texts, the environment or the selected
--- profile has something to give, and each request of the journal's part was granted.
-pub record IsValid (conf : Configuration) (part : List Pair) : Type 0 where
-  pub texts : HasTexts conf.environment
-  pub given : HoldsKeys conf.environment ⊎ IsOk (plan conf)
-  pub granted : All (λ e. IsGranted e.0 e.1) part
+-- A full address names HTTPS, an allowed address, or a name.
+abbrev pub IsFullAddress : FullUri → Type 0
+IsFullAddress (Secure target) = Unit {0}
+IsFullAddress (AtAddress target address) = is_allowed address ≡ true
+IsFullAddress (AtName target host) = Unit {0}
+IsFullAddress _ = ⊥
+
+-- The variables name an address of a container that may be asked.
+abbrev pub IsAddress : ContainerUri → Type 0
+IsAddress (uri.Relative target) = Unit {0}
+IsAddress (uri.Full text named) = IsFullAddress named
+IsAddress _ = ⊥
+
+-- A container's token is none, that of a file, or a header value.
+abbrev pub HasToken : Option (List ℕ) → Option (List ℕ) → Type 0
+HasToken (Some path) text = Unit {0}
+HasToken None text = IfSome text (λ t. is_header_value (encode_utf8_all t) ≡ true)
+
+-- A container can be asked.
+pub record IsContainer (s : Setting) : Type 0 where
+  pub address : IsAddress s.container
+  pub token : HasToken (token_file s.configuration.environment) (token_text s.configuration.environment)
+
+abbrev pub IsBuiltInBy : Setting → Bool → Bool → Type 0
+IsBuiltInBy s true is_container = HoldsKeys s.configuration.environment
+IsBuiltInBy s false true = IsContainer s
+IsBuiltInBy s false false = ⊥
+
+-- The environment has keys, or a container can be asked.
+abbrev pub IsBuiltIn : Setting → List ℕ → Type 0
+IsBuiltIn s name = IsBuiltInBy s (is_alike name (codes "Environment")) (is_alike name (codes "EcsContainer"))
+
+abbrev pub IsSource : Setting → List ℕ → Option Answer → Type 0
+IsSource s name (Some given) = IsOk given
+IsSource s name None = IsBuiltIn s name
+
+-- A base has something to give: a named source answers, and any other base stands in the profile.
+abbrev pub IsBase : Setting → BaseProvider → Type 0
+IsBase s (base.AccessKey keys) = Unit {0}
+IsBase s (base.NamedSource name) = IsSource s name (last_named name s.sources)
+IsBase s (base.WebIdentityTokenRole arn file session) = Unit {0}
+IsBase s (base.CredentialProcess command account) = Unit {0}
+IsBase s _ = ⊥
+
+-- The selected profile has a base with something to give; or it is passed over, and the variables name
+-- a web identity, or a container that can be asked.
+abbrev pub GivesBehindEnvironment : Setting → Planned → Type 0
+GivesBehindEnvironment s (Ok p) = IsBase s p.base
+GivesBehindEnvironment s (Err e) = (is_not_loaded_error e ≡ true) × (IsOk (identity_in s.configuration.environment) ⊎ IsContainer s)
+
+-- Nothing stands in the way of credentials: the variables are texts; the environment has something to
+-- give, or a member behind it; and each answer in the journal's part is of use.
+pub record IsValid (s : Setting) (part : List Pair) : Type 0 where
+  pub texts : HasTexts s.configuration.environment
+  pub given : HoldsKeys s.configuration.environment ⊎ GivesBehindEnvironment s (plan s.configuration (names_of s.sources))
+  pub answers : AreOfUse s.configuration.environment part

@@ -1,2 +1,4 @@
 pub mod Plans
+pub mod Bases
 pub mod Profiles
+pub mod Causes

@@ -1,10 +1,15 @@
 ghost use Rattle.std.specs.Prelude.{◌≡◌, [], ◌∷◌, ◌++◌, OnOk};
-ghost use Rattle.cfg_world.specs.Follows.{Follows};
-ghost use Rattle.cfg_chain.specs.Members.{attempt};
+ghost use Rattle.cfg_keeping.specs.Holds.{HoldsFollows};
+ghost use Rattle.cfg_chain.specs.Settings.{setting};
+ghost use Rattle.cfg_chain.specs.Sources.{named_sources};
 ghost use Rattle.cfg_chain.specs.Chains.{chain};
+ghost use Rattle.cfg_chain.specs.Members.{name_of, credentials_chain};
 
 use crate::member::{Member, Turn, follow_member, turn_of};
+use cfg_exchange::ContainerUri;
+use cfg_keeping::Keeper;
 use cfg_profile::ProviderConfig;
+use cfg_providers::CustomSource;
 use cfg_types::{
     Credentials, CredentialsError, NotLoadedCause, OutOfMemory, ProviderAttempt,
     ProviderChainError, Seq, Text,
@@ -14,17 +19,21 @@ use std::alloc::Global;
 
 /// Asks the members in order, up to the first one that was loaded or that failed.
 #[tactic(auto, using(crate::proofs::ChainSteps::chain_steps))]
-pub fn follow_chain<A: Asking>(
+pub fn follow_chain<P: Keeper, A: Asking>(
     alloc: Global,
     config: &ProviderConfig,
+    sources: &[CustomSource],
+    container: &ContainerUri,
     members: &[Member],
+    keeper: &mut P,
     asking: &mut A,
 ) -> Result<Result<Credentials, CredentialsError>, Stop>
-    ensures { Follows ⟦<A as Asking>⟧ (chain config.now members.now []) asking.old asking.new result }
+    ensures follows { HoldsFollows ⟦<A as Asking>⟧ (chain (credentials_chain (setting config.now (named_sources value sources.now) container.now)) members.now []) asking.old (P.holdings keeper.old) asking.new (P.holdings keeper.new) result }
+    ensures key { P.key_held keeper.new ≡ P.key_held keeper.old }
 {
     let mut attempts = Vec::new(alloc);
     for member in members {
-        let outcome = follow_member(alloc, config, *member, asking)?;
+        let outcome = follow_member(alloc, config, sources, container, *member, keeper, asking)?;
         match turn_of(outcome) {
             Turn::Answers(answer) => return Ok(answer),
             Turn::PassedOver(error) => {
@@ -45,7 +54,7 @@ fn note_attempt(
     member: Member,
     error: CredentialsError,
 ) -> Result<(), OutOfMemory>
-    ensures { OnOk result (attempts.new.items ≡ attempts.old.items ++ attempt member error ∷ []) }
+    ensures { OnOk result (attempts.new.items ≡ attempts.old.items ++ record { name = name_of member; error = error } ∷ []) }
 {
     let name = Text::of(alloc, member.name())?;
     attempts.push(ProviderAttempt::new(name, error))?;

@@ -1,55 +1,72 @@
 //! Laws of chains, each on a call that carries it.
-ghost use Rattle.std.specs.Prelude.{◌≡◌, ◌↔◌, ℕ, List, [], ◌∷◌, ◌++◌, Some, None, true, false, Result};
-ghost use Rattle.cfg_types.specs.Keys.{Keys};
-ghost use Rattle.cfg_types.specs.declared.errors.CredentialsError.{CredentialsError as Refusal};
+ghost use Rattle.std.specs.Prelude.{◌≡◌, ◌↔◌, ℕ, List, [], true, is_ok, Option, Result};
+ghost use Rattle.cfg_types.specs.declared.errors.ProviderAttempt.{ProviderAttempt};
 ghost use Rattle.cfg_world.specs.Fits.{Pair};
 ghost use Rattle.cfg_world.specs.declared.script.DeviceLists.{DeviceLists as Lists};
 ghost use Rattle.cfg_world.specs.Script.{Place, Given};
-ghost use Rattle.cfg_world.specs.Inquiry.{Reads, Begun};
-ghost use Rattle.cfg_chain.specs.declared.member.Member.{Member as Asked};
+ghost use Rattle.cfg_keeping.specs.Kinds.{Value, States};
+ghost use Rattle.cfg_keeping.specs.KeptInquiry.{Reads, Begins};
 ghost use Rattle.cfg_profile.specs.Configuration.{Configuration};
 ghost use Rattle.cfg_profile.specs.NamedSources.{IsPlan};
 ghost use Rattle.cfg_profile.specs.SectionSets.{SectionSets};
+ghost use Rattle.cfg_providers.specs.CustomSources.{Answer, NamedAnswer};
+ghost use Rattle.cfg_chain.specs.declared.member.Member.{Member as Asked};
+ghost use Rattle.cfg_chain.specs.Settings.{Setting};
+ghost use Rattle.cfg_chain.specs.Chains.{Chain, chain};
+ghost use Rattle.cfg_chain.specs.ChainParts.{MemberReads, AreParts, AreBegunParts};
+ghost use Rattle.cfg_chain.specs.Members.{member_tree};
+ghost use Rattle.cfg_exchange.specs.Containers.{IsContainerUri};
+ghost use Rattle.cfg_chain.specs.Causes.{Cause};
+ghost use Rattle.cfg_chain.specs.PassedOver.{IsPassedOver, PassesByTable};
+ghost use Rattle.cfg_chain.specs.Resolves.{Resolves};
+ghost use Rattle.cfg_chain.specs.Valid.{IsValid};
+ghost use Rattle.cfg_chain.specs.Provides.{IsCall};
 ghost use Rattle.cfg_chain.specs.profile.Plans.{Planned, profile_plan};
-ghost use Rattle.cfg_providers.specs.EnvironmentCauses.{is_not_loaded_answer};
-ghost use Rattle.cfg_chain.specs.Members.{member_inquiry};
-ghost use Rattle.cfg_chain.specs.PassedOver.{is_passed_over};
-ghost use Rattle.cfg_chain.specs.Chains.{Attempts, chain};
-ghost use Rattle.cfg_chain.specs.Resolves.{AreParts, AreBegunParts, IsPassedOver, Resolves};
 
-/// The journal of a chain is the parts of its members in order, and the other way round: the chain
-/// asks what its members ask.
-pub fn a_chain_is_its_members()
-    ensures { (conf : Configuration) (members : List Asked) (attempts : Attempts) (journal : List Pair) (out : Result Keys Refusal) →
-        Reads (chain conf members attempts) journal out ↔ AreParts conf members attempts journal out }
+/// The journal of a chain is the parts of its members in order, and the other way round: whatever its
+/// members, values and errors are, the chain asks what its members ask.
+pub fn a_chain_is_its_members<M, V, E>()
+    ensures { (c : Chain M V E) (members : List M) (attempts : List (ProviderAttempt E)) (found : List Value) (journal : List Pair) (out : Result V E) →
+        Reads (chain c members attempts) found journal out ↔ AreParts c (MemberReads c) members attempts found journal out }
 {}
 
-/// A chain that was interrupted has begun its members in order: those that were passed over are
-/// whole, and the next one is begun.
-pub fn an_interrupted_chain_is_its_members()
-    ensures { (conf : Configuration) (members : List Asked) (attempts : Attempts) (journal : List Pair) →
-        Begun (chain conf members attempts) journal ↔ AreBegunParts conf members journal }
+/// A chain that was interrupted has begun its members in order: those that were passed over are whole,
+/// and the next one is begun.
+pub fn an_interrupted_chain_is_its_members<M, V, E>()
+    ensures { (c : Chain M V E) (members : List M) (attempts : List (ProviderAttempt E)) (old new : Option States) (found : List Value) (journal : List Pair) →
+        Begins (chain c members attempts) old found journal new ↔ AreBegunParts c members old found journal new }
 {}
 
-/// Over one configuration and one script of devices, from one place, the call of the default chain
-/// has one journal and one answer.
-pub fn one_script_one_call()
-    ensures { (conf : Configuration) (lists : Lists) (place : Place) (one other : List Pair) (x y : Result Keys Refusal) →
-        Resolves conf [] one x → Resolves conf [] other y → Given lists place one → Given lists place other → (one ≡ other) × (x ≡ y) }
+/// Each answer of a member has its cause over its part, by the rule of its provider.
+pub fn members_have_causes()
+    ensures { (s : Setting) (member : Asked) (found : List Value) (part : List Pair) (out : Answer) →
+        Reads (member_tree s member) found part out → Cause s member part out }
 {}
 
-/// A member is passed over by its line of the table: exactly where the configuration says so, and
-/// over an empty part, since it then asks nothing.
+/// A member is passed over by its line of the table, and by nothing else, where the address of a
+/// container is the one that the variables name.
 pub fn members_are_passed_over_by_the_table()
-    ensures passed { (conf : Configuration) (member : Asked) (part : List Pair) (error : Refusal) →
-        IsPassedOver conf member part error → (is_passed_over conf member ≡ true) × (part ≡ []) }
-    ensures table { (conf : Configuration) (member : Asked) (part : List Pair) (out : Result Keys Refusal) →
-        is_passed_over conf member ≡ true → Reads (member_inquiry conf member) part out → (is_not_loaded_answer out ≡ true) × (part ≡ []) }
+    ensures { (s : Setting) (member : Asked) (found : List Value) (part : List Pair) (out : Answer) →
+        IsContainerUri s.configuration.environment s.container → Reads (member_tree s member) found part out → PassesByTable out (IsPassedOver s member part) }
 {}
 
-/// The plan of a profile is what its path gives, where the caller has no sources of its own. There is
+/// Over one configuration, one list of sources, one kept state and one script of devices, from one
+/// place, the call of the default chain has one journal and one answer, finds the same values, and
+/// leaves the same.
+pub fn one_script_one_call()
+    ensures { (conf : Configuration) (sources : List NamedAnswer) (lists : Lists) (place : Place) (old new newer : States) (found more : List Value) (one other : List Pair) (x y : Answer) →
+        IsCall conf sources old new found one x → IsCall conf sources old newer more other y → Given lists place one → Given lists place other → (one ≡ other) × (found ≡ more) × (x ≡ y) × (new ≡ newer) }
+{}
+
+/// Where nothing stands in the way, said of the variables, of the selected profile and of the journal's
+/// entries, the call gives credentials.
+pub fn nothing_in_the_way_gives_credentials()
+    ensures { (s : Setting) (found : List Value) (journal : List Pair) (out : Answer) → Resolves s found journal out → IsValid s journal → is_ok out ≡ true }
+{}
+
+/// The plan of a profile is what its path gives, where the caller has sources of these names. There is
 /// no other such answer.
 pub fn the_plan_is_that_of_the_path()
-    ensures path { (sets : SectionSets) (name : List ℕ) → IsPlan sets name [] (profile_plan sets name) }
-    ensures only { (sets : SectionSets) (name : List ℕ) (answer : Planned) → IsPlan sets name [] answer → profile_plan sets name ≡ answer }
+    ensures path { (sets : SectionSets) (name : List ℕ) (sources : List (List ℕ)) → IsPlan sets name sources (profile_plan sets name sources) }
+    ensures only { (sets : SectionSets) (name : List ℕ) (sources : List (List ℕ)) (answer : Planned) → IsPlan sets name sources answer → profile_plan sets name sources ≡ answer }
 {}

@@ -1,15 +1,20 @@
 ghost use Rattle.std.specs.Prelude.{◌≡◌};
 ghost use Rattle.cfg_values.specs.Text.{characters};
 ghost use Rattle.cfg_world.specs.Follows.{Follows};
-ghost use Rattle.cfg_chain.specs.Members.{name_of, turn, member_inquiry};
-ghost use Rattle.cfg_world.specs.Inquiry.{Done};
-ghost use Rattle.cfg_providers.specs.EnvironmentKeys.{environment};
+ghost use Rattle.cfg_keeping.specs.Holds.{HoldsFollows};
+ghost use Rattle.cfg_chain.specs.Settings.{setting};
+ghost use Rattle.cfg_chain.specs.Sources.{named_sources};
+ghost use Rattle.cfg_chain.specs.Members.{name_of, member_inquiry, member_tree};
+ghost use Rattle.cfg_chain.specs.Turns.{IsTurn};
 
+use crate::profile::base::ask_container;
 use crate::profile::provider::follow_profile;
+use cfg_exchange::ContainerUri;
+use cfg_keeping::Keeper;
 use cfg_profile::ProviderConfig;
-use cfg_providers::environment_credentials;
+use cfg_providers::{CustomSource, SessionPolicies, follow_environment, web_identity};
 use cfg_types::{Credentials, CredentialsError};
-use cfg_world::{Asking, Halt, Stop};
+use cfg_world::{Asking, Stop};
 use std::alloc::Global;
 
 /// A member of the default chain.
@@ -17,6 +22,8 @@ use std::alloc::Global;
 pub enum Member {
     Environment,
     Profile,
+    WebIdentityToken,
+    EcsContainer,
 }
 
 impl Member {
@@ -27,6 +34,8 @@ impl Member {
         match self {
             Member::Environment => "Environment",
             Member::Profile => "Profile",
+            Member::WebIdentityToken => "WebIdentityToken",
+            Member::EcsContainer => "EcsContainer",
         }
     }
 }
@@ -41,7 +50,7 @@ pub enum Turn {
 }
 
 pub fn turn_of(outcome: Result<Credentials, CredentialsError>) -> Turn
-    ensures { result ≡ turn outcome }
+    ensures { IsTurn outcome result }
 {
     match outcome {
         Err(CredentialsError::CredentialsNotLoaded(cause)) => {
@@ -52,33 +61,44 @@ pub fn turn_of(outcome: Result<Credentials, CredentialsError>) -> Turn
 }
 
 /// Asks what the member asks, and reads what it reads.
-#[tactic(auto, unfolding(crate::specs::Members::member_inquiry))]
-pub fn follow_member<A: Asking>(
+#[tactic(auto, using(cfg_keeping::proofs::HoldingSteps::holding_steps), unfolding(crate::specs::Members::member_tree))]
+pub fn follow_member<P: Keeper, A: Asking>(
     alloc: Global,
     config: &ProviderConfig,
+    sources: &[CustomSource],
+    container: &ContainerUri,
+    member: Member,
+    _keeper: &mut P,
+    asking: &mut A,
+) -> Result<Result<Credentials, CredentialsError>, Stop>
+    ensures follows { HoldsFollows ⟦<A as Asking>⟧ (member_tree (setting config.now (named_sources value sources.now) container.now) member) asking.old (P.holdings _keeper.old) asking.new (P.holdings _keeper.new) result }
+    ensures key { P.key_held _keeper.new ≡ P.key_held _keeper.old }
+{
+    let outcome = ask_member(alloc, config, sources, container, member, asking)?;
+    Ok(outcome)
+}
+
+#[tactic(auto, unfolding(crate::specs::Members::member_inquiry))]
+fn ask_member<A: Asking>(
+    alloc: Global,
+    config: &ProviderConfig,
+    sources: &[CustomSource],
+    container: &ContainerUri,
     member: Member,
     asking: &mut A,
 ) -> Result<Result<Credentials, CredentialsError>, Stop>
-    ensures { Follows ⟦<A as Asking>⟧ (member_inquiry config.now member) asking.old asking.new result }
+    ensures { Follows ⟦<A as Asking>⟧ (member_inquiry (setting config.now (named_sources value sources.now) container.now) member) asking.old asking.new result }
 {
     match member {
-        Member::Environment => follow_environment(alloc, config, asking),
-        Member::Profile => follow_profile(alloc, config, asking),
-    }
-}
-
-// The environment asks nothing.
-#[tactic(auto, using(cfg_providers::proofs::QuietSteps::quiet_steps))]
-fn follow_environment<A: Asking>(
-    alloc: Global,
-    config: &ProviderConfig,
-    _asking: &mut A,
-) -> Result<Result<Credentials, CredentialsError>, Stop>
-    ensures { Follows ⟦<A as Asking>⟧ (Done (environment config.now.environment)) _asking.old _asking.new result }
-{
-    match environment_credentials(alloc, config.env()) {
-        Ok(credentials) => Ok(Ok(credentials)),
-        Err(Halt::Refused(error)) => Ok(Err(error)),
-        Err(Halt::Stopped(_)) => Err(Stop::OutOfMemory),
+        Member::Environment => follow_environment(alloc, config.env(), asking),
+        Member::Profile => follow_profile(alloc, config, sources, container, asking),
+        Member::WebIdentityToken => web_identity(
+            alloc,
+            config,
+            &None,
+            &SessionPolicies::none(),
+            asking,
+        ),
+        Member::EcsContainer => ask_container(alloc, config, container, asking),
     }
 }

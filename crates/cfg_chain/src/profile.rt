@@ -1,4 +1,5 @@
 //! The selected profile: what it gives credentials by, and its provider.
 
+pub mod base;
 pub mod plan;
 pub mod provider;

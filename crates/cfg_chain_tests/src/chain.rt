@@ -1,7 +1,7 @@
 // What no clause says: worked examples of the definitions, and that calls succeed. A row's
 // configuration and devices stand in a script, as the program reads them.
-use crate::setup::{Setup, answered, chain_of, questions, set_up};
-use cfg_chain::{DefaultCredentialsChain, ProfileSource, ProviderConfig, is_built};
+use crate::setup::{Setup, answered, chain_of, questions, set_up, shown};
+use cfg_chain::{CustomSource, DefaultCredentialsChain, ProfileSource, ProviderConfig, is_built};
 use cfg_types::{OutOfMemory, Request, Text};
 use cfg_world::{DeviceLists, Entry, Question, ScriptDevices, World};
 use std::alloc::{AllocError, Global};
@@ -11,9 +11,10 @@ use std::test::Fail;
 fn call(
     alloc: Global,
     chain: &DefaultCredentialsChain,
+    sources: &[CustomSource],
     world: &mut World<ScriptDevices>,
 ) -> Result<String, OutOfMemory> {
-    let answer = answered(alloc, chain, world)?;
+    let answer = answered(alloc, chain, sources, world)?;
     let questions = questions(alloc, world.journal())?;
     Ok(format!(in alloc; "{answer}{questions}")?)
 }
@@ -21,9 +22,15 @@ fn call(
 fn words_of(alloc: Global, script: &str) -> Result<String, OutOfMemory> {
     match set_up(alloc, script)? {
         None => Ok(String::from_str(alloc, "no script")?),
-        Some(Setup { chain, devices }) => {
+        Some(
+            Setup {
+                chain,
+                sources,
+                devices,
+            },
+        ) => {
             let mut world = World::new(alloc, devices);
-            call(alloc, &chain, &mut world)
+            call(alloc, &chain, sources.as_slice(), &mut world)
         }
     }
 }
@@ -79,7 +86,11 @@ fn errors_of_scripts(rt: HostRuntime) -> Result<(), Fail> {
             r#"InvalidConfiguration(Profile(InvalidCredentialSource { profile: "default", message: "profile missing aws_access_key_id" }))"#,
         ),
         (
-            r#"{"profiles":[["default",[["credential_process","x"]]]]}"#,
+            r#"{"profiles":[["default",[["login_session","x"]]]]}"#,
+            r#"InvalidConfiguration(Profile(FeatureNotEnabled { feature: "profile-providers", message: None }))"#,
+        ),
+        (
+            r#"{"profiles":[["default",[["role_arn","x"],["credential_source","Ec2InstanceMetadata"]]]]}"#,
             r#"InvalidConfiguration(Profile(FeatureNotEnabled { feature: "profile-providers", message: None }))"#,
         ),
         (
@@ -109,7 +120,7 @@ fn errors_of_scripts(rt: HostRuntime) -> Result<(), Fail> {
 // The answer where no member is loaded: the variable and the profile that are missing.
 fn nothing_loaded(alloc: Global, variable: &str, profile: &str) -> Result<String, AllocError> {
     format!(in alloc;
-        "CredentialsNotLoaded(Chain(ProviderChainError {{ attempts: [ProviderAttempt {{ name: \"Environment\", error: CredentialsNotLoaded(NotSet(\"{variable}\")) }}, ProviderAttempt {{ name: \"Profile\", error: CredentialsNotLoaded(Profile({profile})) }}] }}))"
+        "CredentialsNotLoaded(Chain(ProviderChainError {{ attempts: [ProviderAttempt {{ name: \"Environment\", error: CredentialsNotLoaded(NotSet(\"{variable}\")) }}, ProviderAttempt {{ name: \"Profile\", error: CredentialsNotLoaded(Profile({profile})) }}, ProviderAttempt {{ name: \"WebIdentityToken\", error: CredentialsNotLoaded(NotSet(\"AWS_WEB_IDENTITY_TOKEN_FILE\")) }}, ProviderAttempt {{ name: \"EcsContainer\", error: CredentialsNotLoaded(NotConfigured) }}] }}))"
     )
 }
 
@@ -199,11 +210,18 @@ fn exchange_words(alloc: Global, entry: &Entry) -> Result<String, AllocError> {
 }
 
 fn exchanges(alloc: Global, script: &str) -> Result<String, OutOfMemory> {
-    let Some(Setup { chain, devices }) = set_up(alloc, script)? else {
+    let Some(
+        Setup {
+            chain,
+            sources,
+            devices,
+        },
+    ) = set_up(alloc, script)?
+    else {
         return Ok(String::from_str(alloc, "no script")?);
     };
     let mut world = World::new(alloc, devices);
-    let answer = answered(alloc, &chain, &mut world)?;
+    let answer = answered(alloc, &chain, sources.as_slice(), &mut world)?;
     let mut words = String::new(alloc);
     for entry in world.journal() {
         words.push_str(exchange_words(alloc, entry)?.as_str())?;
@@ -231,17 +249,130 @@ fn roles_of_a_path_are_assumed_from_its_end(rt: HostRuntime) -> Result<(), Fail>
     Ok(())
 }
 
+#[test]
+fn errors_of_a_base_behind_roles(rt: HostRuntime) -> Result<(), Fail> {
+    let table: &[(&str, &str)] = &[
+        (
+            r#"{"profiles":[["default",[["credential_process","p"]]]],"commands":["fail"]}"#,
+            "ProviderError(Base(ProviderError(Process(NotRun))))",
+        ),
+        (
+            r#"{"profiles":[["default",[["role_arn","x"],["source_profile","b"]]],["b",[["credential_process","p"]]]],"commands":[[3,"","bad"]]}"#,
+            r#"ProviderError(Base(ProviderError(Process(Status { code: 3, errors: Some("bad") }))))"#,
+        ),
+        (
+            r#"{"profiles":[["default",[["role_arn","x"],["source_profile","b"]]],["b",[["role_arn","y"],["source_profile","c"]]],["c",[["role_arn","z"],["source_profile","d"]]],["d",[["credential_process","p"]]]],"commands":[[0,"{}",""]]}"#,
+            "ProviderError(Base(ProviderError(Process(Document(MissingField(Version))))))",
+        ),
+        (
+            r#"{"profiles":[["default",[["role_arn","x"],["credential_source","Environment"]]]]}"#,
+            r#"ProviderError(Base(CredentialsNotLoaded(NotSet("AWS_ACCESS_KEY_ID"))))"#,
+        ),
+        (
+            r#"{"profiles":[["default",[["role_arn","x"],["source_profile","b"]]],["b",[["role_arn","y"],["source_profile","c"]]],["c",[["role_arn","z"],["credential_source","Environment"]]]],"variables":[["AWS_ACCESS_KEY_ID"," "]]}"#,
+            r#"ProviderError(Base(CredentialsNotLoaded(NotSet("AWS_ACCESS_KEY_ID"))))"#,
+        ),
+        (
+            r#"{"profiles":[["default",[["role_arn","x"],["credential_source","unloaded"]]]]}"#,
+            "ProviderError(Base(CredentialsNotLoaded(NotConfigured)))",
+        ),
+        (
+            r#"{"profiles":[["default",[["role_arn","x"],["credential_source","invalid"]]]]}"#,
+            "ProviderError(Base(InvalidConfiguration(AuthToken)))",
+        ),
+        (
+            r#"{"profiles":[["default",[["role_arn","x"],["credential_source","failing"]]]]}"#,
+            "ProviderError(Base(ProviderError(Status(500))))",
+        ),
+        (
+            r#"{"profiles":[["default",[["role_arn","x"],["credential_source","unhandled"]]]]}"#,
+            "ProviderError(Base(Unhandled(NotUtf8)))",
+        ),
+        (
+            r#"{"profiles":[["default",[["role_arn","x"],["credential_source","full"]]]]}"#,
+            "OutOfMemory",
+        ),
+        (
+            r#"{"profiles":[["default",[["role_arn","x"],["credential_source","late"]]]]}"#,
+            "ProviderError(Base(ProviderTimedOut))",
+        ),
+        (
+            r#"{"profiles":[["default",[["role_arn","x"],["source_profile","b"]]],["b",[["role_arn","y"],["source_profile","c"]]],["c",[["role_arn","z"],["credential_source","LATE"]]]]}"#,
+            "ProviderError(Base(ProviderTimedOut))",
+        ),
+    ];
+    for (script, want) in table {
+        let words = exchanges(rt.alloc(), script)?;
+        assert_eq!(rt; words.as_str(), *want, "{script}");
+    }
+    Ok(())
+}
+
+// A name that is always there may be the caller's own, in any case, and then the later one counts.
+#[test]
+fn the_later_of_the_callers_own_sources_counts(rt: HostRuntime) -> Result<(), Fail> {
+    let table: &[(&str, &str)] = &[
+        (
+            r#"{"variables":[["AWS_CONTAINER_CREDENTIALS_FULL_URI","http://127.0.0.1/c"]],"profiles":[["default",[["role_arn","r"],["credential_source","EcsContainer"],["role_session_name","s"]]]],"replies":{"assume-role":[{"id":"KA","secret":"SA","token":"TA","expires":9}]}}"#,
+            r#"r by SECOND as s; Credentials { provider_name: "AssumeRoleProvider", access_key_id: "KA", secret_access_key: "** redacted **", expires_after: 9 s 0 ns } SA Some("TA") [CredentialsProfile]"#,
+        ),
+        (
+            r#"{"variables":[["SECRET_ACCESS_KEY","S"]],"profiles":[["default",[["role_arn","r"],["source_profile","b"],["role_session_name","s"]]],["b",[["credential_source","ECSCONTAINER"]]]]}"#,
+            "r by SECOND as s; ProviderError(Role(ProviderError(Sent(Dispatch))))",
+        ),
+    ];
+    for (script, want) in table {
+        let words = exchanges(rt.alloc(), script)?;
+        assert_eq!(rt; words.as_str(), *want, "{script}");
+    }
+    Ok(())
+}
+
+fn shown_words(alloc: Global, script: &str) -> Result<String, OutOfMemory> {
+    let Some(
+        Setup {
+            chain,
+            sources,
+            devices,
+        },
+    ) = set_up(alloc, script)?
+    else {
+        return Ok(String::from_str(alloc, "no script")?);
+    };
+    let mut world = World::new(alloc, devices);
+    shown(alloc, &chain, sources.as_slice(), &mut world)
+}
+
+#[test]
+fn the_members_that_were_not_loaded_are_shown(rt: HostRuntime) -> Result<(), Fail> {
+    let table: &[(&str, &str)] = &[
+        (
+            "{}",
+            "no credentials found in chain. Attempted:\n  Environment: not loaded: environment variable not set\n  Profile: not loaded: No profiles were defined\n  WebIdentityToken: not loaded: $AWS_WEB_IDENTITY_TOKEN_FILE was not set\n  EcsContainer: not loaded: ECS provider not configured",
+        ),
+        (
+            r#"{"variables":[["AWS_WEB_IDENTITY_TOKEN_FILE","/j"]],"profiles":[["default",[]]]}"#,
+            "no credentials found in chain. Attempted:\n  Environment: not loaded: environment variable not set\n  Profile: not loaded: profile `default` did not contain credential information\n  WebIdentityToken: not loaded: AWS_ROLE_ARN environment variable must be set\n  EcsContainer: not loaded: ECS provider not configured",
+        ),
+    ];
+    for (script, want) in table {
+        let words = shown_words(rt.alloc(), script)?;
+        assert_eq!(rt; words.as_str(), *want, "{script}");
+    }
+    Ok(())
+}
+
 // Sections that were refused, and whether the plan for them is built.
 fn refused_words(alloc: Global) -> Result<String, OutOfMemory> {
     let reason = Text::of(alloc, "line 3")?;
     let config = ProviderConfig::without_region(alloc)?.with_profiles(ProfileSource::Refused(
         reason,
     ));
-    let built = is_built(alloc, &config)?;
+    let built = is_built(alloc, &config, &[])?;
     let devices = ScriptDevices::new(alloc, DeviceLists::empty(alloc))?;
     let mut world = World::new(alloc, devices);
     let chain = chain_of(alloc, config, None, &mut world)?;
-    let answer = call(alloc, &chain, &mut world)?;
+    let answer = call(alloc, &chain, &[], &mut world)?;
     Ok(format!(in alloc; "{built} {answer}")?)
 }
 

@@ -5,16 +5,36 @@ use cfg_world::{Answers, Entry, FaultDevices, Receipt, ScriptDevices, World};
 use std::alloc::Global;
 use std::test::Fail;
 
+// One role over keys.
 const ROLE: &str =
     r#"{"profiles":[["default",[["role_arn","r"],["source_profile","b"]]],["b",[["aws_access_key_id","K"],["aws_secret_access_key","S"]]]],"clock":[7],"replies":{"assume-role":[{"id":"KA","secret":"SA","token":"TA","expires":2000}]}}"#;
 
+// Two roles over a process. The first one's session has the clock's name.
+const PROCESS: &str =
+    r#"{"profiles":[["default",[["role_arn","r"],["source_profile","b"],["role_session_name","s"]]],["b",[["role_arn","q"],["source_profile","c"]]],["c",[["credential_process","p"]]]],"clock":[7],"commands":[[0,"{\"Version\":1,\"AccessKeyId\":\"P\",\"SecretAccessKey\":\"S\"}",""]],"replies":{"assume-role":[{"id":"KB","secret":"SB","token":"TB","expires":1000},{"id":"KA","secret":"SA","token":"TA","expires":2000}]}}"#;
+
+// A web identity of the environment.
+const IDENTITY: &str =
+    r#"{"variables":[["AWS_WEB_IDENTITY_TOKEN_FILE","/j"],["AWS_ROLE_ARN","r"]],"files":[["/j","jwt"]],"clock":[1],"replies":{"web-identity":[{"id":"W","secret":"SW","token":"TW","expires":900}]}}"#;
+
+// A container with a token, whose third attempt has a document.
+const CONTAINER: &str =
+    r#"{"variables":[["AWS_CONTAINER_CREDENTIALS_FULL_URI","http://n/c"],["AWS_CONTAINER_AUTHORIZATION_TOKEN_FILE","/t"]],"files":[["/t","tok"]],"lookups":[["127.0.0.1"]],"replies":{"http":[[500,[],""],[200,[],"no document"],[200,[],"{\"AccessKeyId\":\"MUA\",\"SecretAccessKey\":\"S\",\"Token\":\"T\",\"Expiration\":\"2016-02-25T06:03:31Z\"}"]]}}"#;
+
 /// What a script's chain comes to where the call of the devices of this number fails.
 pub(crate) fn with_fault(alloc: Global, script: &str, at: u64) -> Result<String, OutOfMemory> {
-    let Some(Setup { chain, devices }) = set_up(alloc, script)? else {
+    let Some(
+        Setup {
+            chain,
+            sources,
+            devices,
+        },
+    ) = set_up(alloc, script)?
+    else {
         return Ok(String::from_str(alloc, "no script")?);
     };
     let mut world = World::new(alloc, FaultDevices::new(devices, at));
-    let answer = followed(alloc, &chain, &mut world)?;
+    let answer = followed(alloc, &chain, sources.as_slice(), &mut world)?;
     let asked = world.journal().len();
     Ok(format!(in alloc; "{asked} {answer}")?)
 }
@@ -36,11 +56,18 @@ fn receipts(
 
 // What a script's chain comes to over these receipts, and the question that stays open.
 fn over_receipts(alloc: Global, script: &str, entries: &[Entry]) -> Result<String, OutOfMemory> {
-    let Some(Setup { chain, devices }) = set_up(alloc, script)? else {
+    let Some(
+        Setup {
+            chain,
+            sources,
+            devices,
+        },
+    ) = set_up(alloc, script)?
+    else {
         return Ok(String::from_str(alloc, "no script")?);
     };
     let mut answers = Answers::new(receipts(alloc, entries, devices)?);
-    let answer = followed(alloc, &chain, &mut answers)?;
+    let answer = followed(alloc, &chain, sources.as_slice(), &mut answers)?;
     let open = answers.question();
     Ok(format!(in alloc; "{answer} {open:?}")?)
 }
@@ -64,11 +91,18 @@ fn by_journal(
 /// For each beginning of a call's journal, what the chain comes to over its receipts. Where that is not
 /// the next question of the journal, or at the end the call's answer, the line says what it should be.
 pub(crate) fn beginnings(alloc: Global, script: &str) -> Result<String, OutOfMemory> {
-    let Some(Setup { chain, devices }) = set_up(alloc, script)? else {
+    let Some(
+        Setup {
+            chain,
+            sources,
+            devices,
+        },
+    ) = set_up(alloc, script)?
+    else {
         return Ok(String::from_str(alloc, "no script")?);
     };
     let mut world = World::new(alloc, devices);
-    let answer = followed(alloc, &chain, &mut world)?;
+    let answer = followed(alloc, &chain, sources.as_slice(), &mut world)?;
     let mut words = String::new(alloc);
     for count in 0..=world.journal().len() {
         let got = beginning(alloc, script, answer.as_str(), world.journal(), count)?;
@@ -95,26 +129,80 @@ fn beginning(
 
 #[test]
 fn each_call_of_the_devices_may_fail(rt: HostRuntime) -> Result<(), Fail> {
-    let table: &[(u64, &str)] = &[
-        (1, "2 ProviderError(Role(ProviderError(Sent(Dispatch))))"),
+    let table: &[(&str, u64, &str)] = &[
         (
+            ROLE,
+            1,
+            "2 ProviderError(Role(ProviderError(Sent(Dispatch))))",
+        ),
+        (
+            ROLE,
             2,
             r#"2 Credentials { provider_name: "AssumeRoleProvider", access_key_id: "KA", secret_access_key: "** redacted **", expires_after: 2000 s 0 ns } SA Some("TA") [CredentialsProfile]"#,
         ),
+        (
+            PROCESS,
+            1,
+            "1 ProviderError(Base(ProviderError(Process(NotRun))))",
+        ),
+        (
+            PROCESS,
+            2,
+            "3 ProviderError(Role(ProviderError(Sent(Dispatch))))",
+        ),
+        (
+            PROCESS,
+            3,
+            "4 ProviderError(Role(ProviderError(Sent(Dispatch))))",
+        ),
+        (
+            PROCESS,
+            4,
+            r#"4 Credentials { provider_name: "AssumeRoleProvider", access_key_id: "KA", secret_access_key: "** redacted **", expires_after: 2000 s 0 ns } SA Some("TA") [CredentialsProfile]"#,
+        ),
+        (IDENTITY, 1, r#"2 ProviderError(File("/j"))"#),
+        (IDENTITY, 2, "3 ProviderError(Sent(Dispatch))"),
+        (
+            IDENTITY,
+            3,
+            r#"3 Credentials { provider_name: "WebIdentityToken", access_key_id: "W", secret_access_key: "** redacted **", expires_after: 900 s 0 ns } SW Some("TW") [CredentialsProfileStsWebIdToken]"#,
+        ),
+        (CONTAINER, 1, r#"1 ProviderError(File("/t"))"#),
+        (
+            CONTAINER,
+            2,
+            r#"2 InvalidConfiguration(FullUri { error: DnsLookupFailed, uri: "http://n/c" })"#,
+        ),
+        (
+            CONTAINER,
+            3,
+            "5 Unhandled(NoDocument(JsonError(NotObject)))",
+        ),
+        (
+            CONTAINER,
+            4,
+            "5 Unhandled(NoDocument(JsonError(NotObject)))",
+        ),
+        (CONTAINER, 5, "5 Unhandled(Sent(Dispatch))"),
+        (
+            CONTAINER,
+            6,
+            r#"5 Credentials { provider_name: "EcsContainer", access_key_id: "MUA", secret_access_key: "** redacted **", expires_after: 1456380211 s 0 ns } S Some("T") [CredentialsHttp]"#,
+        ),
     ];
-    for (at, want) in table {
-        let words = with_fault(rt.alloc(), ROLE, *at)?;
-        assert_eq!(rt; words.as_str(), *want, "{at}");
+    for (script, at, want) in table {
+        let words = with_fault(rt.alloc(), script, *at)?;
+        assert_eq!(rt; words.as_str(), *want, "{at} of {script}");
     }
     Ok(())
 }
 
 #[test]
 fn the_question_behind_a_beginning_is_open(rt: HostRuntime) -> Result<(), Fail> {
-    let words = beginnings(rt.alloc(), ROLE)?;
-    assert_eq!(rt;
-        words.as_str(),
-        "as the journal; as the journal; as the journal; "
-    );
+    for (script, questions) in [(ROLE, 2), (PROCESS, 4), (IDENTITY, 3), (CONTAINER, 5)] {
+        let words = beginnings(rt.alloc(), script)?;
+        let want = "as the journal; ".repeat(rt.alloc(), questions + 1)?;
+        assert_eq!(rt; words.as_str(), want.as_str(), "{script}");
+    }
     Ok(())
 }

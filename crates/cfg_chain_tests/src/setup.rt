@@ -3,17 +3,20 @@ ghost use Rattle.cfg_world.specs.Script.{AllFit};
 ghost use Rattle.cfg_script.specs.Script.{plain};
 ghost use Rattle.cfg_script.specs.Devices.{lists_of};
 
+use crate::own::own_sources;
 use cfg_chain::{
-    DefaultCredentialsChain, ProfileSet, ProfileSource, ProviderConfig, RegionSource, Section,
+    CustomSource, DefaultCredentialsChain, ProfileSet, ProfileSource, ProviderConfig, RegionSource,
+    Section,
 };
 use cfg_script::{Script, ScriptProfiles, read_script};
 use cfg_types::{Credentials, CredentialsError, Env, EnvText, OutOfMemory, Region, TryCopy};
 use cfg_world::{Asking, DeviceLists, Entry, ScriptDevices, World};
 use std::alloc::{AllocError, Global};
 
-/// A chain, and devices for its calls.
+/// A chain, the sources that its calls are lent, and devices for them.
 pub(crate) struct Setup {
     pub(crate) chain: DefaultCredentialsChain,
+    pub(crate) sources: Vec<CustomSource>,
     pub(crate) devices: ScriptDevices,
 }
 
@@ -46,8 +49,11 @@ fn config(
     variables: Vec<(String, EnvText)>,
     profiles: ScriptProfiles,
     selected: Option<String>,
+    sleep: bool,
 ) -> Result<ProviderConfig, OutOfMemory> {
-    let config = ProviderConfig::empty(alloc)?.with_env(Env::new(alloc, variables)?);
+    let config = ProviderConfig::empty(alloc)?
+        .with_env(Env::new(alloc, variables)?)
+        .with_sleep_impl(sleep);
     let config = config.with_profiles(source(alloc, profiles)?);
     match selected {
         None => config.copy(alloc),
@@ -80,7 +86,12 @@ fn set_up_over(
     let region = Region::new(alloc, "eu-west-1")?;
     let chain = chain_of(alloc, config, Some(region), &mut world)?;
     let devices = world.into_devices();
-    Ok(Setup { chain, devices })
+    let sources = own_sources(alloc)?;
+    Ok(Setup {
+        chain,
+        sources,
+        devices,
+    })
 }
 
 fn set_up_by(alloc: Global, script: Script) -> Result<Setup, OutOfMemory>
@@ -91,10 +102,10 @@ fn set_up_by(alloc: Global, script: Script) -> Result<Setup, OutOfMemory>
         profiles,
         selected,
         region: _,
-        sleep: _,
+        sleep,
         devices,
     } = script;
-    let config = config(alloc, variables, profiles, selected)?;
+    let config = config(alloc, variables, profiles, selected, sleep)?;
     set_up_over(alloc, config, devices)
 }
 
@@ -135,21 +146,38 @@ fn answer_words(
 
 fn provided(
     chain: &DefaultCredentialsChain,
+    sources: &[CustomSource],
     world: &mut World<ScriptDevices>,
 ) -> Result<Outcome, OutOfMemory> {
     let mut kept = chain.new_kept()?;
     Ok(Outcome {
-        answer: chain.provide_credentials(&mut kept, world),
+        answer: chain.provide_credentials(sources, &mut kept, world),
     })
+}
+
+/// What a call of the chain answers, as the error's cause is shown to a user.
+pub(crate) fn shown(
+    alloc: Global,
+    chain: &DefaultCredentialsChain,
+    sources: &[CustomSource],
+    world: &mut World<ScriptDevices>,
+) -> Result<String, OutOfMemory> {
+    let outcome = provided(chain, sources, world)?;
+    match &outcome.answer {
+        Ok(keys) => Ok(format!(in alloc; "{keys:?}")?),
+        Err(CredentialsError::CredentialsNotLoaded(cause)) => Ok(format!(in alloc; "{cause}")?),
+        Err(error) => Ok(format!(in alloc; "{error}")?),
+    }
 }
 
 /// What a call of the chain answers.
 pub(crate) fn answered(
     alloc: Global,
     chain: &DefaultCredentialsChain,
+    sources: &[CustomSource],
     world: &mut World<ScriptDevices>,
 ) -> Result<String, OutOfMemory> {
-    let outcome = provided(chain, world)?;
+    let outcome = provided(chain, sources, world)?;
     Ok(answer_words(alloc, &outcome.answer)?)
 }
 
@@ -157,9 +185,11 @@ pub(crate) fn answered(
 pub(crate) fn followed<A: Asking>(
     alloc: Global,
     chain: &DefaultCredentialsChain,
+    sources: &[CustomSource],
     asking: &mut A,
 ) -> Result<String, OutOfMemory> {
-    match chain.follow(asking) {
+    let mut kept = chain.new_kept()?;
+    match chain.follow(sources, &mut kept, asking) {
         Ok(answer) => {
             let outcome = Outcome { answer };
             Ok(answer_words(alloc, &outcome.answer)?)

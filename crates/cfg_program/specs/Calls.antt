@@ -1,10 +1,8 @@
 -- What a call of a script answers.
-use Rattle.std.specs.Prelude.{◌≡◌, ℕ, List, [], Bool, true, Option, None, map, option_map, is_ok, Result, codes}
+use Rattle.std.specs.Prelude.{◌≡◌, ℕ, List, [], Bool, Option, None, map, option_map, is_ok, codes}
 use Rattle.cfg_values.specs.Text.{characters}
-use Rattle.cfg_types.specs.Keys.{Keys}
 use Rattle.cfg_values.specs.Entries.{each_set}
 use Rattle.cfg_types.specs.declared.environment.EnvText.{EnvText}
-use Rattle.cfg_types.specs.declared.errors.CredentialsError.{CredentialsError}
 use Rattle.cfg_world.specs.declared.script.DeviceLists.{DeviceLists}
 use Rattle.cfg_world.specs.Fits.{Pair}
 use Rattle.cfg_world.specs.Held.{Held}
@@ -15,9 +13,9 @@ use Rattle.cfg_profile.specs.declared.sections.ProfileSource.TheVariants as sour
 use Rattle.cfg_profile.specs.SectionParts.{SectionParts}
 use Rattle.cfg_profile.specs.SectionSets.{sections_by_name}
 use Rattle.cfg_profile.specs.Configuration.{Configuration}
-use Rattle.cfg_chain.specs.Resolves.{Resolves}
-use Rattle.cfg_chain.specs.Causes.{HasCause}
-use Rattle.cfg_chain.specs.Valid.{IsValid}
+use Rattle.cfg_keeping.specs.Kinds.{Value, States}
+use Rattle.cfg_providers.specs.CustomSources.{Answer, NamedAnswer}
+use Rattle.cfg_chain.specs.Provides.{IsCall}
 use Rattle.cfg_script.specs.Script.{Plain, PlainProfiles, Sections, RefusedSections, Section}
 use Rattle.cfg_script.specs.Devices.{lists_of}
 use Rattle.cfg_program.specs.declared.lines.LineForm.{LineForm}
@@ -65,18 +63,23 @@ pub record IsFresh (w : Held devices.Script) : Type 0 where
   pub journal : w.journal ≡ []
   pub place : w.devices.place ≡ start
 
--- There is a call of the default chain over this configuration, to which the answers are those that
--- the lists give; it has this outcome, which has its cause, and this line, in this form.
-pub record AnswersOver (conf : Configuration) (lists : DeviceLists) (form : LineForm) (is_credentials : Bool) (line : List ℕ) : Type 0 where
+-- nothing is kept
+abbrev pub nothing_kept : States
+nothing_kept = record { sso = record { token = None; last = None } }
+
+-- There is a call of the default chain over this configuration and these sources of the caller's own,
+-- which finds nothing kept, and to which the answers are those that the lists give; it has this outcome
+-- and this line, in this form.
+pub record AnswersOver (conf : Configuration) (sources : List NamedAnswer) (lists : DeviceLists) (form : LineForm) (is_credentials : Bool) (line : List ℕ) : Type 0 where
+  pub kept : States
+  pub found : List Value
   pub journal : List Pair
-  pub out : Result Keys CredentialsError
-  pub resolves : Resolves conf [] journal out
-  pub cause : HasCause conf journal out
-  pub valid : IsValid conf journal → is_credentials ≡ true
+  pub out : Answer
+  pub call : IsCall conf sources nothing_kept kept found journal out
   pub agrees : Given lists start journal
   pub credentials : is_credentials ≡ is_ok out
   pub shows : line ≡ shown_as form out journal
 
--- the call of a script
-abbrev pub Answers : Plain → Bool → List ℕ → Type 0
-Answers p is_credentials line = AnswersOver (configuration_of p) (lists_of p) Call is_credentials line
+-- the call of a script, with these sources of the caller's own
+abbrev pub Answers : List NamedAnswer → Plain → Bool → List ℕ → Type 0
+Answers sources p is_credentials line = AnswersOver (configuration_of p) sources (lists_of p) Call is_credentials line

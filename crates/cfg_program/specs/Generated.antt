@@ -56,9 +56,9 @@ generated_lists n = record {
   sign_in = [];
 }
 
--- the call over the set of n profiles
+-- the call over the set of n profiles, with no sources of the caller's own
 abbrev pub GeneratedAnswers : ℕ → Bool → List ℕ → Type 0
-GeneratedAnswers n is_credentials line = AnswersOver (generated_configuration n) (generated_lists n) (Generated n) is_credentials line
+GeneratedAnswers n is_credentials line = AnswersOver (generated_configuration n) [] (generated_lists n) (Generated n) is_credentials line
 
 -- the line of that call was written, or a prefix of it, by the status that says how it ended
 pub record GeneratedLineWritten (before after : Option (List ℕ)) (faults faults_after n : ℕ) (ended : Status) : Type 0 where

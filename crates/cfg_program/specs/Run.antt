@@ -2,6 +2,7 @@
 use Rattle.std.specs.Prelude.{◌≡◌, ℕ, ◌≤◌, List, [], length, Bool, true, false, Option, Some, None, IfSome, Ok, Err, ◌⊎◌}
 use Rattle.std.specs.Io.KnownBytes.{Appends}
 use Rattle.cfg_world.specs.Faults.{Rose}
+use Rattle.cfg_providers.specs.CustomSources.{NamedAnswer}
 use Rattle.cfg_script.specs.Script.{Plain, NoScript, NotBuilt}
 use Rattle.cfg_script.specs.Reading.{script_of}
 use Rattle.cfg_program.specs.declared.status.Status.{Status}
@@ -43,56 +44,56 @@ pub record WasRead (seen : Seen) (bytes : List ℕ) : Type 0 where
   pub none_left : IfSome seen.left_after (λ b. b ≡ [])
   pub short : length bytes ≤ LIMIT
 
--- the input is this script, and its plan is built
-pub record IsScript (seen : Seen) (p : Plain) : Type 0 where
+-- the input is this script, and its plan is built, where the caller has these sources of its own
+pub record IsScript (seen : Seen) (sources : List NamedAnswer) (p : Plain) : Type 0 where
   pub bytes : List ℕ
   pub read : WasRead seen bytes
   pub script : script_of bytes ≡ Ok p
-  pub built : plan_is_built p ≡ true
+  pub built : plan_is_built sources p ≡ true
 
 -- the bytes have a name that is not built, or they are a script whose plan is not built
-abbrev pub NeedsMore : List ℕ → Type 0
-NeedsMore bytes = (script_of bytes ≡ Err NotBuilt) ⊎ ((p : Plain) × (script_of bytes ≡ Ok p) × (plan_is_built p ≡ false))
+abbrev pub NeedsMore : List NamedAnswer → List ℕ → Type 0
+NeedsMore sources bytes = (script_of bytes ≡ Err NotBuilt) ⊎ ((p : Plain) × (script_of bytes ≡ Ok p) × (plan_is_built sources p ≡ false))
 
 -- the input was read, and needs what is not built
-pub record IsNotBuilt (seen : Seen) : Type 0 where
+pub record IsNotBuilt (seen : Seen) (sources : List NamedAnswer) : Type 0 where
   pub bytes : List ℕ
   pub read : WasRead seen bytes
-  pub cause : NeedsMore bytes
+  pub cause : NeedsMore sources bytes
 
 -- the line of the script's own call was written
-pub record WritesLine (seen : Seen) (is_credentials : Bool) : Type 0 where
+pub record WritesLine (seen : Seen) (sources : List NamedAnswer) (is_credentials : Bool) : Type 0 where
   pub p : Plain
-  pub input : IsScript seen p
+  pub input : IsScript seen sources p
   pub line : List ℕ
-  pub answers : Answers p is_credentials line
+  pub answers : Answers sources p is_credentials line
   pub written : Appends seen.written seen.written_after line
 
 -- a prefix of that line was written
-pub record WritesPrefix (seen : Seen) : Type 0 where
+pub record WritesPrefix (seen : Seen) (sources : List NamedAnswer) : Type 0 where
   pub p : Plain
-  pub input : IsScript seen p
+  pub input : IsScript seen sources p
   pub is_credentials : Bool
   pub line : List ℕ
-  pub answers : Answers p is_credentials line
+  pub answers : Answers sources p is_credentials line
   pub written : GrowsByPrefix seen.written seen.written_after line
 
 -- how telling a text ends
 abbrev pub EndsTelling : Seen → List ℕ → Status → Type 0
 EndsTelling seen text ended = TextWritten seen.written seen.written_after seen.sink_faults seen.sink_faults_after text ended
 
--- how resolving a script ends
-abbrev pub EndsResolving : Seen → Status → Type 0
-EndsResolving seen status.Done = WritesLine seen true
-EndsResolving seen status.Refused = WritesLine seen false
-EndsResolving seen status.Words = ⊥
-EndsResolving seen status.NoScript = ((bytes : List ℕ) × WasRead seen bytes × (script_of bytes ≡ Err NoScript)) × WritesNothing seen
-EndsResolving seen status.SourceFault = Rose seen.source_faults seen.source_faults_after × WritesNothing seen
-EndsResolving seen status.SinkFault = Rose seen.sink_faults seen.sink_faults_after × WritesPrefix seen
-EndsResolving seen status.OutOfMemory = WritesNothing seen ⊎ WritesPrefix seen
-EndsResolving seen status.TooLong = IsTooLong seen.left seen.left_after × WritesNothing seen
-EndsResolving seen status.HistoryDiffers = ⊥
-EndsResolving seen status.NotBuilt = IsNotBuilt seen × WritesNothing seen
+-- how resolving a script ends, with these sources of the caller's own
+abbrev pub EndsResolving : Seen → List NamedAnswer → Status → Type 0
+EndsResolving seen sources status.Done = WritesLine seen sources true
+EndsResolving seen sources status.Refused = WritesLine seen sources false
+EndsResolving seen sources status.Words = ⊥
+EndsResolving seen sources status.NoScript = ((bytes : List ℕ) × WasRead seen bytes × (script_of bytes ≡ Err NoScript)) × WritesNothing seen
+EndsResolving seen sources status.SourceFault = Rose seen.source_faults seen.source_faults_after × WritesNothing seen
+EndsResolving seen sources status.SinkFault = Rose seen.sink_faults seen.sink_faults_after × WritesPrefix seen sources
+EndsResolving seen sources status.OutOfMemory = WritesNothing seen ⊎ WritesPrefix seen sources
+EndsResolving seen sources status.TooLong = IsTooLong seen.left seen.left_after × WritesNothing seen
+EndsResolving seen sources status.HistoryDiffers = ⊥
+EndsResolving seen sources status.NotBuilt = IsNotBuilt seen sources × WritesNothing seen
 
 -- how generating ends
 abbrev pub EndsGenerating : Seen → ℕ → Status → Type 0
@@ -103,10 +104,10 @@ abbrev pub EndsForWords : Seen → Status → Type 0
 EndsForWords seen status.Words = WritesNothing seen
 EndsForWords seen _ = ⊥
 
--- how a run ends that is asked for this, or for nothing that is known
-abbrev pub EndsRun : Seen → Option Word → Status → Type 0
-EndsRun seen None ended = EndsForWords seen ended
-EndsRun seen (Some Help) ended = EndsTelling seen help_text ended
-EndsRun seen (Some Version) ended = EndsTelling seen version_text ended
-EndsRun seen (Some Resolve) ended = EndsResolving seen ended
-EndsRun seen (Some (Generate n)) ended = EndsGenerating seen n ended
+-- how a run ends, with these sources, that is asked for this, or for nothing that is known
+abbrev pub EndsRun : Seen → List NamedAnswer → Option Word → Status → Type 0
+EndsRun seen sources None ended = EndsForWords seen ended
+EndsRun seen sources (Some Help) ended = EndsTelling seen help_text ended
+EndsRun seen sources (Some Version) ended = EndsTelling seen version_text ended
+EndsRun seen sources (Some Resolve) ended = EndsResolving seen sources ended
+EndsRun seen sources (Some (Generate n)) ended = EndsGenerating seen n ended

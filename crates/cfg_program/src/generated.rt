@@ -13,7 +13,7 @@ use cfg_world::DeviceLists;
 use std::alloc::Global;
 
 /// Makes the call over the set of `n` profiles, each but the last a role over the next one, and over
-/// devices that grant one exchange for each role.
+/// devices that grant one exchange for each role. There are no sources of the caller's own.
 pub fn generate(alloc: Global, n: u64) -> Result<Answered, OutOfMemory>
     requires { n ≤ MOST_PROFILES }
     ensures { IfOk result (λ a. GeneratedAnswers n a.is_ok a.line.items) }
@@ -28,7 +28,7 @@ pub fn generate(alloc: Global, n: u64) -> Result<Answered, OutOfMemory>
         true,
     )?;
     let lists = lists(alloc, n)?;
-    answer_over(alloc, config, None, lists, LineForm::Generated(n))
+    answer_over(alloc, config, &[], None, lists, LineForm::Generated(n))
 }
 
 // Devices that grant one exchange for each role of the set of n profiles.

@@ -4,7 +4,9 @@ ghost use Rattle.cfg_values.specs.Text.{characters};
 ghost use Rattle.cfg_values.specs.TextMap.{named};
 ghost use Rattle.cfg_values.specs.Entries.{each_set};
 ghost use Rattle.cfg_world.specs.Script.{AllFit};
-ghost use Rattle.cfg_chain.specs.Causes.{is_memory};
+ghost use Rattle.cfg_providers.specs.Provides.{is_memory};
+ghost use Rattle.cfg_chain.specs.Settings.{names_of};
+ghost use Rattle.cfg_chain.specs.Sources.{named_sources};
 ghost use Rattle.cfg_script.specs.Script.{plain, plain_profiles, section_bytes};
 ghost use Rattle.cfg_script.specs.Devices.{lists_of};
 ghost use Rattle.cfg_chain.specs.profile.Plans.{is_built as is_built_of};
@@ -13,8 +15,8 @@ ghost use Rattle.cfg_program.specs.Plans.{plan_is_built};
 
 use crate::lines::{LineForm, line_of};
 use cfg_chain::{
-    DefaultCredentialsChain, ProfileSet, ProfileSource, ProviderConfig, RegionSource, Section,
-    is_built,
+    CustomSource, DefaultCredentialsChain, ProfileSet, ProfileSource, ProviderConfig, RegionSource,
+    Section, is_built,
 };
 use cfg_script::{Script, ScriptProfiles};
 use cfg_types::{Credentials, CredentialsError, Env, EnvText, OutOfMemory, Region};
@@ -47,13 +49,17 @@ impl From<OutOfMemory> for Unresolved {
     }
 }
 
-/// Makes the call that the script describes: over the chain with the script's configuration, and
-/// over the devices with the script's answers.
-pub fn resolve(alloc: Global, script: Script) -> Result<Answered, Unresolved>
+/// Makes the call that the script describes: over the chain with the script's configuration and the
+/// caller's own sources, and over the devices with the script's answers.
+pub fn resolve(
+    alloc: Global,
+    script: Script,
+    custom: &[CustomSource],
+) -> Result<Answered, Unresolved>
     requires { AllFit (lists_of (plain script)) }
-    ensures built { IfOk result (λ a. plan_is_built (plain script) ≡ true) }
-    ensures answers { IfOk result (λ a. Answers (plain script) a.is_ok a.line.items) }
-    ensures not_built { result ≡ Err Unresolved.NotBuilt → plan_is_built (plain script) ≡ false }
+    ensures built { IfOk result (λ a. plan_is_built (named_sources value custom.now) (plain script) ≡ true) }
+    ensures answers { IfOk result (λ a. Answers (named_sources value custom.now) (plain script) a.is_ok a.line.items) }
+    ensures not_built { result ≡ Err Unresolved.NotBuilt → plan_is_built (named_sources value custom.now) (plain script) ≡ false }
 {
     let Script {
         variables,
@@ -63,61 +69,64 @@ pub fn resolve(alloc: Global, script: Script) -> Result<Answered, Unresolved>
         sleep,
         devices,
     } = script;
-    let config = configuration(alloc, variables, profiles, selected, sleep)?;
-    match answer_over(alloc, config, region, devices, LineForm::Call) {
+    let config = configuration(alloc, custom, variables, profiles, selected, sleep)?;
+    match answer_over(alloc, config, custom, region, devices, LineForm::Call) {
         Ok(answered) => Ok(answered),
         Err(OutOfMemory) => Err(Unresolved::OutOfMemory),
     }
 }
 
-/// The call with this configuration and region, over devices that answer from these lists, and its
-/// line in this form.
+/// The call with this configuration, these sources of the caller's own and this region, over devices
+/// that answer from these lists, and its line in this form. Nothing is kept before it.
 pub fn answer_over(
     alloc: Global,
     config: ProviderConfig,
+    custom: &[CustomSource],
     region: Option<String>,
     lists: DeviceLists,
     form: LineForm,
 ) -> Result<Answered, OutOfMemory>
     requires { AllFit lists }
-    ensures { IfOk result (λ a. AnswersOver (record config { region = option_map characters (option_map (λ t. string_bytes t) region) }) lists form a.is_ok a.line.items) }
+    ensures { IfOk result (λ a. AnswersOver (record config { region = option_map characters (option_map (λ t. string_bytes t) region) }) (named_sources value custom.now) lists form a.is_ok a.line.items) }
 {
     let region = region_named(alloc, region)?;
     let devices = ScriptDevices::new(alloc, lists)?;
     let mut world = World::new(alloc, devices);
-    answer(alloc, config, region, form, &mut world)
+    answer(alloc, config, custom, region, form, &mut world)
 }
 
-// The call with this configuration and region, over this world.
+// The call with this configuration, these sources and this region, over this world.
 fn answer(
     alloc: Global,
     config: ProviderConfig,
+    custom: &[CustomSource],
     region: Option<Region>,
     form: LineForm,
     world: &mut World<ScriptDevices>,
 ) -> Result<Answered, OutOfMemory>
     requires { IsFresh world.old }
-    ensures { IfOk result (λ a. AnswersOver (record config { region = region }) world.old.devices.lists form a.is_ok a.line.items) }
+    ensures { IfOk result (λ a. AnswersOver (record config { region = region }) (named_sources value custom.now) world.old.devices.lists form a.is_ok a.line.items) }
 {
     let chain = chain_of(alloc, config, region, world)?;
-    call(alloc, &chain, form, world)
+    call(alloc, &chain, custom, form, world)
 }
 
 // What the script configures, where its plan is built.
 fn configuration(
     alloc: Global,
+    custom: &[CustomSource],
     variables: Vec<(String, EnvText)>,
     profiles: ScriptProfiles,
     selected: Option<String>,
     sleep: bool,
 ) -> Result<ProviderConfig, Unresolved>
-    ensures built { IfOk result (λ c. is_built_of c ≡ true) }
+    ensures built { IfOk result (λ c. is_built_of c (names_of (named_sources value custom.now)) ≡ true) }
     ensures value { IfOk result (λ c. c ≡ configured_by (map named variables.items) (source_of (plain_profiles profiles)) (option_map (λ t. string_bytes t) selected) sleep) }
-    ensures not_built { result ≡ Err Unresolved.NotBuilt → is_built_of (configured_by (map named variables.items) (source_of (plain_profiles profiles)) (option_map (λ t. string_bytes t) selected) sleep) ≡ false }
+    ensures not_built { result ≡ Err Unresolved.NotBuilt → is_built_of (configured_by (map named variables.items) (source_of (plain_profiles profiles)) (option_map (λ t. string_bytes t) selected) sleep) (names_of (named_sources value custom.now)) ≡ false }
 {
     let source = source(alloc, profiles)?;
     let config = configured_with(alloc, variables, source, selected, sleep)?;
-    if !is_built(alloc, &config)? {
+    if !is_built(alloc, &config, custom)? {
         return Err(Unresolved::NotBuilt);
     }
     Ok(config)
@@ -201,15 +210,16 @@ fn chain_of(
 fn call(
     alloc: Global,
     chain: &DefaultCredentialsChain,
+    custom: &[CustomSource],
     form: LineForm,
     world: &mut World<ScriptDevices>,
 ) -> Result<Answered, OutOfMemory>
     requires { IsFresh world.old }
-    ensures { IfOk result (λ a. AnswersOver chain.now world.old.devices.lists form a.is_ok a.line.items) }
+    ensures { IfOk result (λ a. AnswersOver chain.now (named_sources value custom.now) world.old.devices.lists form a.is_ok a.line.items) }
 {
     let mut kept = chain.new_kept()?;
     let outcome = Outcome {
-        answer: chain.provide_credentials(&mut kept, world),
+        answer: chain.provide_credentials(custom, &mut kept, world),
     };
     told(alloc, form, &outcome.answer, world.journal())
 }

@@ -1,4 +1,5 @@
 ghost use Rattle.std.specs.Prelude.{◌≡◌, ◌≢◌, ◌≤◌, Some, None, map, string_bytes};
+ghost use Rattle.cfg_chain.specs.Sources.{named_sources};
 ghost use Rattle.cfg_script.specs.Reading.{script_of};
 ghost use Rattle.cfg_program.specs.Words.{word_named};
 ghost use Rattle.cfg_program.specs.Written.{TextWritten, LineWritten};
@@ -12,6 +13,7 @@ use crate::output::write_all;
 use crate::resolve::{Answered, Unresolved, resolve};
 use crate::status::Status;
 use crate::words::{HELP, VERSION, Word, word_of};
+use cfg_chain::CustomSource;
 use cfg_script::{ScriptError, read_script};
 use cfg_types::{EnvText, OutOfMemory};
 use cfg_world::{Devices, Sink, Source, StreamFault, World};
@@ -20,7 +22,9 @@ use std::alloc::Global;
 /// Does what the words ask for: tells a text, or reads a script from the source and writes the line
 /// of its call to the sink, or writes the line of the call over a set of profiles that comes from a
 /// number. The words are tested first: without `resolve` the source stays as it was, and for an
-/// unknown command the sink too. Nothing is written before the script was read to its end. `_env` and `world` are for words that are not built yet: nothing is asked of them.
+/// unknown command the sink too. Nothing is written before the script was read to its end. A script's
+/// profiles find the sources in `custom` by `credential_source`; other words leave them aside. `_env` and
+/// `world` are for words that are not built yet: nothing is asked of them.
 pub fn run<S: Source, K: Sink, D: Devices>(
     alloc: Global,
     words: &[String],
@@ -28,6 +32,7 @@ pub fn run<S: Source, K: Sink, D: Devices>(
     sink: &mut K,
     _env: Vec<(String, EnvText)>,
     world: &mut World<D>,
+    custom: &[CustomSource],
 ) -> Status
     ensures ends { EndsRun (record {
       left = S.left source.old;
@@ -38,7 +43,7 @@ pub fn run<S: Source, K: Sink, D: Devices>(
       source_faults_after = S.faults source.new;
       sink_faults = K.faults sink.old;
       sink_faults_after = K.faults sink.new;
-    }) (word_named (map (λ w. string_bytes w) words.now)) result }
+    }) (named_sources value custom.now) (word_named (map (λ w. string_bytes w) words.now)) result }
     ensures unread { word_named (map (λ w. string_bytes w) words.now) ≢ Some Word.Resolve → source.new ≡ source.old }
     ensures unwritten { word_named (map (λ w. string_bytes w) words.now) ≡ None → sink.new ≡ sink.old }
     ensures world { world.new ≡ world.old }
@@ -47,7 +52,7 @@ pub fn run<S: Source, K: Sink, D: Devices>(
         None => Status::Words,
         Some(Word::Help) => tell(sink, HELP),
         Some(Word::Version) => tell(sink, VERSION),
-        Some(Word::Resolve) => resolve_script(alloc, source, sink),
+        Some(Word::Resolve) => resolve_script(alloc, source, sink, custom),
         Some(Word::Generate(n)) => generate_line(alloc, n, sink),
     }
 }
@@ -64,7 +69,12 @@ fn tell<K: Sink>(sink: &mut K, text: &str) -> Status
 }
 
 // Reads a script, makes its call, and writes the line.
-fn resolve_script<S: Source, K: Sink>(alloc: Global, source: &mut S, sink: &mut K) -> Status
+fn resolve_script<S: Source, K: Sink>(
+    alloc: Global,
+    source: &mut S,
+    sink: &mut K,
+    custom: &[CustomSource],
+) -> Status
     ensures { EndsResolving (record {
       left = S.left source.old;
       left_after = S.left source.new;
@@ -74,7 +84,7 @@ fn resolve_script<S: Source, K: Sink>(alloc: Global, source: &mut S, sink: &mut 
       source_faults_after = S.faults source.new;
       sink_faults = K.faults sink.old;
       sink_faults_after = K.faults sink.new;
-    }) result }
+    }) (named_sources value custom.now) result }
 {
     let bytes = match read_all(alloc, source) {
         Ok(bytes) => bytes,
@@ -88,7 +98,7 @@ fn resolve_script<S: Source, K: Sink>(alloc: Global, source: &mut S, sink: &mut 
         Err(ScriptError::NotBuilt) => return Status::NotBuilt,
         Err(ScriptError::OutOfMemory) => return Status::OutOfMemory,
     };
-    let answered = match resolve(alloc, script) {
+    let answered = match resolve(alloc, script, custom) {
         Ok(answered) => answered,
         Err(Unresolved::NotBuilt) => return Status::NotBuilt,
         Err(Unresolved::OutOfMemory) => return Status::OutOfMemory,

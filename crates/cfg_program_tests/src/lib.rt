@@ -2,4 +2,6 @@
 #![tactic(auto)]
 
 #[cfg(test)]
+mod own;
+#[cfg(test)]
 mod program;

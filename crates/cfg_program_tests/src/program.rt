@@ -2,8 +2,10 @@
 // written, and that calls succeed.
 ghost use Rattle.std.specs.Prelude.{◌<◌};
 
+use crate::own::own_source;
 use cfg_program::run::run;
 use cfg_program::{HELP, Status, VERSION};
+use cfg_providers::CustomSource;
 use cfg_types::OutOfMemory;
 use cfg_world::{
     DeviceLists, MemorySink, MemorySource, ReaderSource, ScriptDevices, Source, World,
@@ -34,13 +36,15 @@ fn ending(alloc: Global, status: Status, written: &[u8]) -> Result<String, Alloc
     }
 }
 
-// How a run over a source ends. Of the sink, which takes so many bytes a call, this call fails.
+// How a run over a source ends. Of the sink, which takes so many bytes a call, this call fails. The
+// script's profiles find these sources of credentials.
 fn run_over<S: Source>(
     alloc: Global,
     words: &[&str],
     source: &mut S,
     most: usize,
     fails: u64,
+    custom: &[CustomSource],
 ) -> Result<String, OutOfMemory>
     requires { 0 < most }
 {
@@ -54,6 +58,7 @@ fn run_over<S: Source>(
         &mut sink,
         Vec::new(alloc),
         &mut world,
+        custom,
     );
     Ok(ending(alloc, status, sink.written())?)
 }
@@ -73,7 +78,7 @@ fn run_in_pieces(
     let input = Vec::from_slice(alloc, input)?;
     let failing = Vec::from_slice(alloc, &[source_fails])?;
     let mut source = MemorySource::new(input, failing, most);
-    run_over(alloc, words, &mut source, most, sink_fails)
+    run_over(alloc, words, &mut source, most, sink_fails, &[])
 }
 
 // How a run of `generate` ends whose source fails where it is read.
@@ -308,7 +313,7 @@ fn scripts_without_a_call(rt: HostRuntime) -> Result<(), Fail> {
     let table: &[(&str, &str)] = &[
         (r#"{"callers":[]}"#, "NoScript "),
         (
-            r#"{"profiles":[["default",[["credential_process","x"]]]],"bogus":1}"#,
+            r#"{"profiles":[["default",[["login_session","x"]]]],"bogus":1}"#,
             "NoScript ",
         ),
         (r#"{"calls":2}"#, "NotBuilt "),
@@ -316,11 +321,11 @@ fn scripts_without_a_call(rt: HostRuntime) -> Result<(), Fail> {
         (r#"{"selected":1,"sleep":true}"#, "NoScript "),
         (r#"{"replies":{"http":[],"bogus":1}}"#, "NoScript "),
         (
-            r#"{"profiles":[["default",[["credential_process","x"]]]]}"#,
+            r#"{"profiles":[["default",[["login_session","x"]]]]}"#,
             "NotBuilt ",
         ),
         (
-            r#"{"variables":[["AWS_ACCESS_KEY_ID","K"],["AWS_SECRET_ACCESS_KEY","S"]],"profiles":[["default",[["credential_source","Environment"]]]]}"#,
+            r#"{"variables":[["AWS_ACCESS_KEY_ID","K"],["AWS_SECRET_ACCESS_KEY","S"]],"profiles":[["default",[["credential_source","Ec2InstanceMetadata"]]]]}"#,
             "NotBuilt ",
         ),
     ];
@@ -328,6 +333,29 @@ fn scripts_without_a_call(rt: HostRuntime) -> Result<(), Fail> {
         let told = resolved(rt.alloc(), script)?;
         assert_eq!(rt; told.as_str(), *want, "{script}");
     }
+    Ok(())
+}
+
+// A script whose profile needs a source of the caller's own.
+const OWN: &str =
+    r#"{"profiles":[["default",[["role_arn","r"],["credential_source","OWN"]]]],"clock":[7],"replies":{"assume-role":[{"id":"KA","secret":"SA","token":"TA","expires":2000}]}}"#;
+
+fn resolved_with_own(alloc: Global, script: &str) -> Result<String, OutOfMemory> {
+    let input = Vec::from_slice(alloc, script.as_bytes())?;
+    let mut source = MemorySource::new(input, Vec::new(alloc), 4096);
+    let custom = [own_source(alloc, "Own")?];
+    run_over(alloc, &["resolve"], &mut source, 4096, 0, &custom)
+}
+
+#[test]
+fn a_source_of_the_callers_own(rt: HostRuntime) -> Result<(), Fail> {
+    let told = resolved_with_own(rt.alloc(), OWN)?;
+    assert_eq!(rt;
+        told.as_str(),
+        "Done credentials =KA =AssumeRoleProvider 2000.000000000 now,assume-role\n"
+    );
+    let told = resolved(rt.alloc(), OWN)?;
+    assert_eq!(rt; told.as_str(), "Refused error InvalidConfiguration -\n");
     Ok(())
 }
 
@@ -487,7 +515,7 @@ fn a_source_is_not_read_after_its_end(rt: HostRuntime) -> Result<(), Fail> {
         text: KEYS.as_bytes(),
         ended: false,
     });
-    let told = run_over(rt.alloc(), &["resolve"], &mut source, 4096, 0)?;
+    let told = run_over(rt.alloc(), &["resolve"], &mut source, 4096, 0, &[])?;
     assert!(rt; told.as_str().starts_with("Done "));
     let mut buffer = [0; 1];
     assert!(rt; source.read(&mut buffer).is_err());

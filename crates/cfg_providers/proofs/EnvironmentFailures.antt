@@ -1,5 +1,5 @@
 -- Why the environment gives no credentials, by what it finds.
-use Rattle.std.proofs.Common.{◌≡◌, ℕ, List, [], ◌∷◌, Bool, true, false, Option, Some, None, Result, Ok, Err, refl}
+use Rattle.std.proofs.Common.{◌≡◌, ℕ, List, [], ◌∷◌, Bool, true, false, Option, Some, None, Result, Ok, refl}
 use Rattle.std.specs.Option.{option_or}
 use Rattle.std.specs.Prelude.{not, ◌&&◌, ◌||◌, is_some, is_none, codes, option_map, if◌then◌else◌}
 use Rattle.std.specs.Result.{result_err}

@@ -4,6 +4,7 @@ pub mod EnvironmentFailures
 pub mod QuietSteps
 pub mod SessionSteps
 pub mod RoleSteps
+pub mod IdentitySteps
 pub mod Colons
 pub mod Utf8Bytes
 pub mod Versions

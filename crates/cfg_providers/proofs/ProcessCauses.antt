@@ -11,11 +11,11 @@ use Rattle.cfg_json.specs.Documents.{Read}
 use Rattle.cfg_world.specs.declared.ask.Answer.{Answer}
 use Rattle.cfg_world.specs.declared.ask.Answer.TheVariants as answer
 use Rattle.cfg_world.specs.Fits.{Pair}
-use Rattle.cfg_world.specs.Inquiry.{Done, Reads, after}
+use Rattle.cfg_world.specs.Inquiry.{Reads}
 use Rattle.cfg_world.specs.Leaves.{running, finished_of}
 use Rattle.cfg_providers.specs.ProcessDocuments.{process_document}
 use Rattle.cfg_providers.specs.Utf8.{utf8, text_in}
-use Rattle.cfg_providers.specs.Processes.{or_no_document, by_text, ended, ran, told, or_told, process_answer, credential_process, why_document, why_text, why_run, why_process}
+use Rattle.cfg_providers.specs.Processes.{or_no_document, by_text, ran, told, or_told, process_answer, credential_process, why_document, why_text, why_run, why_process}
 
 document_cause : (r : Read Keys) → result_err (or_told (or_no_document r)) ≡ option_map told (why_document r)
 document_cause (Ok keys) = refl

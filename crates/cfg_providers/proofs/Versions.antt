@@ -1,5 +1,5 @@
 -- The version of a process's document, as a function of its members.
-use Rattle.std.proofs.Common.{◌≡◌, ℕ, ◌<◌, ◌^◌, List, [], ◌∷◌, Bool, true, false, Option, Some, None, refl, sym, ap, ◌∙◌, arith, tests, lt-ltb, ℤ, pos, negsuc}
+use Rattle.std.proofs.Common.{◌≡◌, ℕ, ◌<◌, ◌^◌, List, [], ◌∷◌, Bool, true, false, Option, Some, None, refl, ap, arith, tests, lt-ltb, ℤ, pos, negsuc}
 use Rattle.std.specs.Prelude.{◌&&◌, nat_lt, option_map, if◌then◌else◌, FitsSigned}
 use Rattle.std.specs.Int.{w32}
 use Rattle.std.specs.List.{list_all}

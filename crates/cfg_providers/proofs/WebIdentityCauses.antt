@@ -14,13 +14,13 @@ use Rattle.cfg_world.specs.declared.ask.Answer.TheVariants as answer
 use Rattle.cfg_world.specs.declared.leaves.NotGranted.{NotGranted}
 use Rattle.cfg_world.specs.declared.leaves.NotGranted.TheVariants.{Failed, Refused}
 use Rattle.cfg_world.specs.Fits.{Pair}
-use Rattle.cfg_world.specs.Inquiry.{Done, Reads, after}
+use Rattle.cfg_world.specs.Inquiry.{Reads, after}
 use Rattle.cfg_world.specs.Leaves.{clock, reading_file, assuming_by_web_identity, contents_of, granted_of}
 use Rattle.cfg_profile.specs.Configuration.{Configuration}
 use Rattle.cfg_providers.specs.declared.web_identity_token.WebIdentity.{WebIdentity}
 use Rattle.cfg_providers.specs.declared.web_identity_token.StaticConfiguration.{StaticConfiguration}
+use Rattle.cfg_providers.specs.declared.web_identity_token.SessionPolicies.{SessionPolicies}
 use Rattle.cfg_providers.specs.SessionNames.{session_name}
-use Rattle.cfg_providers.specs.Sts.{into_credentials}
 use Rattle.cfg_providers.specs.Utf8.{utf8}
 use Rattle.cfg_providers.specs.WebIdentities.{identity_of, or_not_utf8, token_in, identity_token, or_unhandled, identity_answer, with_token, with_name, assumes_by_web_identity, by_identity, web_identity, why_text, why_file, why_granted, why_answer, why_entry, why_web_identity, why_identity}
 
@@ -49,10 +49,10 @@ granted_cause (Err (Failed kind)) = refl
 granted_cause (Err (Refused refusal)) = refl
 granted_cause (Ok reply) = reply_cause _
 
-module _ (conf : Configuration) (identity : WebIdentity) where
+module _ (conf : Configuration) (identity : WebIdentity) (policies : SessionPolicies) where
   -- behind the file
   behind_file : (name : List ℕ) (e : Pair) (token : Result (List ℕ) CredentialsError) → result_err token ≡ why_entry e →
-      (rest : List Pair) (out : Result Keys CredentialsError) → Reads (with_token conf identity name token) rest out →
+      (rest : List Pair) (out : Result Keys CredentialsError) → Reads (with_token conf identity policies name token) rest out →
       result_err out ≡ option_and_then why_entry (last_or (Some e) rest)
   unfolding with_token assuming_by_web_identity
   behind_file name e (Err x) is [] out h = ap result_err (sym h) ∙ is
@@ -63,7 +63,7 @@ module _ (conf : Configuration) (identity : WebIdentity) where
   behind_file name e (Ok token) is (f ∷ g ∷ rest) out h = absurd h.1
 
   -- behind the name
-  behind_name : (name : List ℕ) (before : Option Pair) (part : List Pair) (out : Result Keys CredentialsError) → Reads (with_name conf identity name) part out →
+  behind_name : (name : List ℕ) (before : Option Pair) (part : List Pair) (out : Result Keys CredentialsError) → Reads (with_name conf identity policies name) part out →
       result_err out ≡ option_and_then why_entry (last_or before part)
   unfolding identity_token reading_file
   behind_name name before [] out h = absurd h
@@ -71,25 +71,25 @@ module _ (conf : Configuration) (identity : WebIdentity) where
       behind_file name e (token_in identity.web_identity_token_file (contents_of e.1))
       (file_cause identity.web_identity_token_file e.1 ∙ ap (λ q. why_answer q e.1) (sym h.0)) rest out h.1
 
-  by_name : (base : List ℕ) (given : Option (List ℕ)) (part : List Pair) (out : Result Keys CredentialsError) → Reads (after (session_name base given) (with_name conf identity)) part out →
+  by_name : (base : List ℕ) (given : Option (List ℕ)) (part : List Pair) (out : Result Keys CredentialsError) → Reads (after (session_name base given) (with_name conf identity policies)) part out →
       result_err out ≡ option_and_then why_entry (last_or None part)
   unfolding session_name clock
   by_name base (Some name) part out h = behind_name name None part out h
   by_name base None [] out h = absurd h
   by_name base None (e ∷ part) out h = behind_name _ (Some e) part out h.1
 
-  pub assumed_cause : (base : List ℕ) (part : List Pair) (out : Result Keys CredentialsError) → Reads (assumes_by_web_identity conf base identity) part out →
+  pub assumed_cause : (base : List ℕ) (part : List Pair) (out : Result Keys CredentialsError) → Reads (assumes_by_web_identity conf base identity policies) part out →
       result_err out ≡ option_and_then why_entry (last_or None part)
   unfolding assumes_by_web_identity
   assumed_cause base part out h = by_name base identity.session_name part out h
 
-identity_cause : (conf : Configuration) (identity : Result WebIdentity CredentialsError) (part : List Pair) (out : Result Keys CredentialsError) →
-    Reads (by_identity conf identity) part out → result_err out ≡ why_identity identity part
-identity_cause conf (Err e) [] out h = ap result_err (sym h)
-identity_cause conf (Err e) (x ∷ part) out h = absurd h
-identity_cause conf (Ok identity) part out h = assumed_cause conf identity _ part out h
+identity_cause : (conf : Configuration) (policies : SessionPolicies) (identity : Result WebIdentity CredentialsError) (part : List Pair) (out : Result Keys CredentialsError) →
+    Reads (by_identity conf policies identity) part out → result_err out ≡ why_identity identity part
+identity_cause conf policies (Err e) [] out h = ap result_err (sym h)
+identity_cause conf policies (Err e) (x ∷ part) out h = absurd h
+identity_cause conf policies (Ok identity) part out h = assumed_cause conf identity policies _ part out h
 
-pub web_identity_cause : (conf : Configuration) (given : Option StaticConfiguration) (part : List Pair) (out : Result Keys CredentialsError) →
-    Reads (web_identity conf given) part out → result_err out ≡ why_web_identity conf given part
+pub web_identity_cause : (conf : Configuration) (given : Option StaticConfiguration) (policies : SessionPolicies) (part : List Pair) (out : Result Keys CredentialsError) →
+    Reads (web_identity conf given policies) part out → result_err out ≡ why_web_identity conf given part
 unfolding web_identity
-web_identity_cause conf given part out h = identity_cause conf (identity_of conf.environment given) part out h
+web_identity_cause conf given policies part out h = identity_cause conf policies (identity_of conf.environment given) part out h

@@ -30,6 +30,7 @@ use Rattle.cfg_profile.specs.Configuration.{Configuration}
 use Rattle.cfg_profile.specs.Settings.{settings_of}
 use Rattle.cfg_providers.specs.declared.web_identity_token.WebIdentity.{WebIdentity}
 use Rattle.cfg_providers.specs.declared.web_identity_token.StaticConfiguration.{StaticConfiguration}
+use Rattle.cfg_providers.specs.declared.web_identity_token.SessionPolicies.{SessionPolicies}
 use Rattle.cfg_providers.specs.EnvironmentKeys.{not_set}
 use Rattle.cfg_providers.specs.SessionNames.{session_name}
 use Rattle.cfg_providers.specs.Sts.{into_credentials}
@@ -73,14 +74,18 @@ token_in file (Err kind) = Err (ProviderError (cause.File file))
 unfoldable pub identity_token : List ℕ → Inquiry (Result (List ℕ) CredentialsError)
 identity_token file = after (reading_file file) (λ contents. Done (token_in file contents))
 
--- the request with this token, for a session of this name
-abbrev pub request : Configuration → WebIdentity → List ℕ → List ℕ → AssumeRoleWithWebIdentity
-request conf identity name token = record {
+-- a session that no policy limits
+abbrev pub no_policies : SessionPolicies
+no_policies = record { policy = None; policy_arns = None }
+
+-- the request with this token, for a session of this name under these policies
+abbrev pub request : Configuration → WebIdentity → SessionPolicies → List ℕ → List ℕ → AssumeRoleWithWebIdentity
+request conf identity policies name token = record {
   role_arn = identity.role_arn;
   session_name = name;
   token = token;
-  policy = None;
-  policy_arns = None;
+  policy = policies.policy;
+  policy_arns = policies.policy_arns;
   settings = settings_of conf;
 }
 
@@ -99,24 +104,26 @@ identity_answer (Err (Refused refusal)) = Err (ProviderError (cause.Refused refu
 identity_answer (Ok reply) = or_unhandled (into_credentials reply (codes "WebIdentityToken"))
 
 -- one request with the token, where there is one
-unfoldable pub with_token : Configuration → WebIdentity → List ℕ → Result (List ℕ) CredentialsError → Inquiry (Result Keys CredentialsError)
-with_token conf identity name (Err e) = Done (Err e)
-with_token conf identity name (Ok token) = after (assuming_by_web_identity (request conf identity name token)) (λ given. Done (identity_answer given))
+unfoldable pub with_token : Configuration → WebIdentity → SessionPolicies → List ℕ → Result (List ℕ) CredentialsError → Inquiry (Result Keys CredentialsError)
+with_token conf identity policies name (Err e) = Done (Err e)
+with_token conf identity policies name (Ok token) = after (assuming_by_web_identity (request conf identity policies name token)) (λ given. Done (identity_answer given))
 
-abbrev pub with_name : Configuration → WebIdentity → List ℕ → Inquiry (Result Keys CredentialsError)
-with_name conf identity name = after (identity_token identity.web_identity_token_file) (with_token conf identity name)
+-- the file, then one request, for a session of this name
+abbrev pub with_name : Configuration → WebIdentity → SessionPolicies → List ℕ → Inquiry (Result Keys CredentialsError)
+with_name conf identity policies name = after (identity_token identity.web_identity_token_file) (with_token conf identity policies name)
 
 -- A name for the session, then the file, then one request. A name that is made begins with base.
-unfoldable pub assumes_by_web_identity : Configuration → List ℕ → WebIdentity → Inquiry (Result Keys CredentialsError)
-assumes_by_web_identity conf base identity = after (session_name base identity.session_name) (with_name conf identity)
+unfoldable pub assumes_by_web_identity : Configuration → List ℕ → WebIdentity → SessionPolicies → Inquiry (Result Keys CredentialsError)
+assumes_by_web_identity conf base identity policies = after (session_name base identity.session_name) (with_name conf identity policies)
 
-abbrev pub by_identity : Configuration → Result WebIdentity CredentialsError → Inquiry (Result Keys CredentialsError)
-by_identity conf (Err e) = Done (Err e)
-by_identity conf (Ok identity) = assumes_by_web_identity conf (codes "web-identity-token") identity
+-- what is asked for a web identity, and nothing where there is none
+abbrev pub by_identity : Configuration → SessionPolicies → Result WebIdentity CredentialsError → Inquiry (Result Keys CredentialsError)
+by_identity conf policies (Err e) = Done (Err e)
+by_identity conf policies (Ok identity) = assumes_by_web_identity conf (codes "web-identity-token") identity policies
 
--- the given web identity, or else that of the environment
-unfoldable pub web_identity : Configuration → Option StaticConfiguration → Inquiry (Result Keys CredentialsError)
-web_identity conf given = by_identity conf (identity_of conf.environment given)
+-- the given web identity, or else that of the environment, under these policies
+unfoldable pub web_identity : Configuration → Option StaticConfiguration → SessionPolicies → Inquiry (Result Keys CredentialsError)
+web_identity conf given policies = by_identity conf policies (identity_of conf.environment given)
 
 -- Why the contents of a file are no token.
 abbrev pub why_text : Option (List ℕ) → Option CredentialsError

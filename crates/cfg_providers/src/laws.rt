@@ -12,6 +12,7 @@ ghost use Rattle.cfg_profile.specs.Configuration.{Configuration};
 ghost use Rattle.cfg_profile.specs.Laws.{lowered};
 ghost use Rattle.cfg_profile.specs.NamedSources.{is_named, is_custom};
 ghost use Rattle.cfg_providers.specs.declared.web_identity_token.StaticConfiguration.{StaticConfiguration as Given};
+ghost use Rattle.cfg_providers.specs.declared.web_identity_token.SessionPolicies.{SessionPolicies as Policies};
 ghost use Rattle.cfg_providers.specs.declared.web_identity_token.WebIdentity.{WebIdentity as Identity};
 ghost use Rattle.cfg_types.specs.Environment.{Variables};
 ghost use Rattle.cfg_providers.specs.CustomSources.{Answer, NamedAnswer, last_named};
@@ -54,10 +55,10 @@ pub fn a_process_fails_by_its_last_entry()
 {}
 
 /// Web identity fails by a variable that is missing, or by what the last entry of its part shows, and
-/// gives credentials where that shows no fault.
+/// gives credentials where that shows no fault. What limits its sessions plays no part in that.
 pub fn web_identity_fails_by_its_last_entry()
-    ensures given { (conf : Configuration) (given : Option Given) (part : List Pair) (out : Result Keys Refusal) →
-        Reads (web_identity conf given) part out → result_err out ≡ why_web_identity conf given part }
-    ensures identity { (conf : Configuration) (base : List ℕ) (identity : Identity) (part : List Pair) (out : Result Keys Refusal) →
-        Reads (assumes_by_web_identity conf base identity) part out → result_err out ≡ option_and_then why_entry (last_or None part) }
+    ensures given { (conf : Configuration) (given : Option Given) (policies : Policies) (part : List Pair) (out : Result Keys Refusal) →
+        Reads (web_identity conf given policies) part out → result_err out ≡ why_web_identity conf given part }
+    ensures identity { (conf : Configuration) (base : List ℕ) (identity : Identity) (policies : Policies) (part : List Pair) (out : Result Keys Refusal) →
+        Reads (assumes_by_web_identity conf base identity policies) part out → result_err out ≡ option_and_then why_entry (last_or None part) }
 {}

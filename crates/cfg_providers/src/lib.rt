@@ -26,6 +26,6 @@ pub use process::{CredentialProcessProvider, credential_process};
 pub use session_name::default_session_name;
 pub use sts::{into_credentials, parse_account_id};
 pub use web_identity_token::{
-    StaticConfiguration, WebIdentity, WebIdentityTokenCredentialsProvider, assume_by_web_identity,
-    web_identity,
+    SessionPolicies, StaticConfiguration, WebIdentity, WebIdentityTokenCredentialsProvider,
+    assume_by_web_identity, web_identity,
 };

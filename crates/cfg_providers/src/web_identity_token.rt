@@ -1,5 +1,5 @@
 //! Credentials by a web identity token.
-ghost use Rattle.std.specs.Prelude.{◌≡◌, IfOk, Some, None, true, false, option_map};
+ghost use Rattle.std.specs.Prelude.{◌≡◌, IfOk, Some, None, true, false, map, option_map, string_bytes};
 ghost use Rattle.cfg_values.specs.Text.{characters};
 ghost use Rattle.cfg_types.specs.Environment.{variable};
 ghost use Rattle.cfg_world.specs.Follows.{Follows};
@@ -7,7 +7,7 @@ ghost use Rattle.cfg_world.specs.Leaves.{reading_file, assuming_by_web_identity}
 ghost use Rattle.cfg_profile.specs.Configuration.{nothing_configured};
 ghost use Rattle.cfg_providers.specs.Gives.{GivesAnswer};
 ghost use Rattle.cfg_providers.specs.Provides.{is_memory, Provides, Interrupted};
-ghost use Rattle.cfg_providers.specs.WebIdentities.{readable as readable_of, needed as needed_of, identity_in as identity_in_of, identity_of, token_in as token_in_of, identity_token as identity_token_of, request as request_of, by_web_identity, identity_answer as identity_answer_of, with_token as with_token_of, assumes_by_web_identity, web_identity as web_identity_of, why_web_identity};
+ghost use Rattle.cfg_providers.specs.WebIdentities.{readable as readable_of, needed as needed_of, identity_in as identity_in_of, identity_of, token_in as token_in_of, identity_token as identity_token_of, no_policies, request as request_of, by_web_identity, identity_answer as identity_answer_of, with_token as with_token_of, assumes_by_web_identity, web_identity as web_identity_of, why_web_identity};
 
 use crate::session_name::session_name;
 use crate::sts::into_credentials;
@@ -15,7 +15,8 @@ use crate::utf8::utf8;
 use cfg_profile::{ProviderConfig, call_settings};
 use cfg_types::{
     AssumeRoleWithWebIdentity, AwsCredentialFeature, Bytes, Credentials, CredentialsError, Env,
-    FailKind, NotLoadedCause, OutOfMemory, ProviderCause, StsReply, Text, TryCopy, UnhandledCause,
+    FailKind, NotLoadedCause, OutOfMemory, ProviderCause, Seq, StsReply, Text, TryCopy,
+    UnhandledCause, copy_option,
 };
 use cfg_world::{
     Asking, Devices, Halt, NotGranted, Stop, World, assume_role_with_web_identity, read_file,
@@ -60,21 +61,59 @@ impl Drop for StaticConfiguration {
     }
 }
 
-/// Assumes the given web identity, or else the one that the environment names. A session without a
-/// name gets one from a reading of the clock: `web-identity-token-` and the milliseconds.
+/// What limits the sessions of a role, as AWS STS has it under session policies: a session may do what
+/// both its role and these policies allow. With none it may do what its role allows.
+#[derive(Debug)]
+pub struct SessionPolicies {
+    /// A policy of its own, a text in JSON. It is sent as it is.
+    pub policy: Option<Text>,
+    /// The ARNs of managed policies, in the order in which they are sent.
+    pub policy_arns: Option<Seq<Text>>,
+}
+
+impl Drop for SessionPolicies {
+    fn drop(self) {
+        let SessionPolicies {
+            policy: _,
+            policy_arns: _,
+        } = self;
+    }
+}
+
+impl SessionPolicies {
+    /// No policy, and no ARNs.
+    pub fn none() -> SessionPolicies
+        ensures { result ≡ no_policies }
+    {
+        SessionPolicies {
+            policy: None,
+            policy_arns: None,
+        }
+    }
+}
+
+/// Assumes the given web identity, or else the one that the environment names, for a session under
+/// these policies. A session without a name gets one from a reading of the clock:
+/// `web-identity-token-` and the milliseconds.
 #[tactic(auto, using(crate::proofs::QuietSteps::quiet_steps), unfolding(crate::specs::WebIdentities::web_identity))]
 pub fn web_identity<A: Asking>(
     alloc: Global,
     config: &ProviderConfig,
     given: &Option<StaticConfiguration>,
+    policies: &SessionPolicies,
     asking: &mut A,
 ) -> Result<Result<Credentials, CredentialsError>, Stop>
-    ensures { Follows ⟦<A as Asking>⟧ (web_identity_of config.now given.now) asking.old asking.new result }
+    ensures { Follows ⟦<A as Asking>⟧ (web_identity_of config.now given.now policies.now) asking.old asking.new result }
 {
     match identity(alloc, config.env(), given) {
-        Ok(identity) => {
-            assume_by_web_identity(alloc, config, "web-identity-token", &identity, asking)
-        }
+        Ok(identity) => assume_by_web_identity(
+            alloc,
+            config,
+            "web-identity-token",
+            &identity,
+            policies,
+            asking,
+        ),
         Err(Halt::Refused(error)) => Ok(Err(error)),
         Err(Halt::Stopped(_)) => Err(Stop::OutOfMemory),
     }
@@ -136,20 +175,22 @@ fn needed(alloc: Global, env: &Env, name: &str) -> Result<Text, Halt<Credentials
 }
 
 /// Assumes this web identity: a name for its session, then its file, then one
-/// `AssumeRoleWithWebIdentity`. A name that is made begins with `base`.
+/// `AssumeRoleWithWebIdentity`, which sends these policies along. A name that is made begins with
+/// `base`.
 #[tactic(auto, using(cfg_world::proofs::Inquiries::asking_steps), unfolding(crate::specs::WebIdentities::assumes_by_web_identity))]
 pub fn assume_by_web_identity<A: Asking>(
     alloc: Global,
     config: &ProviderConfig,
     base: &str,
     identity: &WebIdentity,
+    policies: &SessionPolicies,
     asking: &mut A,
 ) -> Result<Result<Credentials, CredentialsError>, Stop>
-    ensures { Follows ⟦<A as Asking>⟧ (assumes_by_web_identity config.now base.now identity.now) asking.old asking.new result }
+    ensures { Follows ⟦<A as Asking>⟧ (assumes_by_web_identity config.now base.now identity.now policies.now) asking.old asking.new result }
 {
     let name = session_name(alloc, base, &identity.session_name, asking)?;
     let token = identity_token(alloc, &identity.web_identity_token_file, asking)?;
-    let outcome = with_token(alloc, config, identity, name, token, asking)?;
+    let outcome = with_token(alloc, config, identity, policies, name, token, asking)?;
     Ok(outcome)
 }
 
@@ -203,16 +244,25 @@ fn with_token<A: Asking>(
     alloc: Global,
     config: &ProviderConfig,
     identity: &WebIdentity,
+    policies: &SessionPolicies,
     session_name: Text,
     token: Result<Text, CredentialsError>,
     asking: &mut A,
 ) -> Result<Result<Credentials, CredentialsError>, Stop>
-    ensures { Follows ⟦<A as Asking>⟧ (with_token_of config.now identity.now session_name token) asking.old asking.new result }
+    ensures { Follows ⟦<A as Asking>⟧ (with_token_of config.now identity.now policies.now session_name token) asking.old asking.new result }
 {
     match token {
         Err(error) => Ok(Err(error)),
         Ok(token) => {
-            let answer = send(alloc, config, identity, session_name, token, asking)?;
+            let answer = send(
+                alloc,
+                config,
+                identity,
+                policies,
+                session_name,
+                token,
+                asking,
+            )?;
             let outcome = identity_answer(alloc, answer)?;
             Ok(outcome)
         }
@@ -224,13 +274,14 @@ fn send<A: Asking>(
     alloc: Global,
     config: &ProviderConfig,
     identity: &WebIdentity,
+    policies: &SessionPolicies,
     session_name: Text,
     token: Text,
     asking: &mut A,
 ) -> Result<Result<StsReply, NotGranted>, Stop>
-    ensures { Follows ⟦<A as Asking>⟧ (assuming_by_web_identity (request_of config.now identity.now session_name token)) asking.old asking.new result }
+    ensures { Follows ⟦<A as Asking>⟧ (assuming_by_web_identity (request_of config.now identity.now policies.now session_name token)) asking.old asking.new result }
 {
-    let request = request(alloc, config, identity, session_name, token)?;
+    let request = request(alloc, config, identity, policies, session_name, token)?;
     assume_role_with_web_identity(alloc, request, asking)
 }
 
@@ -238,19 +289,22 @@ fn request(
     alloc: Global,
     config: &ProviderConfig,
     identity: &WebIdentity,
+    policies: &SessionPolicies,
     session_name: Text,
     token: Text,
 ) -> Result<AssumeRoleWithWebIdentity, OutOfMemory>
-    ensures { IfOk result (λ r. r ≡ request_of config.now identity.now session_name token) }
+    ensures { IfOk result (λ r. r ≡ request_of config.now identity.now policies.now session_name token) }
 {
     let role_arn = identity.role_arn.copy(alloc)?;
+    let policy = copy_option(alloc, &policies.policy)?;
+    let policy_arns = copy_option(alloc, &policies.policy_arns)?;
     let settings = call_settings(alloc, config)?;
     Ok(AssumeRoleWithWebIdentity {
         role_arn,
         session_name,
         token,
-        policy: None,
-        policy_arns: None,
+        policy,
+        policy_arns,
         settings,
     })
 }
@@ -287,12 +341,13 @@ fn mark(credentials: Credentials) -> Result<Credentials, OutOfMemory>
     Ok(credentials)
 }
 
-/// Sets up a provider of web identity. Contracts see its configuration, and the web identity that was
-/// given.
+/// Sets up a provider of web identity. Contracts see its configuration, the web identity that was
+/// given, and the policies of its sessions. A setter changes its field alone.
 pub struct Builder {
     alloc: Global,
     config: ProviderConfig,
     given: Option<StaticConfiguration>,
+    policies: SessionPolicies,
 }
 
 impl Drop for Builder {
@@ -301,6 +356,7 @@ impl Drop for Builder {
             alloc: _,
             config: _,
             given: _,
+            policies: _,
         } = self;
     }
 }
@@ -312,7 +368,7 @@ impl Model for Builder {
 
     ghost coded = { web_identity_setup_code };
 
-    ghost view = { λ b. record { configuration = b.config; given = b.given } };
+    ghost view = { λ b. record { configuration = b.config; given = b.given; policies = b.policies } };
 }
 
 impl Builder {
@@ -332,6 +388,24 @@ impl Builder {
         self
     }
 
+    /// With this policy, a text in JSON, for its sessions. It is not read here, and stands beside the
+    /// ARNs.
+    pub fn policy(mut self, policy: &str) -> Result<Builder, OutOfMemory>
+        ensures { IfOk result (λ b. b ≡ record self { policies = record self.policies { policy = Some (characters policy.now) } }) }
+    {
+        self.policies.policy = Some(Text::of(self.alloc, policy)?);
+        Ok(self)
+    }
+
+    /// With the managed policies of these ARNs for its sessions, in place of those that it had. They
+    /// are sent in this order.
+    pub fn policy_arns(mut self, policy_arns: Vec<String>) -> Result<Builder, OutOfMemory>
+        ensures { IfOk result (λ b. b ≡ record self { policies = record self.policies { policy_arns = Some (map (λ arn. characters (string_bytes arn)) policy_arns.items) } }) }
+    {
+        self.policies.policy_arns = Some(texts(self.alloc, policy_arns)?);
+        Ok(self)
+    }
+
     /// The provider.
     pub fn build(self) -> Result<WebIdentityTokenCredentialsProvider, OutOfMemory>
         ensures { IfOk result (λ p. p ≡ self) }
@@ -340,21 +414,36 @@ impl Builder {
             alloc,
             config,
             given,
+            policies,
         } = self;
         Ok(WebIdentityTokenCredentialsProvider {
             alloc,
             config,
             given,
+            policies,
         })
     }
 }
 
+// The strings as texts, in order. No string is copied.
+fn texts(alloc: Global, strings: Vec<String>) -> Result<Seq<Text>, OutOfMemory>
+    ensures { IfOk result (λ texts. texts ≡ map (λ s. characters (string_bytes s)) strings.items) }
+{
+    let mut texts = Vec::with_capacity(alloc, strings.len())?;
+    for string in strings {
+        texts.push(Text::from_string(string))?;
+    }
+    Ok(Seq::of(texts))
+}
+
 /// Credentials by a web identity token, for the role that the environment or a static configuration
-/// names. Contracts see its configuration, and the web identity that was given.
+/// names. Contracts see its configuration, the web identity that was given, and the policies of its
+/// sessions.
 pub struct WebIdentityTokenCredentialsProvider {
     alloc: Global,
     config: ProviderConfig,
     given: Option<StaticConfiguration>,
+    policies: SessionPolicies,
 }
 
 impl Drop for WebIdentityTokenCredentialsProvider {
@@ -363,6 +452,7 @@ impl Drop for WebIdentityTokenCredentialsProvider {
             alloc: _,
             config: _,
             given: _,
+            policies: _,
         } = self;
     }
 }
@@ -374,18 +464,19 @@ impl Model for WebIdentityTokenCredentialsProvider {
 
     ghost coded = { web_identity_setup_code };
 
-    ghost view = { λ p. record { configuration = p.config; given = p.given } };
+    ghost view = { λ p. record { configuration = p.config; given = p.given; policies = p.policies } };
 }
 
 impl WebIdentityTokenCredentialsProvider {
-    /// A builder with no variables, no region and no static configuration.
+    /// A builder with no variables, no region, no static configuration and no policies.
     pub fn builder(alloc: Global) -> Result<Builder, OutOfMemory>
-        ensures { IfOk result (λ b. b ≡ record { configuration = nothing_configured true; given = None }) }
+        ensures { IfOk result (λ b. b ≡ record { configuration = nothing_configured true; given = None; policies = no_policies }) }
     {
         Ok(Builder {
             alloc,
             config: ProviderConfig::without_region(alloc)?,
             given: None,
+            policies: SessionPolicies::none(),
         })
     }
 
@@ -394,9 +485,15 @@ impl WebIdentityTokenCredentialsProvider {
         &self,
         asking: &mut A,
     ) -> Result<Result<Credentials, CredentialsError>, Stop>
-        ensures { Follows ⟦<A as Asking>⟧ (web_identity_of self.now.configuration self.now.given) asking.old asking.new result }
+        ensures { Follows ⟦<A as Asking>⟧ (web_identity_of self.now.configuration self.now.given self.now.policies) asking.old asking.new result }
     {
-        web_identity(self.alloc, &self.config, &self.given, asking)
+        web_identity(
+            self.alloc,
+            &self.config,
+            &self.given,
+            &self.policies,
+            asking,
+        )
     }
 
     /// Reads the file of the token, and assumes the role with it.
@@ -414,8 +511,8 @@ impl WebIdentityTokenCredentialsProvider {
         &self,
         world: &mut World<D>,
     ) -> Result<Credentials, CredentialsError>
-        ensures provides { is_memory result ≡ false → Provides ⟦<D as Devices>⟧ (web_identity_of self.now.configuration self.now.given) (why_web_identity self.now.configuration self.now.given) world.old world.new result }
-        ensures stays { is_memory result ≡ true → Interrupted ⟦<D as Devices>⟧ (web_identity_of self.now.configuration self.now.given) world.old world.new }
+        ensures provides { is_memory result ≡ false → Provides ⟦<D as Devices>⟧ (web_identity_of self.now.configuration self.now.given self.now.policies) (why_web_identity self.now.configuration self.now.given) world.old world.new result }
+        ensures stays { is_memory result ≡ true → Interrupted ⟦<D as Devices>⟧ (web_identity_of self.now.configuration self.now.given self.now.policies) world.old world.new }
     {
         match self.follow(world) {
             Ok(outcome) => outcome,

@@ -2,9 +2,9 @@
 use crate::setup::{Outcome, Setup, answer_words, questions, set_up};
 use cfg_profile::ProviderConfig;
 use cfg_providers::{StaticConfiguration, WebIdentityTokenCredentialsProvider};
-use cfg_types::{OutOfMemory, Text};
-use cfg_world::{ScriptDevices, World};
-use std::alloc::Global;
+use cfg_types::{OutOfMemory, Request, Text};
+use cfg_world::{Entry, Question, ScriptDevices, World};
+use std::alloc::{AllocError, Global};
 use std::test::Fail;
 
 fn static_configuration(alloc: Global) -> Result<StaticConfiguration, OutOfMemory> {
@@ -158,5 +158,70 @@ fn files_of_web_identity(rt: HostRuntime) -> Result<(), Fail> {
         let words = words_of(rt.alloc(), *fixed, script.as_str())?;
         assert_eq!(rt; words.as_str(), *want, "{files}");
     }
+    Ok(())
+}
+
+fn strings(alloc: Global, given: &[&str]) -> Result<Vec<String>, AllocError> {
+    let mut strings = Vec::new(alloc);
+    for text in given {
+        strings.push(String::from_str(alloc, text)?)?;
+    }
+    Ok(strings)
+}
+
+// A provider with this policy, where it is not empty, and with these ARNs, where there are some.
+fn limited(
+    alloc: Global,
+    policy: &str,
+    arns: &[&str],
+) -> Result<WebIdentityTokenCredentialsProvider, OutOfMemory> {
+    let mut builder = WebIdentityTokenCredentialsProvider::builder(alloc)?.static_configuration(
+        static_configuration(alloc)?,
+    );
+    if !policy.is_empty() {
+        builder = builder.policy(policy)?;
+    }
+    if !arns.is_empty() {
+        builder = builder.policy_arns(strings(alloc, arns)?)?;
+    }
+    builder.build()
+}
+
+fn policies_sent(alloc: Global, journal: &[Entry]) -> Result<String, AllocError> {
+    let mut words = String::new(alloc);
+    for entry in journal {
+        if let Question::Send(Request::AssumeRoleWithWebIdentity(request)) = entry.question() {
+            let policy = &request.policy;
+            let arns = &request.policy_arns;
+            let sent = format!(in alloc; "{policy:?} {arns:?}")?;
+            words.push_str(sent.as_str())?;
+        }
+    }
+    Ok(words)
+}
+
+fn sent_under(alloc: Global, policy: &str, arns: &[&str]) -> Result<String, OutOfMemory> {
+    let script = r#"{"files":[["/f","x"]],"replies":{"web-identity":[null]}}"#;
+    let Some(Setup { config: _, devices }) = set_up(alloc, script)? else {
+        return Ok(String::from_str(alloc, "no script")?);
+    };
+    let provider = limited(alloc, policy, arns)?;
+    let mut world = World::new(alloc, devices);
+    let _outcome = Outcome {
+        answer: provider.provide_credentials(&mut world),
+    };
+    Ok(policies_sent(alloc, world.journal())?)
+}
+
+#[test]
+fn policies_of_web_identity(rt: HostRuntime) -> Result<(), Fail> {
+    let none = sent_under(rt.alloc(), "", &[])?;
+    assert_eq!(rt; none.as_str(), "None None");
+    let policy = sent_under(rt.alloc(), "p", &[])?;
+    assert_eq!(rt; policy.as_str(), "Some(\"p\") None");
+    let arns = sent_under(rt.alloc(), "", &["a", "b"])?;
+    assert_eq!(rt; arns.as_str(), "None Some([\"a\", \"b\"])");
+    let both = sent_under(rt.alloc(), "p", &["a"])?;
+    assert_eq!(rt; both.as_str(), "Some(\"p\") Some([\"a\"])");
     Ok(())
 }

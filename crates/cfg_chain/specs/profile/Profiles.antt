@@ -1,5 +1,5 @@
 -- Credentials by the selected profile.
-use Rattle.std.specs.Prelude.{[], ◌∷◌, ◌++◌, Bool, true, false, Result, Ok, Err, if◌then◌else◌}
+use Rattle.std.specs.Prelude.{List, [], ◌∷◌, ◌++◌, Bool, true, false, Ok, Err, if◌then◌else◌}
 use Rattle.cfg_types.specs.Keys.{Keys}
 use Rattle.cfg_types.specs.declared.credentials.AwsCredentialFeature.TheVariants.{CredentialsProfile}
 use Rattle.cfg_types.specs.declared.errors.ConfigCause.TheVariants as config
@@ -8,11 +8,15 @@ use Rattle.cfg_types.specs.declared.errors.CredentialsError.{CredentialsError}
 use Rattle.cfg_types.specs.declared.errors.CredentialsError.TheVariants as error
 use Rattle.cfg_types.specs.declared.errors.ProfileFileError.{ProfileFileError}
 use Rattle.cfg_types.specs.declared.errors.ProfileFileError.TheVariants as plan_error
-use Rattle.cfg_world.specs.Inquiry.{Inquiry, Done, ◌>>=◌}
-use Rattle.cfg_chain.specs.declared.profile.plan.KeyPlan.{KeyPlan}
+use Rattle.cfg_world.specs.Inquiry.{Inquiry, Done, after, ◌>>=◌}
+use Rattle.cfg_profile.specs.declared.chain.ProfileChain.{ProfileChain}
+use Rattle.cfg_profile.specs.declared.chain.RoleArn.{RoleArn}
 use Rattle.cfg_profile.specs.Configuration.{Configuration}
-use Rattle.cfg_chain.specs.profile.Plans.{plan}
 use Rattle.cfg_providers.specs.AssumeRole.{assumes_roles}
+use Rattle.cfg_providers.specs.CustomSources.{Answer}
+use Rattle.cfg_chain.specs.Settings.{Setting, names_of}
+use Rattle.cfg_chain.specs.profile.Plans.{Planned, plan}
+use Rattle.cfg_chain.specs.profile.Bases.{based}
 
 -- The errors of a profile that is not there, that has no credentials, or that gives a token in place
 -- of credentials.
@@ -33,10 +37,22 @@ refusal e = if is_not_loaded_error e then error.CredentialsNotLoaded (not_loaded
 abbrev pub by_profile : Keys → Keys
 by_profile keys = record keys { features = keys.features ++ CredentialsProfile ∷ [] }
 
-abbrev pub follows_plan : Configuration → Result KeyPlan ProfileFileError → Inquiry (Result Keys CredentialsError)
-follows_plan conf (Err e) = Done (Err (refusal e))
-follows_plan conf (Ok p) = assumes_roles conf p.roles p.base >>= λ keys. Done (Ok (by_profile keys))
+unfoldable pub marked : Answer → Answer
+marked (Ok keys) = Ok (by_profile keys)
+marked (Err e) = Err e
 
--- the questions of the plan's roles, and what is read over their answers
-unfoldable pub profile : Configuration → Inquiry (Result Keys CredentialsError)
-profile conf = follows_plan conf (plan conf)
+-- the credentials of the last of these roles, the first of them assumed with these credentials
+unfoldable pub derived : Configuration → List RoleArn → Keys → Inquiry Answer
+derived conf roles keys = after (assumes_roles conf roles keys) (λ last. Done (marked last))
+
+-- the first credentials, and then the roles
+unfoldable pub follows_planned : Setting → ProfileChain → Inquiry Answer
+follows_planned s p = based s p.base >>= derived s.configuration p.roles
+
+abbrev pub follows_plan : Setting → Planned → Inquiry Answer
+follows_plan s (Err e) = Done (Err (refusal e))
+follows_plan s (Ok p) = follows_planned s p
+
+-- the questions of the plan's base and of its roles, and what is read over their answers
+unfoldable pub profile : Setting → Inquiry Answer
+profile s = follows_plan s (plan s.configuration (names_of s.sources))

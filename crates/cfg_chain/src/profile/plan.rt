@@ -1,27 +1,29 @@
 //! What the selected profile gives credentials by, as far as it is built.
 ghost use Rattle.std.specs.Prelude.{◌≡◌, IfOk};
+ghost use Rattle.cfg_profile.specs.NamedSources.{is_custom as custom};
 ghost use Rattle.cfg_providers.specs.Gives.{GivesAnswer};
-ghost use Rattle.cfg_chain.specs.profile.Plans.{not_built as not_built_error, is_not_built_error, profile_plan, keyed as keyed_of, plan, is_built as is_built_of};
+ghost use Rattle.cfg_chain.specs.Settings.{names_of as names_of_sources};
+ghost use Rattle.cfg_chain.specs.Sources.{named_sources};
+ghost use Rattle.cfg_chain.specs.profile.Plans.{not_built as not_built_error, is_not_built_error, profile_plan, built as built_of, is_built_base as is_built_base_of, is_built_source as is_built_source_of, plan, is_built as is_built_of};
 
 use cfg_profile::{
-    ProfileChain, ProfileSet, ProfileSource, ProviderConfig, RoleArn, plan_of_profile,
-    selected_name,
+    BaseProvider, ProfileChain, ProfileSet, ProfileSource, ProviderConfig, is_alike, is_named,
+    plan_of_profile, selected_name,
 };
-use cfg_types::{Credentials, OutOfMemory, ProfileFileError, Seq, Text, TryCopy};
+use cfg_providers::{CustomSource, names_of};
+use cfg_types::{OutOfMemory, ProfileFileError, Text, TryCopy};
 use cfg_world::{Halt, Stop};
 use std::alloc::Global;
 
-/// Keys, and the roles that are assumed with them one after another, the first one first.
-#[derive(Drop)]
-pub struct KeyPlan {
-    pub base: Credentials,
-    pub roles: Seq<RoleArn>,
-}
-
-/// What the selected profile gives credentials by, or why it gives none.
+/// What the selected profile gives credentials by, or why it gives none. The caller has sources of
+/// these names.
 #[tactic(auto, unfolding(crate::specs::profile::Plans::plan))]
-pub fn plan_of(alloc: Global, config: &ProviderConfig) -> Result<KeyPlan, Halt<ProfileFileError>>
-    ensures { GivesAnswer (λ p. p) result (plan config.now) }
+pub fn plan_of(
+    alloc: Global,
+    config: &ProviderConfig,
+    sources: &[Text],
+) -> Result<ProfileChain, Halt<ProfileFileError>>
+    ensures { GivesAnswer (λ p. p) result (plan config.now sources.now) }
 {
     match config.profiles() {
         ProfileSource::Refused(reason) => {
@@ -29,18 +31,33 @@ pub fn plan_of(alloc: Global, config: &ProviderConfig) -> Result<KeyPlan, Halt<P
             Err(Halt::Refused(ProfileFileError::InvalidProfile(reason)))
         }
         ProfileSource::Sections(set) => {
-            let chain = plan_in(alloc, set, selected_name(config))?;
-            keyed(alloc, chain)
+            let chain = plan_in(alloc, set, selected_name(config), sources)?;
+            built(alloc, sources, chain)
         }
     }
 }
 
-/// Whether what the selected profile gives credentials by is built. So far these are keys, and roles
-/// that are assumed with them.
-pub fn is_built(alloc: Global, config: &ProviderConfig) -> Result<bool, OutOfMemory>
-    ensures { IfOk result (λ b. b ≡ is_built_of config.now) }
+/// Whether what the selected profile gives credentials by is built: all but single sign-on, a sign-in
+/// and instance metadata.
+pub fn is_built(
+    alloc: Global,
+    config: &ProviderConfig,
+    sources: &[CustomSource],
+) -> Result<bool, OutOfMemory>
+    ensures { IfOk result (λ b. b ≡ is_built_of config.now (names_of_sources (named_sources value sources.now))) }
 {
-    match plan_of(alloc, config) {
+    let names = names_of(alloc, sources)?;
+    is_built_over(alloc, config, names.as_slice())
+}
+
+fn is_built_over(
+    alloc: Global,
+    config: &ProviderConfig,
+    sources: &[Text],
+) -> Result<bool, OutOfMemory>
+    ensures { IfOk result (λ b. b ≡ is_built_of config.now sources.now) }
+{
+    match plan_of(alloc, config, sources) {
         Ok(_) => Ok(true),
         Err(Halt::Refused(error)) => Ok(!is_not_built(&error)),
         Err(Halt::Stopped(_)) => Err(OutOfMemory),
@@ -58,10 +75,11 @@ fn plan_in(
     alloc: Global,
     set: &ProfileSet,
     name: &str,
+    sources: &[Text],
 ) -> Result<ProfileChain, Halt<ProfileFileError>>
-    ensures { GivesAnswer (λ p. p) result (profile_plan set.now name.now) }
+    ensures { GivesAnswer (λ p. p) result (profile_plan set.now name.now sources.now) }
 {
-    match plan_of_profile(alloc, set, name, &[]) {
+    match plan_of_profile(alloc, set, name, sources) {
         Ok(chain) => Ok(chain),
         Err(error) => match &error {
             ProfileFileError::OutOfMemory => Err(Halt::Stopped(Stop::OutOfMemory)),
@@ -70,19 +88,52 @@ fn plan_in(
     }
 }
 
-// The keys and the roles of a chain whose base is keys.
-fn keyed(alloc: Global, chain: ProfileChain) -> Result<KeyPlan, Halt<ProfileFileError>>
-    ensures { GivesAnswer (λ p. p) result (keyed_of chain) }
+// The plan, where its base is built.
+fn built(
+    alloc: Global,
+    sources: &[Text],
+    chain: ProfileChain,
+) -> Result<ProfileChain, Halt<ProfileFileError>>
+    ensures { GivesAnswer (λ p. p) result (built_of sources.now chain) }
 {
-    let (base, roles) = chain.into_parts();
-    match base.into_keys() {
-        Some(base) => Ok(KeyPlan { base, roles }),
-        None => Err(Halt::Refused(not_built(alloc)?)),
+    if is_built_base(sources, &chain.base) {
+        Ok(chain)
+    } else {
+        Err(Halt::Refused(not_built(alloc)?))
     }
 }
 
-// What is not built yet is told as a feature that is not there.
-fn not_built(alloc: Global) -> Result<ProfileFileError, OutOfMemory>
+fn is_built_base(sources: &[Text], base: &BaseProvider) -> bool
+    ensures { result ≡ is_built_base_of sources.now base.now }
+{
+    match base {
+        BaseProvider::NamedSource(name) => is_built_source(sources, name),
+        BaseProvider::Sso { .. } => false,
+        BaseProvider::LoginSession { .. } => false,
+        _ => true,
+    }
+}
+
+fn is_built_source(sources: &[Text], name: &Text) -> bool
+    ensures { result ≡ is_built_source_of sources.now name.now }
+{
+    is_custom(sources, name) || is_alike(name, "Environment") || is_alike(name, "EcsContainer")
+}
+
+// Whether the caller has a source of this name.
+fn is_custom(sources: &[Text], name: &Text) -> bool
+    ensures { result ≡ custom sources.now name.now }
+{
+    for source in sources {
+        if is_named(name, source) {
+            return true;
+        }
+    }
+    false
+}
+
+/// What is not built yet is told as a feature that is not there.
+pub(crate) fn not_built(alloc: Global) -> Result<ProfileFileError, OutOfMemory>
     ensures { IfOk result (λ e. e ≡ not_built_error) }
 {
     Ok(ProfileFileError::FeatureNotEnabled {

@@ -5,4 +5,4 @@ use Rattle.cfg_program.proofs.OneLine.{one_line}
 use Rattle.cfg_program.proofs.laws.one_script_has_one_line.Goals as goal
 
 pub returns : goal.returns
-returns c = λ script a b line other. one_line (configuration_of script) (lists_of script) Call a b line other
+returns c = λ sources script a b line other. one_line (configuration_of script) sources (lists_of script) Call a b line other

@@ -7,7 +7,7 @@ use Rattle.cfg_program.proofs.run.resolve_script.Goals as goal
 
 pub returns : goal.returns
 returns g c =
-    line_ends _ (plain c.in-Ok-read_script.script) c.in-Ok-resolve.answered.is_ok c.in-Ok-resolve.answered.line.items c.write_line.result
+    line_ends _ _ (plain c.in-Ok-read_script.script) c.in-Ok-resolve.answered.is_ok c.in-Ok-resolve.answered.line.items c.write_line.result
     (record {
       bytes = c.in-Ok.bytes.items;
       read = record { all = c.in-Ok.ensures.all; none_left = c.in-Ok.ensures.none_left; short = c.in-Ok.ensures.short };

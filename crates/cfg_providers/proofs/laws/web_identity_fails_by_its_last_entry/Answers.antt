@@ -5,4 +5,4 @@ pub returns-clause-given : goal.returns-clause-given
 returns-clause-given c = web_identity_cause
 
 pub returns-clause-identity : goal.returns-clause-identity
-returns-clause-identity c = λ conf base identity part out. assumed_cause conf identity base part out
+returns-clause-identity c = λ conf base identity policies part out. assumed_cause conf identity policies base part out

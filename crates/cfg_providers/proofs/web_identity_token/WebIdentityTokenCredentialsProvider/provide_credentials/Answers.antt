@@ -8,10 +8,10 @@ pub returns-in-Ok-clause-provides : goal.returns-in-Ok-clause-provides
 returns-in-Ok-clause-provides g c = λ other.
     let e = c.in-Ok.ensures in
     let setup = c.args.self.now in
-    provides_by (web_identity setup.configuration setup.given) _ _ e.part c.in-Ok.outcome e.grows e.fits e.same e.counted e.reads (why_web_identity setup.configuration setup.given) e.stands (web_identity_cause setup.configuration setup.given)
+    provides_by (web_identity setup.configuration setup.given setup.policies) _ _ e.part c.in-Ok.outcome e.grows e.fits e.same e.counted e.reads (why_web_identity setup.configuration setup.given) e.stands (web_identity_cause setup.configuration setup.given setup.policies)
 
 pub returns-in-Ok-clause-stays : goal.returns-in-Ok-clause-stays
 returns-in-Ok-clause-stays g c = λ no_memory.
     let e = c.in-Ok.ensures in
     let setup = c.args.self.now in
-    interrupted_by (web_identity setup.configuration setup.given) _ _ e.part c.in-Ok.outcome e.grows e.fits e.same e.counted e.reads
+    interrupted_by (web_identity setup.configuration setup.given setup.policies) _ _ e.part c.in-Ok.outcome e.grows e.fits e.same e.counted e.reads

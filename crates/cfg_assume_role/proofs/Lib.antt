@@ -1,0 +1,4 @@
+pub mod RoleSteps
+pub mod RoleCauses
+pub mod Calls
+pub mod Builds

@@ -1,0 +1,5 @@
+pub mod Roles
+pub mod Bases
+pub mod Causes
+pub mod Provides
+pub mod Setups

@@ -1,0 +1,79 @@
+-- What a builder of a role's provider was set to, and what it builds.
+use Rattle.std.specs.Option.{option_or}
+use Rattle.std.specs.Prelude.{◌≡◌, ℕ, List, Bool, Option, None, true, is_some, codes, String, string_bytes, refl}
+use Rattle.std.specs.Coded.{Coded, code_by, coded×, coded_ℕ, coded_list, coded_option}
+use Rattle.cfg_values.specs.Text.{characters}
+use Rattle.cfg_types.specs.declared.request.sts.Tag.{Tag}
+use Rattle.cfg_world.specs.declared.devices.Devices.{Ghosts}
+use Rattle.cfg_world.specs.Fits.{Pair}
+use Rattle.cfg_world.specs.Held.{Held}
+use Rattle.cfg_world.specs.Grows.{Grows, Stays}
+use Rattle.cfg_world.specs.Inquiry.{Inquiry, Reads, Begun}
+use Rattle.cfg_profile.specs.Configuration.{Configuration, configuration_code, nothing_configured}
+use Rattle.cfg_providers.specs.SessionNames.{session_name}
+use Rattle.cfg_assume_role.specs.declared.call.RoleSession.{RoleSession}
+use Rattle.cfg_assume_role.specs.declared.call.RoleCall.{RoleCall}
+use Rattle.cfg_assume_role.specs.contracts.call.RoleSession as session
+
+pub record RoleSetup : Type 0 where
+  pub configuration : Configuration
+  -- in place of the configuration's
+  pub region : Option (List ℕ)
+  pub session_name : Option (List ℕ)
+  pub session : RoleSession
+
+abbrev pub role_setup_code : Coded RoleSetup
+role_setup_code = code_by (Configuration × (Option (List ℕ) × (Option (List ℕ) × RoleSession)))
+    (coded× configuration_code (coded× (coded_option (coded_list coded_ℕ)) (coded× (coded_option (coded_list coded_ℕ)) session.the_row.coded)))
+    (λ s. (s.configuration, (s.region, (s.session_name, s.session))))
+    (λ p. record { configuration = p.0; region = p.1.0; session_name = p.1.1.0; session = p.1.1.1 }) (λ _. refl)
+
+-- a session of the role with this ARN, and nothing more asked of it
+abbrev pub role_alone : List ℕ → RoleSession
+role_alone arn = record { role_arn = arn; external_id = None; policy = None; policy_arns = None; duration_seconds = None; tags = None }
+
+-- a builder that was set to a role alone
+abbrev pub for_role : List ℕ → RoleSetup
+for_role arn = record { configuration = nothing_configured true; region = None; session_name = None; session = role_alone arn }
+
+-- the region of the builder, or else the configuration's
+abbrev pub region_of : RoleSetup → Option (List ℕ)
+region_of s = option_or s.region s.configuration.region
+
+-- whether there is one
+abbrev pub is_region_set : RoleSetup → Bool
+is_region_set s = is_some (region_of s)
+
+-- what the provider is configured by
+abbrev pub configured : RoleSetup → Configuration
+configured s = record s.configuration { region = region_of s }
+
+-- what the provider sends, for a session of this name
+abbrev pub call_of : RoleSetup → List ℕ → RoleCall
+call_of s name = record { config = configured s; session_name = name; session = s.session }
+
+-- a pair of strings as a tag
+abbrev pub tag_of : {Y Z : Type 0} → String Y × String Z → Tag
+tag_of pair = record { key = characters (string_bytes pair.0); value = characters (string_bytes pair.1) }
+
+-- what names of sessions begin with that were not given
+abbrev pub provider_session : List ℕ
+provider_session = codes "assume-role-provider"
+
+-- the name that was given, and else one made from a reading of the clock
+abbrev pub naming : RoleSetup → Inquiry (List ℕ)
+naming s = session_name provider_session s.session_name
+
+-- The journal grew by a reading of the clock exactly where no name was given, and this is what is sent.
+pub record Builds {D : Type 0} (d : Ghosts D) (s : RoleSetup) (before later : Held D) (call : RoleCall) : Type 0 where
+  pub part : List Pair
+  pub grows : Grows d part before later
+  pub name : List ℕ
+  pub reads : Reads (naming s) part name
+  pub is_call : call ≡ call_of s name
+
+-- Memory ran out: it grew by the beginning of such a part.
+pub record BuildStops {D : Type 0} (d : Ghosts D) (s : RoleSetup) (before later : Held D) : Type 0 where
+  pub part : List Pair
+  pub stays : Stays d part before later
+  pub begun : Begun (naming s) part

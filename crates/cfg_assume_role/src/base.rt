@@ -1,0 +1,75 @@
+//! Where the credentials come from that sign a role's exchange.
+ghost use Rattle.std.specs.Prelude.{◌≡◌};
+ghost use Rattle.cfg_providers.specs.Provides.{is_memory as is_memory_of};
+ghost use Rattle.cfg_chain.specs.Sources.{named_sources};
+ghost use Rattle.cfg_assume_role.specs.Bases.{base_of, FollowsBase};
+
+use cfg_chain::DefaultCredentialsChain;
+use cfg_keeping::Keeper;
+use cfg_providers::{CustomSource, EnvironmentVariableCredentialsProvider};
+use cfg_types::{Credentials, CredentialsError, TryCopy};
+use cfg_world::{Asking, Stop};
+use std::alloc::Global;
+
+/// A base of a role's provider.
+pub enum RoleBase {
+    /// A default chain.
+    Default(DefaultCredentialsChain),
+    /// The environment's variables.
+    Environment(EnvironmentVariableCredentialsProvider),
+    /// These credentials.
+    Fixed(Credentials),
+    /// A source of the caller's own. Its name plays no part.
+    Custom(CustomSource),
+}
+
+impl Drop for RoleBase {
+    fn drop(self) {
+        match self {
+            RoleBase::Default(_) => {}
+            RoleBase::Environment(_) => {}
+            RoleBase::Fixed(_) => {}
+            RoleBase::Custom(_) => {}
+        }
+    }
+}
+
+impl RoleBase {
+    /// What the base answers, over anything that can be asked.
+    #[tactic(auto, using(cfg_keeping::proofs::HoldingSteps::holding_steps))]
+    pub fn follow<P: Keeper, A: Asking>(
+        &self,
+        alloc: Global,
+        sources: &[CustomSource],
+        keeper: &mut P,
+        asking: &mut A,
+    ) -> Result<Result<Credentials, CredentialsError>, Stop>
+        ensures follows { FollowsBase ⟦<A as Asking>⟧ (base_of value self.now) (named_sources value sources.now) asking.old (P.holdings keeper.old) asking.new (P.holdings keeper.new) result }
+        ensures key { P.key_held keeper.new ≡ P.key_held keeper.old }
+    {
+        match self {
+            RoleBase::Default(chain) => chain.follow(sources, keeper, asking),
+            RoleBase::Environment(provider) => {
+                let outcome = provider.follow(asking)?;
+                Ok(outcome)
+            }
+            RoleBase::Fixed(credentials) => {
+                let credentials = credentials.copy(alloc)?;
+                Ok(Ok(credentials))
+            }
+            RoleBase::Custom(source) => {
+                let answer = source.provide_credentials();
+                if is_memory(&answer) {
+                    return Err(Stop::OutOfMemory);
+                }
+                Ok(answer)
+            }
+        }
+    }
+}
+
+fn is_memory(answer: &Result<Credentials, CredentialsError>) -> bool
+    ensures { result ≡ is_memory_of answer.now }
+{
+    matches!(answer, Err(CredentialsError::OutOfMemory))
+}

@@ -1,0 +1,280 @@
+//! Sets up a provider of a role's credentials.
+ghost use Rattle.std.specs.Option.{option_or};
+ghost use Rattle.std.specs.Prelude.{◌≡◌, IfOk, Some, false, true, is_ok, map, string_bytes};
+ghost use Rattle.cfg_values.specs.Text.{characters};
+ghost use Rattle.cfg_world.specs.Follows.{Follows};
+ghost use Rattle.cfg_providers.specs.SessionNames.{session_name as session_name_of};
+ghost use Rattle.cfg_assume_role.specs.Bases.{base_of, ByDefault};
+ghost use Rattle.cfg_assume_role.specs.Setups.{for_role, is_region_set, configured, provider_session, tag_of, Builds, BuildStops};
+
+use crate::base::RoleBase;
+use crate::call::{RoleCall, RoleSession};
+use crate::provider::AssumeRoleProvider;
+use cfg_chain::DefaultCredentialsChain;
+use cfg_profile::ProviderConfig;
+use cfg_providers::default_session_name;
+use cfg_types::{OutOfMemory, Region, Seq, Tag, Text, TryCopy, copy_option};
+use cfg_world::{Asking, Devices, Stop, World, read_clock};
+use std::alloc::Global;
+use std::marker::Model;
+
+/// Sets up a provider of a role's credentials. Contracts see its configuration, its region, the name of
+/// its sessions and what is asked for them. A setter changes its field alone.
+pub struct AssumeRoleProviderBuilder {
+    alloc: Global,
+    config: ProviderConfig,
+    region: Option<Region>,
+    session_name: Option<Text>,
+    session: RoleSession,
+}
+
+impl Drop for AssumeRoleProviderBuilder {
+    fn drop(self) {
+        let AssumeRoleProviderBuilder {
+            alloc: _,
+            config: _,
+            region: _,
+            session_name: _,
+            session: _,
+        } = self;
+    }
+}
+
+impl Model for AssumeRoleProviderBuilder {
+    ghost use Rattle.cfg_assume_role.specs.Setups.{RoleSetup, role_setup_code};
+
+    ghost Value = { RoleSetup };
+
+    ghost coded = { role_setup_code };
+
+    ghost view = { λ b. record { configuration = b.config; region = b.region; session_name = b.session_name; session = b.session } };
+}
+
+impl AssumeRoleProviderBuilder {
+    /// A builder for the role with this ARN, such as `arn:aws:iam::123456789012:role/example`, with no
+    /// variables and no region.
+    pub fn new(alloc: Global, role: &str) -> Result<AssumeRoleProviderBuilder, OutOfMemory>
+        ensures { IfOk result (λ b. b ≡ for_role (characters role.now)) }
+    {
+        let config = ProviderConfig::without_region(alloc)?;
+        let role_arn = Text::of(alloc, role)?;
+        Ok(AssumeRoleProviderBuilder {
+            alloc,
+            config,
+            region: None,
+            session_name: None,
+            session: RoleSession {
+                role_arn,
+                external_id: None,
+                policy: None,
+                policy_arns: None,
+                duration_seconds: None,
+                tags: None,
+            },
+        })
+    }
+
+    /// With this external id, which another account's role may ask for.
+    pub fn external_id(mut self, id: &str) -> Result<AssumeRoleProviderBuilder, OutOfMemory>
+        ensures { IfOk result (λ b. b ≡ record self { session = record self.session { external_id = Some (characters id.now) } }) }
+    {
+        self.session.external_id = Some(Text::of(self.alloc, id)?);
+        Ok(self)
+    }
+
+    /// With this name for its sessions, in place of one made from a reading of the clock.
+    pub fn session_name(mut self, name: &str) -> Result<AssumeRoleProviderBuilder, OutOfMemory>
+        ensures { IfOk result (λ b. b ≡ record self { session_name = Some (characters name.now) }) }
+    {
+        self.session_name = Some(Text::of(self.alloc, name)?);
+        Ok(self)
+    }
+
+    /// With this policy, a text in JSON, for its sessions. It is not read here.
+    pub fn policy(mut self, policy: &str) -> Result<AssumeRoleProviderBuilder, OutOfMemory>
+        ensures { IfOk result (λ b. b ≡ record self { session = record self.session { policy = Some (characters policy.now) } }) }
+    {
+        self.session.policy = Some(Text::of(self.alloc, policy)?);
+        Ok(self)
+    }
+
+    /// With the managed policies of these ARNs for its sessions, in place of those that it had. They
+    /// are sent in this order.
+    pub fn policy_arns(
+        mut self,
+        policy_arns: Vec<String>,
+    ) -> Result<AssumeRoleProviderBuilder, OutOfMemory>
+        ensures { IfOk result (λ b. b ≡ record self { session = record self.session { policy_arns = Some (map (λ arn. characters (string_bytes arn)) policy_arns.items) } }) }
+    {
+        self.session.policy_arns = Some(texts(self.alloc, policy_arns)?);
+        Ok(self)
+    }
+
+    /// With sessions of so many seconds. The number is sent as it is: AWS STS says which are allowed, and
+    /// takes 3600 where none is sent.
+    pub fn session_length(mut self, seconds: i32) -> AssumeRoleProviderBuilder
+        ensures { result ≡ record self { session = record self.session { duration_seconds = Some seconds } } }
+    {
+        self.session.duration_seconds = Some(seconds);
+        self
+    }
+
+    /// With this region in place of the configuration's.
+    pub fn region(mut self, region: Region) -> AssumeRoleProviderBuilder
+        ensures { result ≡ record self { region = Some region } }
+    {
+        self.region = Some(region);
+        self
+    }
+
+    /// With these tags, each a key and a value, for its sessions, in place of those that it had. They
+    /// are sent in this order.
+    pub fn tags(
+        mut self,
+        tags: Vec<(String, String)>,
+    ) -> Result<AssumeRoleProviderBuilder, OutOfMemory>
+        ensures { IfOk result (λ b. b ≡ record self { session = record self.session { tags = Some (map tag_of tags.items) } }) }
+    {
+        self.session.tags = Some(tags_of(self.alloc, tags)?);
+        Ok(self)
+    }
+
+    /// With this configuration, in place of the one that it had.
+    pub fn configure(mut self, config: ProviderConfig) -> AssumeRoleProviderBuilder
+        ensures { result ≡ record self { configuration = config } }
+    {
+        self.config = config;
+        self
+    }
+
+    /// Whether a region is set here or in the configuration, as the builds need it.
+    pub fn has_region(&self) -> bool
+        ensures { result ≡ is_region_set self.now }
+    {
+        self.region.is_some() || self.config.region().is_some()
+    }
+
+    /// The provider over this base. The clock is read, for the name of the sessions, exactly where none
+    /// was set: `assume-role-provider-` and the milliseconds.
+    ///
+    /// # Errors
+    ///
+    /// `OutOfMemory` where memory runs out. The clock may then have been read.
+    pub fn build_from_provider<D: Devices>(
+        self,
+        base: RoleBase,
+        world: &mut World<D>,
+    ) -> Result<AssumeRoleProvider, OutOfMemory>
+        requires region { is_region_set self ≡ true }
+        ensures built { IfOk result (λ p. Builds ⟦<D as Devices>⟧ self world.old world.new p.call) }
+        ensures base { IfOk result (λ p. base_of value p.base ≡ base_of value base) }
+        ensures stops { is_ok result ≡ false → BuildStops ⟦<D as Devices>⟧ self world.old world.new }
+    {
+        let AssumeRoleProviderBuilder {
+            alloc,
+            config,
+            region,
+            session_name,
+            session,
+        } = self;
+        match name_of(alloc, &session_name, world) {
+            Ok(name) => {
+                let call = RoleCall {
+                    config: with_override(config, region),
+                    session_name: name,
+                    session,
+                };
+                Ok(AssumeRoleProvider { alloc, base, call })
+            }
+            Err(_) => Err(OutOfMemory),
+        }
+    }
+
+    /// The provider over the default chain, which is configured as the provider is. The clock is read as
+    /// in [`Self::build_from_provider`].
+    ///
+    /// # Errors
+    ///
+    /// `OutOfMemory` where memory runs out. The clock may then have been read.
+    pub fn build<D: Devices>(self, world: &mut World<D>) -> Result<AssumeRoleProvider, OutOfMemory>
+        requires region { is_region_set self ≡ true }
+        ensures built { IfOk result (λ p. Builds ⟦<D as Devices>⟧ self world.old world.new p.call) }
+        ensures base { IfOk result (λ p. base_of value p.base ≡ ByDefault (configured self)) }
+        ensures stops { is_ok result ≡ false → BuildStops ⟦<D as Devices>⟧ self world.old world.new }
+    {
+        match self.chain(world) {
+            Ok(chain) => self.build_from_provider(RoleBase::Default(chain), world),
+            Err(_) => Err(OutOfMemory),
+        }
+    }
+
+    // The default chain, configured as the provider is.
+    fn chain<D: Devices>(
+        &self,
+        world: &mut World<D>,
+    ) -> Result<DefaultCredentialsChain, OutOfMemory>
+        ensures chain { IfOk result (λ chain. chain ≡ configured self.now) }
+        ensures world { world.new ≡ world.old }
+    {
+        let config = self.config.copy(self.alloc)?;
+        let region = copy_option(self.alloc, &self.region)?;
+        let config = with_override(config, region);
+        DefaultCredentialsChain::builder(self.alloc)?
+            .configure(config)
+            .build(world)
+    }
+}
+
+// With this region in place of the configuration's, where there is one.
+fn with_override(config: ProviderConfig, region: Option<Region>) -> ProviderConfig
+    ensures { result ≡ record config { region = option_or region config.region } }
+{
+    match region {
+        None => config,
+        Some(region) => config.with_region(Some(region)),
+    }
+}
+
+// The name of a session that was given, or one made from a reading of the clock.
+#[tactic(auto, using(cfg_world::proofs::Inquiries::asking_steps), unfolding(cfg_providers::specs::SessionNames::session_name))]
+fn name_of<A: Asking>(alloc: Global, given: &Option<Text>, asking: &mut A) -> Result<Text, Stop>
+    ensures { Follows ⟦<A as Asking>⟧ (session_name_of provider_session given.now) asking.old asking.new result }
+{
+    match given {
+        Some(name) => {
+            let name = name.copy(alloc)?;
+            Ok(name)
+        }
+        None => {
+            let now = read_clock(asking)?;
+            let name = default_session_name(alloc, "assume-role-provider", now)?;
+            Ok(name)
+        }
+    }
+}
+
+// The strings as texts, in order. No string is copied.
+fn texts(alloc: Global, strings: Vec<String>) -> Result<Seq<Text>, OutOfMemory>
+    ensures { IfOk result (λ texts. texts ≡ map (λ s. characters (string_bytes s)) strings.items) }
+{
+    let mut texts = Vec::with_capacity(alloc, strings.len())?;
+    for string in strings {
+        texts.push(Text::from_string(string))?;
+    }
+    Ok(Seq::of(texts))
+}
+
+// The pairs as tags, in order. No string is copied.
+fn tags_of(alloc: Global, pairs: Vec<(String, String)>) -> Result<Seq<Tag>, OutOfMemory>
+    ensures { IfOk result (λ tags. tags ≡ map tag_of pairs.items) }
+{
+    let mut tags = Vec::with_capacity(alloc, pairs.len())?;
+    for pair in pairs {
+        let (key, value) = pair;
+        tags.push(Tag {
+            key: Text::from_string(key),
+            value: Text::from_string(value),
+        })?;
+    }
+    Ok(Seq::of(tags))
+}

@@ -1,0 +1,104 @@
+//! The provider of a role's credentials.
+ghost use Rattle.std.specs.Prelude.{◌≡◌, IfOk, None, true, false};
+ghost use Rattle.cfg_values.specs.Text.{characters};
+ghost use Rattle.cfg_keeping.specs.KeptStates.{kept_holdings, kept_key, states_of};
+ghost use Rattle.cfg_providers.specs.Provides.{is_memory};
+ghost use Rattle.cfg_chain.specs.Sources.{named_sources};
+ghost use Rattle.cfg_assume_role.specs.Bases.{base_of, FollowsRole};
+ghost use Rattle.cfg_assume_role.specs.Provides.{Provides, Interrupted};
+ghost use Rattle.cfg_assume_role.specs.Setups.{for_role};
+
+use crate::base::RoleBase;
+use crate::builder::AssumeRoleProviderBuilder;
+use crate::call::RoleCall;
+use crate::exchange::behind_base;
+use cfg_keeping::{Keeper, Kept};
+use cfg_providers::CustomSource;
+use cfg_types::{Credentials, CredentialsError, OutOfMemory};
+use cfg_world::{Asking, Devices, Stop, World};
+use std::alloc::Global;
+
+/// Credentials for a role, which those of a base sign for.
+pub struct AssumeRoleProvider {
+    pub(crate) alloc: Global,
+    pub(crate) base: RoleBase,
+    pub(crate) call: RoleCall,
+}
+
+impl Drop for AssumeRoleProvider {
+    fn drop(self) {
+        let AssumeRoleProvider {
+            alloc: _,
+            base: _,
+            call: _,
+        } = self;
+    }
+}
+
+impl AssumeRoleProvider {
+    /// A builder for the role with this ARN, with no variables and no region.
+    pub fn builder(alloc: Global, role: &str) -> Result<AssumeRoleProviderBuilder, OutOfMemory>
+        ensures { IfOk result (λ b. b ≡ for_role (characters role.now)) }
+    {
+        AssumeRoleProviderBuilder::new(alloc, role)
+    }
+
+    /// What the provider keeps between calls, with nothing kept.
+    pub fn new_kept(&self) -> Kept
+        ensures nothing { states_of result ≡ record { sso = record { token = None; last = None } } }
+        ensures key { kept_key result ≡ None }
+    {
+        Kept::new(self.alloc, None)
+    }
+
+    /// The body of [`Self::provide_credentials`], over anything that can be asked. Where a question is
+    /// left open it stops there, and taken up again with one answer more it comes to the next.
+    pub fn follow<P: Keeper, A: Asking>(
+        &self,
+        sources: &[CustomSource],
+        keeper: &mut P,
+        asking: &mut A,
+    ) -> Result<Result<Credentials, CredentialsError>, Stop>
+        ensures follows { FollowsRole ⟦<A as Asking>⟧ self.now.call (base_of value self.now.base) (named_sources value sources.now) asking.old (P.holdings keeper.old) asking.new (P.holdings keeper.new) result }
+        ensures key { P.key_held keeper.new ≡ P.key_held keeper.old }
+    {
+        match self.base.follow(self.alloc, sources, keeper, asking) {
+            Ok(given) => behind_base(self.alloc, &self.call, given, asking),
+            Err(stop) => Err(stop),
+        }
+    }
+
+    /// Asks the base, and then AWS STS for the role, by one `AssumeRole` that the base's credentials
+    /// sign. The sources are the caller's own, for a base that is a default chain.
+    ///
+    /// The world's journal gains the base's part and the exchange, and nothing else. The list of the
+    /// values that were found is that of this call alone.
+    ///
+    /// # Errors
+    ///
+    /// - `ProviderError(Base)` around the base's error, where it gives no credentials. Nothing is sent
+    ///   then.
+    /// - `InvalidConfiguration(AssumeRole)` where AWS STS refused since it is disabled in the region, or
+    ///   the policy is malformed.
+    /// - `ProviderError(Refused)` where it refused for another reason, and `ProviderError(Sent)` where
+    ///   the request failed.
+    /// - `Unhandled(StsNoCredentials)`, `Unhandled(StsArn)` where its reply gives no credentials.
+    /// - `OutOfMemory` where memory runs out. The journal then has gained the beginning of such a part,
+    ///   and each kept value is as the last finished holding left it.
+    pub fn provide_credentials<D: Devices>(
+        &self,
+        sources: &[CustomSource],
+        kept: &mut Kept,
+        world: &mut World<D>,
+    ) -> Result<Credentials, CredentialsError>
+        ensures provides { is_memory result ≡ false → Provides ⟦<D as Devices>⟧ self.now.call (base_of value self.now.base) (named_sources value sources.now) (states_of kept.old) (states_of kept.new) (kept_holdings kept.new).found world.old world.new result }
+        ensures stays { is_memory result ≡ true → Interrupted ⟦<D as Devices>⟧ self.now.call (base_of value self.now.base) (named_sources value sources.now) (states_of kept.old) (states_of kept.new) (kept_holdings kept.new).found world.old world.new }
+        ensures key { kept_key kept.new ≡ kept_key kept.old }
+    {
+        kept.clear_found();
+        match self.follow(sources, kept, world) {
+            Ok(outcome) => outcome,
+            Err(_) => Err(CredentialsError::OutOfMemory),
+        }
+    }
+}

@@ -1,0 +1,11 @@
+pub mod Hosting
+pub mod Steps
+pub mod Utf8Bytes
+pub mod Pathing
+pub mod Shapes
+pub mod WhyNot
+pub mod OneEndpoint
+pub mod Quiet
+pub mod Over
+pub mod LeftKept
+pub mod Located

@@ -1,0 +1,24 @@
+-- A configuration has one endpoint.
+use Rattle.std.proofs.Common.{◌≡◌, ℕ, List, Option, sym, ap, ◌∙◌}
+use Rattle.std.specs.Prelude.{Result, Ok, Err}
+use Rattle.cfg_types.specs.declared.errors.imds.EndpointMode.{EndpointMode}
+use Rattle.cfg_profile.specs.Configuration.{Configuration}
+use Rattle.cfg_imds.specs.declared.endpoint.Endpoint.{Endpoint}
+use Rattle.cfg_imds.specs.declared.endpoint.Endpoint.TheVariants.{At, NoUri, NoMode}
+use Rattle.cfg_imds.specs.Endpoints.{endpoint_text, IsEndpointAt, IsEndpointBy, IsEndpoint}
+
+one_at : (text : List ℕ) (a b : Endpoint) → IsEndpointAt text a → IsEndpointAt text b → a ≡ b
+one_at text (At x) (At y) h g = ap At (h.0 ∙ sym g.0)
+one_at text (At x) (NoUri y) h g = absurd (g.1 h.1)
+one_at text (At x) (NoMode y) h g = absurd g
+one_at text (NoUri x) (At y) h g = absurd (h.1 g.1)
+one_at text (NoUri x) (NoUri y) h g = ap NoUri (h.0 ∙ sym g.0)
+one_at text (NoUri x) (NoMode y) h g = absurd g
+one_at text (NoMode x) b h g = absurd h
+
+one_by : (said : Result (List ℕ) (List ℕ)) (a b : Endpoint) → IsEndpointBy said a → IsEndpointBy said b → a ≡ b
+one_by (Ok text) a b h g = one_at text a b h g
+one_by (Err text) a b h g = h ∙ sym g
+
+pub one_endpoint : (conf : Configuration) (given : Option (List ℕ)) (mode : Option EndpointMode) (a b : Endpoint) → IsEndpoint conf given mode a → IsEndpoint conf given mode b → a ≡ b
+one_endpoint conf given mode a b h g = one_by (endpoint_text conf given mode) a b h g

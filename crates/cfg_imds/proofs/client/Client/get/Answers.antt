@@ -1,0 +1,25 @@
+-- The world's journal gained the part of a get.
+use Rattle.cfg_exchange.proofs.Checks.{no_question}
+use Rattle.cfg_imds.proofs.Over.{kept_ends, kept_breaks}
+use Rattle.cfg_imds.proofs.WhyNot.{get_fault}
+use Rattle.cfg_imds.proofs.client.Client.get.Goals as goal
+
+pub returns-clause-gets : goal.returns-clause-gets
+returns-clause-gets g c =
+    rw (← c.state.view_is, c.or_memory.ensures) (λ other.
+    let e = kept_ends _ _ c.follow_get-outcome.result c.follow_get-outcome.ensures.follows other in
+    record {
+      part = e.part;
+      grows = record { journal = e.grows; fits = e.fits; same = e.same; counted = e.counted; stands = e.stands };
+      reads = e.reads;
+      cause = get_fault _ _ _ e.part _ e.reads;
+    })
+
+pub returns-clause-memory : goal.returns-clause-memory
+returns-clause-memory g c = rw (← c.state.view_is) (λ no_memory.
+    let e = kept_breaks _ _ c.follow_get-outcome.result c.follow_get-outcome.ensures.follows no_question in
+    record {
+      part = e.part;
+      stays = record { journal = e.grows; fits = e.fits; same = e.same; counted = e.counted };
+      begun = e.begun;
+    })

@@ -1,0 +1,307 @@
+//! The client of the instance metadata service.
+ghost use Rattle.std.specs.Prelude.{◌≡◌, IfOk, OnErr, option_map, true, false, None as none};
+ghost use Rattle.std.specs.Result.{result_err};
+ghost use Rattle.cfg_types.specs.declared.errors.imds.ImdsError.TheVariants as imds;
+ghost use Rattle.cfg_world.specs.Follows.{Follows};
+ghost use Rattle.cfg_imds.specs.Calls.{or_memory as or_memory_of};
+ghost use Rattle.cfg_imds.specs.Clients.{place_of, endpoint_fault as endpoint_fault_of, path_fault as path_fault_of, why_unusable};
+
+use crate::builder::Builder;
+use crate::classifier::Classifier;
+use crate::endpoint::Endpoint;
+use crate::fetch::{entry_text, fetch_at};
+use crate::path::is_path;
+use crate::requests::ImdsSettings;
+use crate::settle::settle_at;
+use crate::state::ImdsTokenState;
+use crate::token::MetadataToken;
+use cfg_exchange::ClassifyRetry;
+use cfg_types::imds::{BuildError, ImdsError, InvalidEndpointMode, UnexpectedCause};
+use cfg_types::{Bytes, OutOfMemory, SensitiveString, Text, TryCopy};
+use cfg_world::{Asking, Devices, Receipt, Stop, World};
+use std::alloc::Global;
+
+/// A client of the instance metadata service. It is lent to each call, and keeps nothing between them:
+/// the session token is kept by the caller.
+#[derive(Drop)]
+pub struct Client {
+    alloc: Global,
+    endpoint: Endpoint,
+    settings: ImdsSettings,
+    classifier: Classifier,
+}
+
+// The text of an endpoint, whatever it is.
+fn place(endpoint: &Endpoint) -> &Text
+    ensures { result.now ≡ place_of endpoint.now }
+{
+    match endpoint {
+        Endpoint::At(text) => text,
+        Endpoint::NoUri(text) => text,
+        Endpoint::NoMode(text) => text,
+    }
+}
+
+fn endpoint_fault(
+    alloc: Global,
+    endpoint: &Endpoint,
+) -> Result<Option<UnexpectedCause>, OutOfMemory>
+    ensures { IfOk result (λ fault. fault ≡ endpoint_fault_of endpoint.now) }
+{
+    let error = match endpoint {
+        Endpoint::At(_) => return Ok(None),
+        Endpoint::NoUri(text) => BuildError::InvalidEndpointUri(text.copy(alloc)?),
+        Endpoint::NoMode(text) => {
+            let mode = InvalidEndpointMode::Mode(text.copy(alloc)?);
+            BuildError::InvalidEndpointMode(mode)
+        }
+    };
+    Ok(Some(UnexpectedCause::Endpoint(error)))
+}
+
+fn path_fault(alloc: Global, path: &str) -> Result<Option<UnexpectedCause>, OutOfMemory>
+    ensures { IfOk result (λ fault. fault ≡ path_fault_of path.now) }
+{
+    if is_path(alloc, path)? {
+        return Ok(None);
+    }
+    let path = Text::of(alloc, path)?;
+    Ok(Some(UnexpectedCause::Path(path)))
+}
+
+// Why a path is not asked for at this endpoint.
+#[tactic(auto, unfolding(crate::specs::Clients::why_unusable))]
+fn fault(
+    alloc: Global,
+    endpoint: &Endpoint,
+    path: &str,
+) -> Result<Option<UnexpectedCause>, OutOfMemory>
+    ensures { IfOk result (λ fault. fault ≡ why_unusable endpoint.now path.now) }
+{
+    match path_fault(alloc, path)? {
+        Some(cause) => Ok(Some(cause)),
+        None => endpoint_fault(alloc, endpoint),
+    }
+}
+
+// The outcome of a call, or that memory ran out.
+fn or_memory<T>(outcome: Result<Result<T, ImdsError>, Stop>) -> Result<T, ImdsError>
+    ensures { result ≡ or_memory_of outcome }
+{
+    match outcome {
+        Ok(answer) => answer,
+        Err(_) => Err(ImdsError::OutOfMemory),
+    }
+}
+
+impl Client {
+    ghost use Rattle.cfg_imds.specs.Calls.{is_memory, CallEnds, CallBreaks};
+    ghost use Rattle.cfg_imds.specs.Left.{LeftBy};
+    ghost use Rattle.cfg_imds.specs.Causes.{why_asked, last_fault, why_no_text, settled_error};
+    ghost use Rattle.cfg_imds.specs.Fetches.{entry_fault};
+    ghost use Rattle.cfg_imds.specs.Clients.{rules_of, settle, fetch, fetch_text as fetch_text_of, get};
+    ghost use Rattle.cfg_imds.specs.Classifiers.{repeated_by};
+    ghost use Rattle.cfg_imds.specs.Requests.{service};
+    ghost use Rattle.cfg_imds.specs.Setups.{setup_of, default_setup};
+    ghost use Rattle.cfg_imds.specs.Settles.{with_kept};
+    ghost use Rattle.cfg_imds.specs.Tokens.{bare_token};
+
+    pub(crate) fn of(
+        alloc: Global,
+        endpoint: Endpoint,
+        settings: ImdsSettings,
+        classifier: Classifier,
+    ) -> Client
+        ensures { rules_of repeated result ≡ record { endpoint = endpoint; service = service settings (repeated_by repeated classifier) } }
+    {
+        Client {
+            alloc,
+            endpoint,
+            settings,
+            classifier,
+        }
+    }
+
+    /// A builder of a client.
+    pub fn builder(alloc: Global) -> Result<Builder, OutOfMemory>
+        ensures { IfOk result (λ b. setup_of repeated b ≡ default_setup) }
+    {
+        Builder::new(alloc)
+    }
+
+    /// The body of [`Self::settle`], over anything that can be asked. After a stop what is kept is as
+    /// it was.
+    pub fn follow_settle<A: Asking>(
+        &self,
+        kept: &mut Option<MetadataToken>,
+        asking: &mut A,
+    ) -> Result<Result<Bytes, ImdsError>, Stop>
+        ensures follows { Follows ⟦<A as Asking>⟧ (settle (rules_of repeated self.now) (option_map bare_token kept.old)) asking.old asking.new (with_kept (option_map bare_token kept.new) result) }
+        ensures stays { OnErr result (kept.new ≡ kept.old) }
+    {
+        settle_at(
+            self.alloc,
+            &self.settings,
+            &self.classifier,
+            place(&self.endpoint),
+            kept,
+            asking,
+        )
+    }
+
+    /// The body of [`Self::fetch`], over anything that can be asked.
+    pub fn follow_fetch<A: Asking>(
+        &self,
+        path: &str,
+        token: &Bytes,
+        asking: &mut A,
+    ) -> Result<Result<Receipt, ImdsError>, Stop>
+        ensures follows { Follows ⟦<A as Asking>⟧ (fetch (rules_of repeated self.now) path.now token.now) asking.old asking.new result }
+        ensures fine { IfOk result (λ r. IfOk r (λ e. entry_fault e ≡ none)) }
+    {
+        fetch_at(
+            self.alloc,
+            &self.settings,
+            &self.classifier,
+            place(&self.endpoint),
+            path,
+            token,
+            asking,
+        )
+    }
+
+    // The text that stands at a path.
+    #[tactic(auto, using(crate::proofs::Steps::said_steps), unfolding(crate::specs::Clients::fetch_text))]
+    fn fetch_text<A: Asking>(
+        &self,
+        path: &str,
+        token: &Bytes,
+        asking: &mut A,
+    ) -> Result<Result<SensitiveString, ImdsError>, Stop>
+        ensures { Follows ⟦<A as Asking>⟧ (fetch_text_of (rules_of repeated self.now) path.now token.now) asking.old asking.new result }
+    {
+        match self.follow_fetch(path, token, asking)? {
+            Ok(receipt) => {
+                let text = entry_text(self.alloc, &receipt)?;
+                Ok(Ok(SensitiveString::from_text(text)))
+            }
+            Err(error) => Ok(Err(error)),
+        }
+    }
+
+    /// The body of [`Self::get`], over anything that can be asked. After a stop what is kept is as it
+    /// was, or as the settle left it, where that had come to its end.
+    #[tactic(auto, using(crate::proofs::Steps::said_steps, crate::proofs::LeftKept::left_steps), unfolding(crate::specs::Clients::get))]
+    pub fn follow_get<A: Asking>(
+        &self,
+        kept: &mut Option<MetadataToken>,
+        path: &str,
+        asking: &mut A,
+    ) -> Result<Result<SensitiveString, ImdsError>, Stop>
+        ensures follows { Follows ⟦<A as Asking>⟧ (get (rules_of repeated self.now) (option_map bare_token kept.old) path.now) asking.old asking.new (with_kept (option_map bare_token kept.new) result) }
+        ensures left { OnErr result (LeftBy ⟦<A as Asking>⟧ (rules_of repeated self.now) asking.old kept.old kept.new) }
+    {
+        if let Some(cause) = fault(self.alloc, &self.endpoint, path)? {
+            return Ok(Err(ImdsError::Unexpected(cause)));
+        }
+        let token = match self.follow_settle(kept, asking)? {
+            Ok(token) => token,
+            Err(error) => return Ok(Err(error)),
+        };
+        let outcome = self.fetch_text(path, &token, asking)?;
+        Ok(outcome)
+    }
+
+    /// Whether a path may be asked for: it begins with `/`, `http_uri` reads it, and the client's
+    /// endpoint is a URI with a scheme and an authority. Nothing is asked.
+    ///
+    /// # Errors
+    ///
+    /// - `Unexpected(Path)`: the path is none. It has the path.
+    /// - `Unexpected(Endpoint)`: the path is fine, and the endpoint is no URI with a scheme and an
+    ///   authority, or the text that was to name its mode names none. It has that text.
+    /// - `OutOfMemory` where memory runs out.
+    #[tactic(auto, using(crate::proofs::LeftKept::usable_endpoint))]
+    pub fn usable(&self, path: &str) -> Result<(), ImdsError>
+        ensures usable { is_memory result ≡ false → result_err result ≡ option_map imds.Unexpected (why_unusable (rules_of repeated self.now).endpoint path.now) }
+        ensures path { IfOk result (λ _. why_unusable (rules_of repeated self.now).endpoint path.now ≡ none) }
+        ensures endpoint { IfOk result (λ _. endpoint_fault_of (rules_of repeated self.now).endpoint ≡ none) }
+    {
+        match fault(self.alloc, &self.endpoint, path) {
+            Ok(None) => Ok(()),
+            Ok(Some(cause)) => Err(ImdsError::Unexpected(cause)),
+            Err(_) => Err(ImdsError::OutOfMemory),
+        }
+    }
+
+    /// A session token: the kept one while more than 120 seconds of it are left, else a new one, which
+    /// is kept in its place. The clock is read first, and once more after the reply to the token
+    /// request. Where that gives no token none is kept.
+    ///
+    /// # Errors
+    ///
+    /// - `FailedToLoadToken`: the last reply gives no token, as [`MetadataToken::read`] says.
+    /// - `OutOfMemory` where memory runs out. The journal then has gained the beginning of such a part,
+    ///   and what is kept is as it was.
+    pub fn settle<D: Devices>(
+        &self,
+        state: &mut ImdsTokenState,
+        world: &mut World<D>,
+    ) -> Result<Bytes, ImdsError>
+        requires { endpoint_fault_of (rules_of repeated self.now).endpoint ≡ none }
+        ensures settles { is_memory result ≡ false → CallEnds ⟦<D as Devices>⟧ (settle (rules_of repeated self.now) (option_map bare_token state.old)) settled_error why_asked world.old world.new (result, option_map bare_token state.new) }
+        ensures memory { is_memory result ≡ true → CallBreaks ⟦<D as Devices>⟧ (settle (rules_of repeated self.now) (option_map bare_token state.old)) world.old world.new }
+        ensures stays { is_memory result ≡ true → state.new ≡ state.old }
+    {
+        let outcome = self.follow_settle(&mut state.kept, world);
+        or_memory(outcome)
+    }
+
+    /// The receipt of what stands at a path, with this session token: a success whose body is UTF-8.
+    /// It is asked for in attempts, and the last answer decides.
+    ///
+    /// # Errors
+    ///
+    /// - `ErrorResponse`: the reply has no status of success. It has the reply.
+    /// - `Unexpected(NotUtf8)`: its body is not UTF-8.
+    /// - `Unexpected(Dispatch)`: the request could not be sent.
+    /// - `IoError`: it was not answered in time, or the answer broke off.
+    /// - `OutOfMemory` where memory runs out. The journal then has gained the beginning of such a part.
+    pub fn fetch<D: Devices>(
+        &self,
+        token: &Bytes,
+        world: &mut World<D>,
+        path: &str,
+    ) -> Result<Receipt, ImdsError>
+        requires { why_unusable (rules_of repeated self.now).endpoint path.now ≡ none }
+        ensures fetches { is_memory result ≡ false → CallEnds ⟦<D as Devices>⟧ (fetch (rules_of repeated self.now) path.now token.now) (λ r. result_err r) last_fault world.old world.new result }
+        ensures memory { is_memory result ≡ true → CallBreaks ⟦<D as Devices>⟧ (fetch (rules_of repeated self.now) path.now token.now) world.old world.new }
+        ensures fine { IfOk result (λ e. entry_fault e ≡ none) }
+    {
+        let outcome = self.follow_fetch(path, token, world);
+        or_memory(outcome)
+    }
+
+    /// The text that stands at a path. Nothing is asked where [`Self::usable`] refuses the path. Else a
+    /// session token is settled, as [`Self::settle`] says, and then the path is asked for with it.
+    ///
+    /// # Errors
+    ///
+    /// - `Unexpected(Path)`, `Unexpected(Endpoint)`: as [`Self::usable`] says.
+    /// - `FailedToLoadToken`: there is no session token, as [`Self::settle`] says.
+    /// - `ErrorResponse`, `Unexpected(NotUtf8)`, `Unexpected(Dispatch)`, `IoError`: as [`Self::fetch`]
+    ///   says.
+    /// - `OutOfMemory` where memory runs out. The journal then has gained the beginning of such a part.
+    pub fn get<D: Devices>(
+        &self,
+        state: &mut ImdsTokenState,
+        world: &mut World<D>,
+        path: &str,
+    ) -> Result<SensitiveString, ImdsError>
+        ensures gets { is_memory result ≡ false → CallEnds ⟦<D as Devices>⟧ (get (rules_of repeated self.now) (option_map bare_token state.old) path.now) settled_error (why_no_text (rules_of repeated self.now) path.now) world.old world.new (result, option_map bare_token state.new) }
+        ensures memory { is_memory result ≡ true → CallBreaks ⟦<D as Devices>⟧ (get (rules_of repeated self.now) (option_map bare_token state.old) path.now) world.old world.new }
+    {
+        let outcome = self.follow_get(&mut state.kept, path, world);
+        or_memory(outcome)
+    }
+}

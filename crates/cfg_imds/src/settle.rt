@@ -1,0 +1,130 @@
+//! How a session token is had: a kept one, or a new one.
+ghost use Rattle.std.specs.Prelude.{◌≡◌, IfOk, OnErr, option_map};
+ghost use Rattle.cfg_values.specs.Instant.{number as number_of_moment, nanos_in};
+ghost use Rattle.cfg_world.specs.Follows.{Follows};
+ghost use Rattle.cfg_exchange.specs.Attempts.{asked};
+ghost use Rattle.cfg_world.specs.declared.ask.Question.TheVariants.{Now};
+ghost use Rattle.cfg_imds.specs.Requests.{service};
+ghost use Rattle.cfg_imds.specs.Tokens.{bare_token};
+ghost use Rattle.cfg_imds.specs.Settles.{is_later_by as is_later_by_of, is_good as is_good_of, kept_value as kept_value_of, renewal, renew as renew_of, settle_at as settle_at_of, with_kept};
+
+use crate::requests::{ImdsSettings, ask_token};
+use crate::token::MetadataToken;
+use cfg_exchange::ClassifyRetry;
+use cfg_types::imds::ImdsError;
+use cfg_types::{Bytes, Instant, OutOfMemory, Text, TryCopy};
+use cfg_world::{Asking, Question, Receipt, Stop, read_clock};
+use std::alloc::Global;
+
+// No sum of seconds passes the end of 128 bits.
+fn number_of(moment: Instant) -> i128
+    ensures { result ≡ number_of_moment moment }
+{
+    i128::from(moment.seconds()) * 1_000_000_000 + i128::from(moment.nanos())
+}
+
+fn nanos_of(seconds: u64) -> i128
+    ensures { result ≡ nanos_in seconds }
+{
+    i128::from(seconds) * 1_000_000_000
+}
+
+// Whether a moment is more than so many seconds after another.
+fn is_later_by(seconds: u64, moment: Instant, now: Instant) -> bool
+    ensures { result ≡ is_later_by_of seconds moment now }
+{
+    number_of(now) + nanos_of(seconds) < number_of(moment)
+}
+
+// Whether more than 120 seconds of a kept token are left.
+fn is_good(kept: &Option<MetadataToken>, now: Instant) -> bool
+    ensures { result ≡ is_good_of (option_map bare_token kept.now) now }
+{
+    match kept {
+        None => false,
+        Some(token) => is_later_by(120, token.expiry(), now),
+    }
+}
+
+fn kept_value(alloc: Global, kept: &Option<MetadataToken>) -> Result<Bytes, OutOfMemory>
+    ensures { IfOk result (λ value. value ≡ kept_value_of (option_map bare_token kept.now)) }
+{
+    match kept {
+        None => Bytes::of(alloc, b""),
+        Some(token) => token.value().copy(alloc),
+    }
+}
+
+// Keeps the token that these receipts give, and answers its value. After a refusal none is kept.
+#[tactic(auto, unfolding(crate::specs::Settles::renewal))]
+fn keep_read(
+    alloc: Global,
+    kept: &mut Option<MetadataToken>,
+    reply: Receipt,
+    reading: Receipt,
+) -> Result<Result<Bytes, ImdsError>, OutOfMemory>
+    requires { reading.0 ≡ Now }
+    ensures kept { IfOk result (λ r. renewal reply reading ≡ (r, option_map bare_token kept.new)) }
+    ensures stays { OnErr result (kept.new ≡ kept.old) }
+{
+    match MetadataToken::read(alloc, reply, reading)? {
+        Ok(token) => {
+            let value = token.value().copy(alloc)?;
+            *kept = Some(token);
+            Ok(Ok(value))
+        }
+        Err(error) => {
+            *kept = None;
+            Ok(Err(ImdsError::FailedToLoadToken(error)))
+        }
+    }
+}
+
+// A reading of the clock, with its receipt.
+#[tactic(auto, unfolding(cfg_exchange::specs::Attempts::asked))]
+fn read_again<A: Asking>(asking: &mut A) -> Result<Receipt, Stop>
+    ensures follows { Follows ⟦<A as Asking>⟧ (asked Now) asking.old asking.new result }
+    ensures asks { IfOk result (λ e. e.0 ≡ Now) }
+{
+    asking.put(Question::Now)
+}
+
+// A token request, and a reading of the clock after it.
+#[tactic(auto, using(crate::proofs::Steps::said_steps), unfolding(crate::specs::Settles::renew))]
+fn renew<A: Asking, C: ClassifyRetry>(
+    alloc: Global,
+    settings: &ImdsSettings,
+    classifier: &C,
+    endpoint: &Text,
+    kept: &mut Option<MetadataToken>,
+    asking: &mut A,
+) -> Result<Result<Bytes, ImdsError>, Stop>
+    ensures follows { Follows ⟦<A as Asking>⟧ (renew_of (service settings.now (C.repeated classifier.now)) endpoint.now) asking.old asking.new (with_kept (option_map bare_token kept.new) result) }
+    ensures stays { OnErr result (kept.new ≡ kept.old) }
+{
+    let reply = ask_token(alloc, settings, classifier, endpoint, asking)?;
+    let reading = read_again(asking)?;
+    let outcome = keep_read(alloc, kept, reply, reading)?;
+    Ok(outcome)
+}
+
+// A session token of the service at this endpoint.
+#[tactic(auto, using(cfg_world::proofs::Inquiries::asking_steps), unfolding(crate::specs::Settles::settle_at))]
+pub fn settle_at<A: Asking, C: ClassifyRetry>(
+    alloc: Global,
+    settings: &ImdsSettings,
+    classifier: &C,
+    endpoint: &Text,
+    kept: &mut Option<MetadataToken>,
+    asking: &mut A,
+) -> Result<Result<Bytes, ImdsError>, Stop>
+    ensures follows { Follows ⟦<A as Asking>⟧ (settle_at_of (service settings.now (C.repeated classifier.now)) endpoint.now (option_map bare_token kept.old)) asking.old asking.new (with_kept (option_map bare_token kept.new) result) }
+    ensures stays { OnErr result (kept.new ≡ kept.old) }
+{
+    let now = read_clock(asking)?;
+    if is_good(kept, now) {
+        let value = kept_value(alloc, kept)?;
+        return Ok(Ok(value));
+    }
+    renew(alloc, settings, classifier, endpoint, kept, asking)
+}
