@@ -1,10 +1,15 @@
 -- Attempts of one question: as a tree, and as a finished piece.
-use Rattle.std.specs.Prelude.{◌≡◌, ℕ, zero, suc, ◌+◌, ◌<◌, Bool, true, false, List, [], ◌∷◌, ◌++◌, length, ◌⊎◌, if◌then◌else◌}
+use Rattle.std.specs.Prelude.{◌≡◌, ℕ, zero, suc, ◌+◌, ◌<◌, Bool, true, false, List, [], ◌∷◌, ◌++◌, length, ◌⊎◌, Result, Ok, Err, if◌then◌else◌}
 use Rattle.std.specs.List.{AllByRecursion}
 use Rattle.cfg_world.specs.declared.ask.Question.{Question}
 use Rattle.cfg_world.specs.declared.ask.Answer.{Answer}
 use Rattle.cfg_world.specs.Fits.{Pair}
 use Rattle.cfg_world.specs.Inquiry.{Inquiry, Done, Ask, after}
+
+-- the outcome alone, without what a call gives beside it
+abbrev pub outcome_of : {A B E : Type 0} → Result (A × B) E → Result A E
+outcome_of (Ok x) = Ok x.0
+outcome_of (Err e) = Err e
 
 -- one question, whose entry is the outcome
 unfoldable pub asked : Question → Inquiry Pair

@@ -1,8 +1,11 @@
 -- How a reply reads, and which readings are repeated.
-use Rattle.std.specs.Prelude.{ℕ, Bool, ◌||◌, ◌&&◌, nat_le, nat_eq, is_some, Result, Ok, Err, if◌then◌else◌}
+use Rattle.std.specs.Prelude.{◌≡◌, ℕ, Bool, ◌||◌, ◌&&◌, nat_le, nat_eq, is_some, Option, IfSome, Result, Ok, Err, if◌then◌else◌}
 use Rattle.std.specs.Str.{is_utf8}
 use Rattle.cfg_types.specs.declared.errors.UnhandledCause.{UnhandledCause}
+use Rattle.cfg_types.specs.declared.reply.FailKind.{FailKind}
 use Rattle.cfg_types.specs.declared.reply.http.HttpReply.{HttpReply}
+use Rattle.cfg_world.specs.declared.ask.Answer.{Answer}
+use Rattle.cfg_world.specs.Leaves.{http_of}
 use Rattle.cfg_json.specs.declared.credentials.JsonCredentials.{JsonCredentials}
 use Rattle.cfg_json.specs.declared.credentials.JsonCredentials.TheVariants as says
 use Rattle.cfg_exchange.specs.declared.reading.Reading.{Reading}
@@ -25,6 +28,15 @@ said_reading (Err cause) = Unreadable
 
 abbrev pub fine_if : Bool → Reading
 fine_if b = if b then Fine else Unreadable
+
+-- what a reply says that is read as a document
+abbrev pub IsSentDocument : Result HttpReply FailKind → Result JsonCredentials UnhandledCause → Type 0
+IsSentDocument (Ok reply) said = said ≡ body_document reply.body
+IsSentDocument (Err kind) said = ⊥
+
+-- what an answer's reply says, where it was read as a document
+abbrev pub IsReadOf : Answer → Option (Result JsonCredentials UnhandledCause) → Type 0
+IsReadOf answer said = IfSome said (IsSentDocument (http_of answer))
 
 -- a reply that is to hold a document of credentials
 unfoldable pub document_reading : HttpReply → Reading

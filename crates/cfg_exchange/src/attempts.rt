@@ -1,10 +1,13 @@
 //! One request, sent again while its answer is repeated.
-ghost use Rattle.std.specs.Prelude.{◌≡◌, ◌-◌, IfOk, Some};
+ghost use Rattle.std.specs.Prelude.{◌≡◌, ◌-◌, IfOk, IfSome, Some};
 ghost use Rattle.cfg_world.specs.Follows.{Follows};
 ghost use Rattle.cfg_exchange.specs.Classifiers.{is_repeated as is_repeated_by, repeats_reply as repeats_reply_of};
-ghost use Rattle.cfg_exchange.specs.Attempts.{asked, attempts};
+ghost use Rattle.cfg_exchange.specs.Attempts.{asked, attempts, outcome_of};
+ghost use Rattle.cfg_exchange.specs.Documents.{body_document};
+ghost use Rattle.cfg_exchange.specs.Readings.{IsReadOf};
 
 use crate::classify::ClassifyRetry;
+use crate::documents::Said;
 use crate::reading::{Reading, ReplyKind};
 use cfg_types::{HttpReply, OutOfMemory, TryCopy};
 use cfg_world::{Answer, Asking, Question, Receipt, Reply, Request, Stop};
@@ -13,7 +16,7 @@ use std::alloc::Global;
 /// Sends the request until its answer is not repeated, `limit` times at most, and once where that is
 /// 0. An answer is repeated where it does not read as fine and the classifier says so. The receipt is
 /// that of the last attempt.
-#[tactic(auto, using(crate::proofs::Repeats::attempts_steps))]
+#[tactic(auto, using(cfg_world::proofs::Inquiries::asking_steps))]
 pub fn exchange<A: Asking, C: ClassifyRetry>(
     alloc: Global,
     request: &Request,
@@ -24,14 +27,33 @@ pub fn exchange<A: Asking, C: ClassifyRetry>(
 ) -> Result<Receipt, Stop>
     ensures { Follows ⟦<A as Asking>⟧ (attempts (limit - 1) (Question.Send request.now) (is_repeated_by kind (C.repeated classifier.now))) asking.old asking.new result }
 {
+    let (receipt, _) = exchange_and_read(alloc, request, limit, kind, classifier, asking)?;
+    Ok(receipt)
+}
+
+// The same, with what the last reply's document says, where it was read to see whether the attempt is
+// repeated: so no document is read twice.
+#[tactic(auto, using(crate::proofs::Repeats::attempts_steps))]
+pub(crate) fn exchange_and_read<A: Asking, C: ClassifyRetry>(
+    alloc: Global,
+    request: &Request,
+    limit: u32,
+    kind: ReplyKind,
+    classifier: &C,
+    asking: &mut A,
+) -> Result<(Receipt, Option<Said>), Stop>
+    ensures follows { Follows ⟦<A as Asking>⟧ (attempts (limit - 1) (Question.Send request.now) (is_repeated_by kind (C.repeated classifier.now))) asking.old asking.new (outcome_of result) }
+    ensures said { IfOk result (λ x. IsReadOf x.0.1 x.1) }
+{
     let mut more = limit.saturating_sub(1);
     loop {
         let receipt = attempt(alloc, request, asking)?;
         if more == 0 {
-            return Ok(receipt);
+            return Ok((receipt, None));
         }
-        if !is_repeated(alloc, receipt.entry().answer(), kind, classifier)? {
-            return Ok(receipt);
+        let (repeated, said) = is_repeated(alloc, receipt.entry().answer(), kind, classifier)?;
+        if !repeated {
+            return Ok((receipt, said));
         }
         more -= 1;
     }
@@ -46,19 +68,20 @@ fn attempt<A: Asking>(alloc: Global, request: &Request, asking: &mut A) -> Resul
     asking.put(Question::Send(request))
 }
 
-// Whether an attempt with this answer is repeated.
+// Whether an attempt with this answer is repeated, and what its document says, where that was read.
 fn is_repeated<C: ClassifyRetry>(
     alloc: Global,
     answer: &Answer,
     kind: ReplyKind,
     classifier: &C,
-) -> Result<bool, OutOfMemory>
-    ensures { IfOk result (λ b. b ≡ is_repeated_by kind (C.repeated classifier.now) answer.now) }
+) -> Result<(bool, Option<Said>), OutOfMemory>
+    ensures repeated { IfOk result (λ x. x.0 ≡ is_repeated_by kind (C.repeated classifier.now) answer.now) }
+    ensures said { IfOk result (λ x. IsReadOf answer.now x.1) }
 {
     match answer {
         Answer::Replied(Reply::Http(reply)) => repeats_reply(alloc, reply, kind, classifier),
-        Answer::Failed(_) => Ok(classifier.repeats(None, Reading::Unreadable)),
-        _ => Ok(false),
+        Answer::Failed(_) => Ok((classifier.repeats(None, Reading::Unreadable), None)),
+        _ => Ok((false, None)),
     }
 }
 
@@ -67,12 +90,13 @@ fn repeats_reply<C: ClassifyRetry>(
     reply: &HttpReply,
     kind: ReplyKind,
     classifier: &C,
-) -> Result<bool, OutOfMemory>
-    ensures { IfOk result (λ b. b ≡ repeats_reply_of kind (C.repeated classifier.now) (Some reply.now)) }
+) -> Result<(bool, Option<Said>), OutOfMemory>
+    ensures repeated { IfOk result (λ x. x.0 ≡ repeats_reply_of kind (C.repeated classifier.now) (Some reply.now)) }
+    ensures said { IfOk result (λ x. IfSome x.1 (λ said. said ≡ body_document reply.now.body)) }
 {
-    let reading = kind.reading(alloc, reply)?;
+    let (reading, said) = kind.read(alloc, reply)?;
     if matches!(reading, Reading::Fine) {
-        return Ok(false);
+        return Ok((false, said));
     }
-    Ok(classifier.repeats(Some(reply), reading))
+    Ok((classifier.repeats(Some(reply), reading), said))
 }

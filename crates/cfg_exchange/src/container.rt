@@ -1,15 +1,18 @@
 //! Credentials of a container, as the agents of Amazon ECS and EKS give them.
-ghost use Rattle.std.specs.Prelude.{◌≡◌, IfOk, option_map};
+ghost use Rattle.std.specs.Prelude.{◌≡◌, IfOk, IfSome, option_map};
 ghost use Rattle.std.specs.Str.{encode_utf8_all};
 ghost use Rattle.cfg_values.specs.Text.{characters};
 ghost use Rattle.cfg_world.specs.Follows.{Follows};
 ghost use Rattle.cfg_exchange.specs.declared.container.ContainerUri.TheVariants as uri_of;
+ghost use Rattle.cfg_exchange.specs.Attempts.{outcome_of};
+ghost use Rattle.cfg_exchange.specs.Documents.{body_document as body_document_of};
+ghost use Rattle.cfg_exchange.specs.Readings.{IsReadOf};
 ghost use Rattle.cfg_exchange.specs.FullUris.{IsRelativeUri, IsFullUri};
 ghost use Rattle.cfg_exchange.specs.Containers.{readable as readable_of, checked_token as checked_token_of, token_of_file as token_of_file_of, token_of_bytes as token_of_bytes_of, auth_token as auth_token_of, relative_uri as relative_uri_of, IsContainerUri, or_full_uri as or_full_uri_of, container_target, said_keys as said_keys_of, reply_keys as reply_keys_of, answer_keys as answer_keys_of, credentials_request, credentials_attempts, attempt_limit as attempt_limit_of, fetched_keys, container as container_of, FollowsContainer};
 
-use crate::attempts::exchange;
+use crate::attempts::exchange_and_read;
 use crate::classify::HttpCredentialRetryClassifier;
-use crate::documents::body_document;
+use crate::documents::{Said, body_document};
 use crate::full_uri::{FullUri, read_full_uri};
 use crate::header_value::is_header_value;
 use crate::reading::{ReplyKind, is_success};
@@ -245,7 +248,7 @@ fn account_of(alloc: Global, account: &Option<Text>) -> Result<Option<AccountId>
 // Credentials of a document, or why it gives none.
 fn said_keys(
     alloc: Global,
-    said: Result<JsonCredentials, UnhandledCause>,
+    said: Said,
 ) -> Result<Result<Credentials, CredentialsError>, OutOfMemory>
     ensures { IfOk result (λ keys. keys ≡ said_keys_of said) }
 {
@@ -279,19 +282,32 @@ fn said_keys(
     }
 }
 
+// What a reply's document says, which is read where it was not read before.
+fn or_read(alloc: Global, reply: &HttpReply, said: Option<Said>) -> Result<Said, OutOfMemory>
+    requires { IfSome said (λ said. said ≡ body_document_of reply.now.body) }
+    ensures { IfOk result (λ said. said ≡ body_document_of reply.now.body) }
+{
+    match said {
+        Some(said) => Ok(said),
+        None => body_document(alloc, reply.body.as_slice()),
+    }
+}
+
 // What a reply gives.
 #[tactic(auto, unfolding(crate::specs::Containers::reply_keys))]
 fn reply_keys(
     alloc: Global,
     reply: &HttpReply,
+    said: Option<Said>,
 ) -> Result<Result<Credentials, CredentialsError>, OutOfMemory>
+    requires { IfSome said (λ said. said ≡ body_document_of reply.now.body) }
     ensures { IfOk result (λ keys. keys ≡ reply_keys_of reply.now) }
 {
     if !is_success(reply.status) {
         let cause = ProviderCause::Status(reply.status);
         return Ok(Err(CredentialsError::ProviderError(cause)));
     }
-    let said = body_document(alloc, reply.body.as_slice())?;
+    let said = or_read(alloc, reply, said)?;
     said_keys(alloc, said)
 }
 
@@ -300,11 +316,13 @@ fn reply_keys(
 fn answer_keys(
     alloc: Global,
     answer: &Answer,
+    said: Option<Said>,
 ) -> Result<Result<Credentials, CredentialsError>, OutOfMemory>
+    requires { IsReadOf answer.now said }
     ensures { IfOk result (λ keys. keys ≡ answer_keys_of answer.now) }
 {
     let kind = match answer {
-        Answer::Replied(Reply::Http(reply)) => return reply_keys(alloc, reply),
+        Answer::Replied(Reply::Http(reply)) => return reply_keys(alloc, reply, said),
         Answer::Failed(kind) => *kind,
         _ => FailKind::Io,
     };
@@ -334,19 +352,20 @@ fn attempt_limit(sleep: bool) -> u32
     if sleep { 3 } else { 1 }
 }
 
-// The attempts of the request.
+// The attempts of the request, and what the last reply's document says, where they read it.
 fn attempt<A: Asking>(
     alloc: Global,
     settings: &ContainerSettings,
     call: Http,
     asking: &mut A,
-) -> Result<Receipt, Stop>
-    ensures { Follows ⟦<A as Asking>⟧ (credentials_attempts settings.now call) asking.old asking.new result }
+) -> Result<(Receipt, Option<Said>), Stop>
+    ensures follows { Follows ⟦<A as Asking>⟧ (credentials_attempts settings.now call) asking.old asking.new (outcome_of result) }
+    ensures said { IfOk result (λ x. IsReadOf x.0.1 x.1) }
 {
     let request = Request::Http(call);
     let limit = attempt_limit(settings.sleep);
     let classifier = HttpCredentialRetryClassifier;
-    exchange(
+    exchange_and_read(
         alloc,
         &request,
         limit,
@@ -368,8 +387,8 @@ fn fetch_keys<A: Asking>(
     ensures { Follows ⟦<A as Asking>⟧ (fetched_keys settings.now token target) asking.old asking.new result }
 {
     let call = request(settings, token, target);
-    let receipt = attempt(alloc, settings, call, asking)?;
-    let outcome = answer_keys(alloc, receipt.entry().answer())?;
+    let (receipt, said) = attempt(alloc, settings, call, asking)?;
+    let outcome = answer_keys(alloc, receipt.entry().answer(), said)?;
     Ok(outcome)
 }
 

@@ -6,6 +6,9 @@ use cfg_json::{InvalidJsonCredentials, JsonCredentials, parse_json_credentials};
 use cfg_types::{OutOfMemory, UnhandledCause};
 use std::alloc::Global;
 
+/// What a body says that is to hold a document of credentials, or why it holds none.
+pub type Said = Result<JsonCredentials, UnhandledCause>;
+
 pub fn is_utf8(bytes: &[u8]) -> bool
     ensures { result ≡ is_utf8_of bytes.now }
 {
@@ -40,10 +43,7 @@ fn document(
 
 // What a body says that is to hold such a document, or why it holds none.
 #[tactic(auto, unfolding(crate::specs::Documents::body_document))]
-pub fn body_document(
-    alloc: Global,
-    body: &[u8],
-) -> Result<Result<JsonCredentials, UnhandledCause>, OutOfMemory>
+pub fn body_document(alloc: Global, body: &[u8]) -> Result<Said, OutOfMemory>
     ensures { IfOk result (λ said. said ≡ body_document_of body.now) }
 {
     let Ok(text) = str::from_utf8(body) else {

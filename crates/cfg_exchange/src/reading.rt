@@ -1,12 +1,13 @@
 //! How a reply reads.
-ghost use Rattle.std.specs.Prelude.{◌≡◌, IfOk};
+ghost use Rattle.std.specs.Prelude.{◌≡◌, IfOk, IfSome};
+ghost use Rattle.cfg_exchange.specs.Documents.{body_document as body_document_of};
 ghost use Rattle.cfg_exchange.specs.Readings.{is_success as is_success_of, said_reading as said_reading_of, document_reading as document_reading_of, token_reading as token_reading_of, text_reading as text_reading_of, reading as reading_of};
 
-use crate::documents::{body_document, is_utf8};
+use crate::documents::{Said, body_document, is_utf8};
 use crate::header_value::is_header_value;
 use crate::lifetime::lifetime;
 use cfg_json::JsonCredentials;
-use cfg_types::{HttpReply, OutOfMemory, UnhandledCause};
+use cfg_types::{HttpReply, OutOfMemory};
 use std::alloc::Global;
 
 /// How a reply reads.
@@ -38,7 +39,7 @@ pub fn is_success(status: u16) -> bool
     status >= 200 && status <= 299
 }
 
-fn said_reading(said: &Result<JsonCredentials, UnhandledCause>) -> Reading
+fn said_reading(said: &Said) -> Reading
     ensures { result ≡ said_reading_of said.now }
 {
     match said {
@@ -61,15 +62,18 @@ fn said_reading(said: &Result<JsonCredentials, UnhandledCause>) -> Reading
     }
 }
 
+// How the reply reads, and what its document says where its status lets it be read.
 #[tactic(auto, unfolding(crate::specs::Readings::document_reading))]
-fn document_reading(alloc: Global, reply: &HttpReply) -> Result<Reading, OutOfMemory>
-    ensures { IfOk result (λ r. r ≡ document_reading_of reply.now) }
+fn read_document(alloc: Global, reply: &HttpReply) -> Result<(Reading, Option<Said>), OutOfMemory>
+    ensures reading { IfOk result (λ x. x.0 ≡ document_reading_of reply.now) }
+    ensures said { IfOk result (λ x. IfSome x.1 (λ said. said ≡ body_document_of reply.now.body)) }
 {
     if !is_success(reply.status) {
-        return Ok(Reading::Refused);
+        return Ok((Reading::Refused, None));
     }
     let said = body_document(alloc, reply.body.as_slice())?;
-    Ok(said_reading(&said))
+    let reading = said_reading(&said);
+    Ok((reading, Some(said)))
 }
 
 #[tactic(auto, unfolding(crate::specs::Readings::token_reading))]
@@ -114,10 +118,26 @@ impl ReplyKind {
     pub fn reading(&self, alloc: Global, reply: &HttpReply) -> Result<Reading, OutOfMemory>
         ensures { IfOk result (λ r. r ≡ reading_of self.now reply.now) }
     {
+        let (reading, _) = self.read(alloc, reply)?;
+        Ok(reading)
+    }
+
+    // How the reply reads, and what its document says, where it is read as one.
+    pub(crate) fn read(
+        &self,
+        alloc: Global,
+        reply: &HttpReply,
+    ) -> Result<(Reading, Option<Said>), OutOfMemory>
+        ensures reading { IfOk result (λ x. x.0 ≡ reading_of self.now reply.now) }
+        ensures said { IfOk result (λ x. IfSome x.1 (λ said. said ≡ body_document_of reply.now.body)) }
+    {
         match self {
-            ReplyKind::Document => document_reading(alloc, reply),
-            ReplyKind::MetadataToken => token_reading(alloc, reply),
-            ReplyKind::MetadataText => Ok(text_reading(reply)),
+            ReplyKind::Document => read_document(alloc, reply),
+            ReplyKind::MetadataToken => {
+                let reading = token_reading(alloc, reply)?;
+                Ok((reading, None))
+            }
+            ReplyKind::MetadataText => Ok((text_reading(reply), None)),
         }
     }
 }

@@ -8,6 +8,7 @@ pub mod WhiteSpaceLaws
 pub mod NumberLaws
 pub mod ContentLaws
 pub mod StringLaws
+pub mod PlainEnds
 pub mod LeafLaws
 pub mod ValuesAgain
 pub mod ValuesTake

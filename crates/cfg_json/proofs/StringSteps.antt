@@ -16,11 +16,11 @@ use Rattle.cfg_json.specs.Reading.{piece_at, content_of, end_of}
 abbrev pub from_place : ℕ → Option ℕ → Option ℕ
 from_place i found = option_map (λ n. i + n) found
 
-one_further : (i : ℕ) (found : Option ℕ) → from_place i (option_map (λ n. n + 1) found) ≡ from_place (i + 1) found
+pub one_further : (i : ℕ) (found : Option ℕ) → from_place i (option_map (λ n. n + 1) found) ≡ from_place (i + 1) found
 one_further i (Some n) = ap Some (omega arith)
 one_further i None = refl
 
-cut_at : (text : List ℕ) (i x : ℕ) → i < length text → x ≡ get_or text i 0 → drop i text ≡ x ∷ drop (i + 1) text
+pub cut_at : (text : List ℕ) (i x : ℕ) → i < length text → x ≡ get_or text i 0 → drop i text ≡ x ∷ drop (i + 1) text
 cut_at text i x lt is = let cut : drop i text ≡ get_or text i 0 ∷ drop (i + 1) text = rw add-one (drop-cons text i 0 lt) in cut ∙ ap (λ (y : ℕ). y ∷ drop (i + 1) text) (sym is)
 
 pub end_further : (text : List ℕ) (i x : ℕ) (e next : Bool) (total : Option ℕ) → i < length text → x ≡ get_or text i 0

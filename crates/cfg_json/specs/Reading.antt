@@ -2,7 +2,7 @@
 use Rattle.std.specs.Option.{option_or}
 use Rattle.std.specs.Prelude.{ℕ, zero, suc, ◌+◌, List, [], ◌∷◌, Bool, false, not, ◌&&◌, ◌||◌, ◌==◌, Option, Some, None, option_map, if◌then◌else◌, take, drop, length, codes, nat_eq}
 use Rattle.std.specs.Char.{is_ascii_digit}
-use Rattle.std.specs.List.{starts_with}
+use Rattle.std.specs.List.{starts_with, list_all}
 use Rattle.std.specs.Str.{is_utf8}
 use Rattle.cfg_values.specs.Text.{characters}
 use Rattle.cfg_json.specs.Ascii.{quotation_mark, plus_sign, hyphen_minus, full_stop, digit_zero, capital_e, backslash, small_e, small_u}
@@ -98,6 +98,10 @@ content_of zero (x ∷ t) = piece_at (x ∷ t) >>= λ p. content_of p.1 t >>= λ
 unfoldable pub end_of : Bool → List ℕ → Option ℕ
 end_of escaped [] = None
 end_of escaped (x ∷ t) = if not escaped && x == quotation_mark then Some 0 else option_map (λ n. n + 1) (end_of (not escaped && x == backslash) t)
+
+-- the same place in a string that stands for itself: all before it is plain
+unfoldable pub plain_end : List ℕ → Option ℕ
+plain_end t = end_of false t >>= λ n. if list_all is_plain (take n t) then Some n else None
 
 -- the bytes, if they are UTF-8
 unfoldable pub utf8_of : List ℕ → Option (List ℕ)

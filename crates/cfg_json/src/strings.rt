@@ -1,4 +1,4 @@
-ghost use Rattle.std.specs.Prelude.{◌≡◌, ◌<◌, ◌++◌, ◌==◌, ◌&&◌, not, length, IfSome, IfOk, OnOk, true, false, Some, None, option_map, string_bytes};
+ghost use Rattle.std.specs.Prelude.{◌≡◌, ◌<◌, ◌++◌, ◌==◌, ◌&&◌, not, length, take, IfSome, IfOk, OnOk, true, false, Some, None, option_map, string_bytes};
 ghost use Rattle.std.specs.List.{list_all};
 ghost use Rattle.std.specs.Char.{encode_utf8};
 ghost use lib.Utf8.{scalar};
@@ -6,7 +6,7 @@ ghost use Rattle.cfg_values.specs.Text.{characters};
 ghost use Rattle.cfg_json.specs.Ascii.{quotation_mark, backslash};
 ghost use Rattle.cfg_json.specs.Reads.{Reads};
 ghost use Rattle.cfg_json.specs.Characters.{is_plain as is_plain_character};
-ghost use Rattle.cfg_json.specs.Reading.{end_of, content_of, utf8_of, text_of, string_at};
+ghost use Rattle.cfg_json.specs.Reading.{end_of, plain_end as plain_end_of, content_of, utf8_of, text_of, string_at};
 
 use crate::escapes::piece;
 use cfg_types::{JsonError, OutOfMemory, Text};
@@ -45,10 +45,19 @@ fn is_plain(byte: u8) -> bool
     byte >= b' ' && byte != b'"' && byte != b'\\'
 }
 
-fn all_plain(text: &str) -> bool
-    ensures { result ≡ list_all is_plain_character text.now }
+/// The place of the quotation mark that ends the string, where no escape is before it.
+fn plain_end(text: &[u8]) -> Option<usize>
+    ensures value { result ≡ plain_end_of text.now }
+    ensures within { IfSome result (λ n. n < length text.now) }
+    ensures ends { IfSome result (λ n. Some n ≡ end_of false text.now) }
+    ensures plain { IfSome result (λ n. list_all is_plain_character (take n text.now) ≡ true) }
 {
-    text.as_bytes().iter().all(|byte| is_plain(*byte))
+    for (i, x) in text.iter().enumerate() {
+        if !is_plain(*x) {
+            return if *x == b'"' { Some(i) } else { None };
+        }
+    }
+    None
 }
 
 pub fn push_character(out: &mut String, c: char) -> Result<(), OutOfMemory>
@@ -83,9 +92,6 @@ pub fn characters_of(alloc: Global, text: &str) -> Result<Vec<char>, AllocError>
 fn content(alloc: Global, text: &str) -> Result<Text, JsonError>
     ensures { Reads (λ t. t) result (content_of 0 (characters text.now)) }
 {
-    if all_plain(text) {
-        return Ok(Text::of(alloc, text)?);
-    }
     let characters = characters_of(alloc, text)?;
     let unescaped = unescaped(alloc, characters.as_slice())?;
     Ok(Text::from_string(unescaped))
@@ -111,14 +117,36 @@ fn text_between(alloc: Global, bytes: &[u8]) -> Result<Text, JsonError>
     content(alloc, text)
 }
 
-/// The characters of the string whose first quotation mark was read, and what follows it.
+#[tactic(auto, unfolding(crate::specs::Reading::text_of))]
+fn plain_text(alloc: Global, bytes: &[u8]) -> Result<Text, JsonError>
+    requires { list_all is_plain_character bytes.now ≡ true }
+    ensures { Reads (λ t. t) result (text_of bytes.now) }
+{
+    let Some(text) = utf8_text(bytes) else {
+        return Err(JsonError::Syntax);
+    };
+    Ok(Text::of(alloc, text)?)
+}
+
 #[tactic(auto, unfolding(crate::specs::Reading::string_at))]
-pub fn read_string(alloc: Global, text: &[u8]) -> Result<(Text, &[u8]), JsonError>
+fn read_escaped(alloc: Global, text: &[u8]) -> Result<(Text, &[u8]), JsonError>
     ensures { Reads (λ x. (x.0, x.1.now)) result (string_at text.now) }
 {
     let Some(end) = string_end(text) else {
         return Err(JsonError::Syntax);
     };
     let text_before = text_between(alloc, text.split_at(end).0)?;
+    Ok((text_before, text.split_at(end + 1).1))
+}
+
+/// The characters of the string whose first quotation mark was read, and what follows it.
+#[tactic(auto, unfolding(crate::specs::Reading::string_at))]
+pub fn read_string(alloc: Global, text: &[u8]) -> Result<(Text, &[u8]), JsonError>
+    ensures { Reads (λ x. (x.0, x.1.now)) result (string_at text.now) }
+{
+    let Some(end) = plain_end(text) else {
+        return read_escaped(alloc, text);
+    };
+    let text_before = plain_text(alloc, text.split_at(end).0)?;
     Ok((text_before, text.split_at(end + 1).1))
 }

@@ -3,7 +3,7 @@ use Rattle.std.proofs.Common.{rules, ◌≡◌, true}
 use Rattle.cfg_world.specs.declared.ask.Question.TheVariants.{Send}
 use Rattle.cfg_exchange.specs.Classifiers.{is_repeated}
 use Rattle.cfg_exchange.proofs.Repeats.{attempts_go}
-use Rattle.cfg_exchange.proofs.attempts.exchange.Goals as goal
+use Rattle.cfg_exchange.proofs.attempts.exchange_and_read.Goals as goal
 
 pub loop-receipt-preserved : goal.loop-receipt-preserved
 loop-receipt-preserved g c =

@@ -4,7 +4,7 @@ use Rattle.cfg_world.specs.declared.ask.Question.TheVariants.{Send}
 use Rattle.cfg_world.proofs.Inquiries.{Leads}
 use Rattle.cfg_exchange.specs.Classifiers.{is_repeated}
 use Rattle.cfg_exchange.specs.Attempts.{attempts}
-use Rattle.cfg_exchange.proofs.attempts.exchange.Given as goal
+use Rattle.cfg_exchange.proofs.attempts.exchange_and_read.Given as goal
 
 abbrev pub invariant-loop-receipt : goal.invariant-loop-receipt
 invariant-loop-receipt g l =
