@@ -3,6 +3,10 @@ pub mod KeptInquiry
 pub mod Holds
 pub mod Beginnings
 pub mod SsoHoldings
+pub mod RoleDocuments
+pub mod Retrieved
+pub mod Clients
+pub mod MetadataHoldings
 pub mod FoundValues
 pub mod KeyedStates
 pub mod KeptStates

@@ -1,22 +1,33 @@
 //! Where kept values are held.
-ghost use Rattle.std.specs.Prelude.{◌≡◌, Option, IfSome, true, false, map};
+ghost use Rattle.std.specs.Prelude.{◌≡◌, Option, Some, None as none, IfSome, IfOk, OnErr, true, false, map, option_map};
 ghost use Rattle.std.specs.Option.{option_copied};
 ghost use Rattle.cfg_token.specs.declared.token_key.TokenKey.{TokenKey as KeyHeld};
 ghost use Rattle.cfg_token.specs.SsoTokens.{sso_rules};
 ghost use Rattle.cfg_token.specs.SectionCalls.{is_memory};
+ghost use Rattle.cfg_imds.specs.Calls.{is_memory as is_metadata_memory};
+ghost use Rattle.cfg_imds.specs.Clients.{endpoint_fault};
+ghost use Rattle.cfg_keeping.specs.Clients.{client_rules};
+ghost use Rattle.cfg_keeping.specs.Kinds.{RetrievedAt};
 ghost use Rattle.cfg_keeping.specs.FoundValues.{bare};
 ghost use Rattle.cfg_keeping.specs.KeyedStates.{is_sso_key};
-ghost use Rattle.cfg_keeping.specs.Holds.{Holdings, HoldsFollows, HoldsEnds, HoldsBreaks};
+ghost use Rattle.cfg_keeping.specs.Holds.{Holdings, HoldsFollows, HoldsEnds, HoldsBreaks, HoldsFound, leaves_in};
+ghost use Rattle.cfg_keeping.specs.MetadataHoldings.{token_holding};
+ghost use Rattle.cfg_keeping.specs.Retrieved.{keys_of_retrieved};
 ghost use Rattle.cfg_keeping.specs.SsoHoldings.{sso_holding};
 
 use crate::found::Found;
+use crate::place::Place;
+use crate::retrieved::Retrieved;
+use cfg_exchange::ClassifyRetry;
+use cfg_imds::Client;
 use cfg_token::{CachedSsoToken, TokenKey};
-use cfg_types::{CallSettings, Env, SsoTokenProviderError};
+use cfg_types::imds::ImdsError;
+use cfg_types::{Bytes, CallSettings, Env, OutOfMemory, SsoTokenProviderError};
 use cfg_world::{Asking, Devices, Stop, World};
 use std::alloc::Global;
 
-/// Holds kept values for the providers. Each call that takes `&mut self` is one holding of one value:
-/// it first adds a copy of the value that it found to the list.
+/// Holds kept values for the providers. Each call that takes `&mut self` is one holding of one value.
+/// Each of them but `set_retrieved` first adds a copy of the value that it found to the list.
 pub trait Keeper {
     /// The values that were found, and the kept states, where they are told.
     ghost holdings: { Self → Holdings };
@@ -35,6 +46,33 @@ pub trait Keeper {
     ) -> Result<Result<CachedSsoToken, SsoTokenProviderError>, Stop>
         requires { is_sso_key (key_held self.old) ≡ true }
         ensures follows { IfSome (key_held self.old) (λ key. HoldsFollows ⟦<A as Asking>⟧ (sso_holding key env.now settings.now) asking.old (holdings self.old) asking.new (holdings self.new) result) }
+        ensures key { key_held self.new ≡ key_held self.old };
+
+    /// A session token of a metadata client, on the one that is kept for the place: that one while it is
+    /// good, else a new one. A finished holding leaves the new token in its place, and none after a
+    /// refusal; one that was stopped leaves what was there.
+    fn imds_token<A: Asking>(
+        &mut self,
+        alloc: Global,
+        place: Place,
+        client: &Client,
+        asking: &mut A,
+    ) -> Result<Result<Bytes, ImdsError>, Stop>
+        requires { endpoint_fault (client_rules repeated client.now).endpoint ≡ none }
+        ensures follows { HoldsFollows ⟦<A as Asking>⟧ (token_holding (client_rules repeated client.now) place) asking.old (holdings self.old) asking.new (holdings self.new) result }
+        ensures key { key_held self.new ≡ key_held self.old };
+
+    /// The credentials that were retrieved for the place, if any were. Nothing is asked, and they stay
+    /// kept. Where memory runs out nothing was held.
+    fn retrieved(&mut self, alloc: Global, place: Place) -> Result<Option<Retrieved>, OutOfMemory>
+        ensures found { IfOk result (λ r. HoldsFound (holdings self.old) (holdings self.new) (RetrievedAt place (option_map keys_of_retrieved r))) }
+        ensures stays { OnErr result (holdings self.new ≡ holdings self.old) }
+        ensures key { key_held self.new ≡ key_held self.old };
+
+    /// Keeps credentials that were retrieved for the place, in place of those that it kept. Nothing is
+    /// added to the list, and no memory is taken.
+    fn set_retrieved(&mut self, place: Place, retrieved: Retrieved)
+        ensures left { holdings self.new ≡ leaves_in (holdings self.old) (RetrievedAt place (Some (keys_of_retrieved retrieved))) }
         ensures key { key_held self.new ≡ key_held self.old };
 
     /// Whose token is kept, if any is. No holding.
@@ -70,5 +108,32 @@ pub fn sso_section<P: Keeper, D: Devices>(
     match keeper.sso_section(alloc, env, settings, world) {
         Ok(outcome) => outcome,
         Err(_) => Err(SsoTokenProviderError::OutOfMemory),
+    }
+}
+
+/// Hands out the session token that is kept for a place while more than 120 seconds of it are left,
+/// else a new one, which is kept in its place. The value that was found is added to the keeper's list.
+///
+/// # Errors
+///
+/// - `FailedToLoadToken`: the last reply gives no token, as
+///   [`MetadataToken::read`](cfg_imds::MetadataToken::read) says. None is kept then.
+/// - `OutOfMemory` where memory runs out. What was found may then be in the list or not, and what is
+///   kept is as it was.
+pub fn imds_token<P: Keeper, D: Devices>(
+    keeper: &mut P,
+    alloc: Global,
+    place: Place,
+    client: &Client,
+    world: &mut World<D>,
+) -> Result<Bytes, ImdsError>
+    requires { endpoint_fault (client_rules repeated client.now).endpoint ≡ none }
+    ensures finished { is_metadata_memory result ≡ false → HoldsEnds ⟦<World<D> as Asking>⟧ (token_holding (client_rules repeated client.now) place) world.old (P.holdings keeper.old) world.new (P.holdings keeper.new) result }
+    ensures stopped { is_metadata_memory result ≡ true → HoldsBreaks ⟦<World<D> as Asking>⟧ (token_holding (client_rules repeated client.now) place) world.old (P.holdings keeper.old) world.new (P.holdings keeper.new) }
+    ensures key { P.key_held keeper.new ≡ P.key_held keeper.old }
+{
+    match keeper.imds_token(alloc, place, client, world) {
+        Ok(outcome) => outcome,
+        Err(_) => Err(ImdsError::OutOfMemory),
     }
 }

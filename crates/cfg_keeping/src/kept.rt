@@ -1,14 +1,21 @@
 //! What is kept from one call to the next, lent to one call at a time.
-ghost use Rattle.std.specs.Prelude.{◌≡◌, ◌↔◌, [], IsTrue, None, Option, is_some};
+ghost use Rattle.std.specs.Prelude.{◌≡◌, ◌↔◌, [], IsTrue, is_some};
 ghost use Rattle.std.specs.Option.{option_copied};
+ghost use Rattle.cfg_keeping.specs.Kinds.{no_states};
 ghost use Rattle.cfg_keeping.specs.KeyedStates.{is_sso_key};
 ghost use Rattle.cfg_keeping.specs.KeptStates.{states_of, kept_key};
 
 use crate::found::Found;
 use crate::keeper::Keeper;
 use crate::keyed::KeyedState;
+use crate::metadata::{PlaceState, find_retrieved, hold_token};
+use crate::place::Place;
+use crate::retrieved::Retrieved;
+use cfg_exchange::ClassifyRetry;
+use cfg_imds::Client;
 use cfg_token::{CachedSsoToken, TokenKey, TokenState};
-use cfg_types::{CallSettings, Env, SsoTokenProviderError};
+use cfg_types::imds::ImdsError;
+use cfg_types::{Bytes, CallSettings, Env, OutOfMemory, SsoTokenProviderError};
 use cfg_world::same::Same;
 use cfg_world::{Asking, Stop};
 use std::alloc::Global;
@@ -16,12 +23,19 @@ use std::alloc::Global;
 /// The kept states, and the values that were found in them.
 pub struct Kept {
     token: KeyedState,
+    chain: PlaceState,
+    named: PlaceState,
     found: Vec<Found>,
 }
 
 impl Drop for Kept {
     fn drop(self) {
-        let Kept { token: _, found: _ } = self;
+        let Kept {
+            token: _,
+            chain: _,
+            named: _,
+            found: _,
+        } = self;
     }
 }
 
@@ -29,11 +43,13 @@ impl Kept {
     /// Nothing is kept, and nothing was found. The key says whose token will be kept.
     pub fn new(alloc: Global, key: Option<TokenKey>) -> Kept
         ensures key { kept_key result ≡ key }
-        ensures nothing { states_of result ≡ record { sso = record { token = None; last = None } } }
+        ensures nothing { states_of result ≡ no_states }
         ensures found { result.found.items ≡ [] }
     {
         Kept {
             token: KeyedState::new(alloc, key),
+            chain: PlaceState::new(),
+            named: PlaceState::new(),
             found: Vec::new(alloc),
         }
     }
@@ -107,6 +123,35 @@ impl Keeper for Kept {
     ) -> Result<Result<CachedSsoToken, SsoTokenProviderError>, Stop> {
         self.token
             .hold_sso(alloc, &mut self.found, env, settings, asking)
+    }
+
+    fn imds_token<A: Asking>(
+        &mut self,
+        alloc: Global,
+        place: Place,
+        client: &Client,
+        asking: &mut A,
+    ) -> Result<Result<Bytes, ImdsError>, Stop> {
+        let found = &mut self.found;
+        match place {
+            Place::Chain => hold_token(alloc, found, place, &mut self.chain.token, client, asking),
+            Place::Named => hold_token(alloc, found, place, &mut self.named.token, client, asking),
+        }
+    }
+
+    fn retrieved(&mut self, alloc: Global, place: Place) -> Result<Option<Retrieved>, OutOfMemory> {
+        let found = &mut self.found;
+        match place {
+            Place::Chain => find_retrieved(alloc, found, place, &self.chain.retrieved),
+            Place::Named => find_retrieved(alloc, found, place, &self.named.retrieved),
+        }
+    }
+
+    fn set_retrieved(&mut self, place: Place, retrieved: Retrieved) {
+        match place {
+            Place::Chain => self.chain.retrieved = Some(retrieved),
+            Place::Named => self.named.retrieved = Some(retrieved),
+        }
     }
 
     fn key(&self) -> Option<&TokenKey> {

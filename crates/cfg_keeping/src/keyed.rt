@@ -8,7 +8,7 @@ ghost use Rattle.cfg_keeping.specs.KeyedStates.{key_of, is_sso_key, sso_kept};
 ghost use Rattle.cfg_keeping.specs.Holds.{HoldsOne};
 ghost use Rattle.cfg_keeping.specs.SsoHoldings.{kept_of, sso_at, sso_holding};
 
-use crate::found::Found;
+use crate::found::{Found, note};
 use cfg_token::history::Loads;
 use cfg_token::state::answer;
 use cfg_token::{CachedSsoToken, TokenKey, TokenState};
@@ -162,13 +162,4 @@ fn sso_value(loads: &Loads<CachedSsoToken>) -> Result<Found, OutOfMemory>
     let load = loads.load()?;
     let last = loads.last_attempt();
     Ok(Found::Sso { load, last })
-}
-
-// One value more that was found.
-fn note(found: &mut Vec<Found>, value: Found) -> Result<(), OutOfMemory>
-    ensures ok { OnOk result (map bare found.new.items ≡ map bare found.old.items ++ bare value ∷ []) }
-    ensures err { OnErr result (found.new.items ≡ found.old.items) }
-{
-    found.push(value)?;
-    Ok(())
 }

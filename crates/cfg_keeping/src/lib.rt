@@ -1,9 +1,11 @@
 //! Kept values: trees of questions that also find what is kept from earlier calls and leave other
-//! values in its place, the rules by which a call follows such a tree, and what keeps the values. It
-//! stands on cfg_world and cfg_token. The layers above may use that an inquiry is such a tree that
-//! finds and leaves nothing, that kept states which are told decide with the answers what is found,
-//! what is left and what comes out, and that after memory ran out each kept value is as the last
-//! finished holding left it.
+//! values in its place, the rules by which a call follows such a tree, and what keeps the values: the
+//! token of IAM Identity Center, and for each place of a metadata client its session token and the
+//! credentials that were retrieved there. It stands on cfg_world, cfg_token and cfg_imds. The layers
+//! above may use that an inquiry is such a tree that finds and leaves nothing, that kept states which
+//! are told decide with the answers what is found, what is left and what comes out, that after memory
+//! ran out each kept value is as the last finished holding left it, and that retrieved credentials are
+//! those that their receipts tell.
 #![tactic(auto)]
 
 pub mod found;
@@ -11,10 +13,18 @@ pub mod keeper;
 pub mod kept;
 pub mod keyed;
 pub mod laws;
+pub mod metadata;
+pub mod place;
+pub mod retrieved;
+pub mod role_document;
 
 pub use cfg_token::{
     CachedSsoToken, CachedSsoTokenError, Load, SsoTokenProviderError, TokenKey, TokenState,
 };
 pub use found::Found;
-pub use keeper::{Keeper, sso_section};
+pub use keeper::{Keeper, imds_token, sso_section};
 pub use kept::Kept;
+pub use metadata::PlaceState;
+pub use place::Place;
+pub use retrieved::Retrieved;
+pub use role_document::RoleDocument;

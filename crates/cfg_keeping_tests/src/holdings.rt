@@ -95,6 +95,7 @@ fn found_words(alloc: Global, found: &[Found]) -> Result<String, AllocError> {
                 let value = format!(in alloc; "({load}, {last})")?;
                 words.push_str(value.as_str())?;
             }
+            _ => words.push_str("(another)")?,
         }
     }
     Ok(words)

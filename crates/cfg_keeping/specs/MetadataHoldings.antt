@@ -1,0 +1,14 @@
+-- One holding of the session token of a metadata client.
+use Rattle.std.specs.Prelude.{ℕ, List, Option, Result}
+use Rattle.cfg_types.specs.declared.errors.imds.ImdsError.{ImdsError}
+use Rattle.cfg_imds.specs.Clients.{ClientRules, settle}
+use Rattle.cfg_imds.specs.Tokens.{Token}
+use Rattle.cfg_keeping.specs.declared.place.Place.{Place}
+use Rattle.cfg_keeping.specs.Kinds.{Value, MetadataTokenOf, MetadataTokenAt, token_in}
+use Rattle.cfg_keeping.specs.KeptInquiry.{KeptInquiry}
+use Rattle.cfg_keeping.specs.Holds.{holding}
+
+-- one holding: a session token is settled on the one that is kept for the place, and what it leaves is
+-- kept
+unfoldable pub token_holding : ClientRules → Place → KeptInquiry (Result (List ℕ) ImdsError)
+token_holding client place = holding (MetadataTokenOf place) (MetadataTokenAt place) (λ found. settle client (token_in found))

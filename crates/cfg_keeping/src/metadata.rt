@@ -1,0 +1,99 @@
+//! What is kept for one place of a metadata client, and the holdings of it.
+ghost use Rattle.std.specs.Prelude.{◌≡◌, ◌++◌, ◌∷◌, [], IfOk, OnOk, OnErr, map, option_map};
+ghost use Rattle.cfg_keeping.specs.Clients.{client_rules};
+ghost use Rattle.cfg_imds.specs.Tokens.{bare_token};
+ghost use Rattle.cfg_keeping.specs.FoundValues.{bare};
+ghost use Rattle.cfg_keeping.specs.Holds.{HoldsOne};
+ghost use Rattle.cfg_keeping.specs.Kinds.{MetadataTokenAt, RetrievedAt};
+ghost use Rattle.cfg_keeping.specs.MetadataHoldings.{token_holding};
+ghost use Rattle.cfg_keeping.specs.Retrieved.{keys_of_retrieved};
+
+use crate::found::{Found, note};
+use crate::place::Place;
+use crate::retrieved::Retrieved;
+use cfg_exchange::ClassifyRetry;
+use cfg_imds::{Client, MetadataToken};
+use cfg_types::imds::ImdsError;
+use cfg_types::{Bytes, OutOfMemory, copy_option};
+use cfg_world::{Asking, Stop};
+use std::alloc::Global;
+
+/// What is kept for one place: the session token, and the credentials that were retrieved.
+pub struct PlaceState {
+    pub(crate) token: Option<MetadataToken>,
+    pub(crate) retrieved: Option<Retrieved>,
+}
+
+impl Drop for PlaceState {
+    fn drop(self) {
+        let PlaceState {
+            token: _,
+            retrieved: _,
+        } = self;
+    }
+}
+
+impl PlaceState {
+    ghost use Rattle.cfg_keeping.specs.KeptStates.{bare_place};
+    ghost use Rattle.cfg_keeping.specs.Kinds.{no_place_states};
+
+    /// Nothing is kept.
+    pub fn new() -> PlaceState
+        ensures { bare_place result ≡ no_place_states }
+    {
+        PlaceState {
+            token: None,
+            retrieved: None,
+        }
+    }
+}
+
+/// One holding of the session token of a place, wherever it is kept. What was found is added to the
+/// list, before anything is asked. After a refusal no token is kept, and after a stop the token is as it
+/// was.
+pub fn hold_token<A: Asking>(
+    alloc: Global,
+    found: &mut Vec<Found>,
+    place: Place,
+    token: &mut Option<MetadataToken>,
+    client: &Client,
+    asking: &mut A,
+) -> Result<Result<Bytes, ImdsError>, Stop>
+    ensures { HoldsOne ⟦<A as Asking>⟧ (token_holding (client_rules repeated client.now) place) asking.old asking.new (map bare found.old.items) (map bare found.new.items) (MetadataTokenAt place (option_map bare_token token.old)) (MetadataTokenAt place (option_map bare_token token.new)) result }
+{
+    note_token(alloc, found, place, token)?;
+    let outcome = client.follow_settle(token, asking)?;
+    Ok(outcome)
+}
+
+// The token that is found, added to the list.
+fn note_token(
+    alloc: Global,
+    found: &mut Vec<Found>,
+    place: Place,
+    token: &Option<MetadataToken>,
+) -> Result<(), OutOfMemory>
+    ensures ok { OnOk result (map bare found.new.items ≡ map bare found.old.items ++ MetadataTokenAt place (option_map bare_token token.now) ∷ []) }
+    ensures err { OnErr result (found.new.items ≡ found.old.items) }
+{
+    let token = copy_option(alloc, token)?;
+    note(found, Found::ImdsToken { place, token })
+}
+
+/// The credentials that were retrieved for a place, wherever they are kept: a copy. What was found is
+/// added to the list. Where memory runs out the list stays as it was.
+pub fn find_retrieved(
+    alloc: Global,
+    found: &mut Vec<Found>,
+    place: Place,
+    retrieved: &Option<Retrieved>,
+) -> Result<Option<Retrieved>, OutOfMemory>
+    ensures is { IfOk result (λ r. r ≡ retrieved.now) }
+    ensures ok { OnOk result (map bare found.new.items ≡ map bare found.old.items ++ RetrievedAt place (option_map keys_of_retrieved retrieved.now) ∷ []) }
+    ensures err { OnErr result (found.new.items ≡ found.old.items) }
+{
+    let copy = copy_option(alloc, retrieved)?;
+    let retrieved = copy_option(alloc, retrieved)?;
+    note(found, Found::Retrieved { place, retrieved })?;
+    Ok(copy)
+}
