@@ -1,6 +1,7 @@
 //! The provider of a role's credentials.
 ghost use Rattle.std.specs.Prelude.{◌≡◌, IfOk, None, true, false};
 ghost use Rattle.cfg_values.specs.Text.{characters};
+ghost use Rattle.cfg_keeping.specs.Kinds.{no_states};
 ghost use Rattle.cfg_keeping.specs.KeptStates.{kept_holdings, kept_key, states_of};
 ghost use Rattle.cfg_providers.specs.Provides.{is_memory};
 ghost use Rattle.cfg_chain.specs.Sources.{named_sources};
@@ -45,7 +46,7 @@ impl AssumeRoleProvider {
 
     /// What the provider keeps between calls, with nothing kept.
     pub fn new_kept(&self) -> Kept
-        ensures nothing { states_of result ≡ record { sso = record { token = None; last = None } } }
+        ensures nothing { states_of result ≡ no_states }
         ensures key { kept_key result ≡ None }
     {
         Kept::new(self.alloc, None)

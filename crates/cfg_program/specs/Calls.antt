@@ -13,7 +13,7 @@ use Rattle.cfg_profile.specs.declared.sections.ProfileSource.TheVariants as sour
 use Rattle.cfg_profile.specs.SectionParts.{SectionParts}
 use Rattle.cfg_profile.specs.SectionSets.{sections_by_name}
 use Rattle.cfg_profile.specs.Configuration.{Configuration}
-use Rattle.cfg_keeping.specs.Kinds.{Value, States}
+use Rattle.cfg_keeping.specs.Kinds.{Value, States, no_states}
 use Rattle.cfg_providers.specs.CustomSources.{Answer, NamedAnswer}
 use Rattle.cfg_chain.specs.Provides.{IsCall}
 use Rattle.cfg_script.specs.Script.{Plain, PlainProfiles, Sections, RefusedSections, Section}
@@ -63,10 +63,6 @@ pub record IsFresh (w : Held devices.Script) : Type 0 where
   pub journal : w.journal ≡ []
   pub place : w.devices.place ≡ start
 
--- nothing is kept
-abbrev pub nothing_kept : States
-nothing_kept = record { sso = record { token = None; last = None } }
-
 -- There is a call of the default chain over this configuration and these sources of the caller's own,
 -- which finds nothing kept, and to which the answers are those that the lists give; it has this outcome
 -- and this line, in this form.
@@ -75,7 +71,7 @@ pub record AnswersOver (conf : Configuration) (sources : List NamedAnswer) (list
   pub found : List Value
   pub journal : List Pair
   pub out : Answer
-  pub call : IsCall conf sources nothing_kept kept found journal out
+  pub call : IsCall conf sources no_states kept found journal out
   pub agrees : Given lists start journal
   pub credentials : is_credentials ≡ is_ok out
   pub shows : line ≡ shown_as form out journal

@@ -1,5 +1,6 @@
 //! The default chain of credentials providers.
 ghost use Rattle.std.specs.Prelude.{◌≡◌, [], IfOk, Some, None, true, false};
+ghost use Rattle.cfg_keeping.specs.Kinds.{no_states};
 ghost use Rattle.cfg_keeping.specs.Holds.{HoldsFollows};
 ghost use Rattle.cfg_keeping.specs.KeptStates.{kept_holdings, kept_key, states_of};
 ghost use Rattle.cfg_providers.specs.Provides.{is_memory};
@@ -158,7 +159,7 @@ impl DefaultCredentialsChain {
 
     /// What the chain keeps between calls, with nothing kept.
     pub fn new_kept(&self) -> Result<Kept, OutOfMemory>
-        ensures nothing { IfOk result (λ kept. states_of kept ≡ record { sso = record { token = None; last = None } }) }
+        ensures nothing { IfOk result (λ kept. states_of kept ≡ no_states) }
         ensures key { IfOk result (λ kept. kept_key kept ≡ None) }
     {
         Ok(Kept::new(self.alloc, None))
