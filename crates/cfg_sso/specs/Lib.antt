@@ -1,0 +1,7 @@
+pub mod RoleKeys
+pub mod Tokens
+pub mod SsoCredentials
+pub mod SsoCauses
+pub mod BearerTokens
+pub mod Provides
+pub mod SsoSetups

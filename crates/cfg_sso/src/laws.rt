@@ -1,0 +1,1 @@
+//! Laws, each on a call that carries it.
