@@ -1,0 +1,5 @@
+pub mod SsoSteps
+pub mod SsoCauses
+pub mod SectionWalks
+pub mod RoleRequests
+pub mod InTime

@@ -4,4 +4,6 @@ pub mod SsoCredentials
 pub mod SsoCauses
 pub mod BearerTokens
 pub mod Provides
+pub mod RoleRequests
+pub mod InNoWay
 pub mod SsoSetups

@@ -1,9 +1,8 @@
 -- One request for the credentials of a role.
-use Rattle.std.specs.Prelude.{ℕ, ◌*◌, ℤ, pos, unsigned_abs, List, [], ◌∷◌, ◌++◌, Option, Some, ok_or, Result, Ok, Err, codes}
+use Rattle.std.specs.Prelude.{ℕ, ◌*◌, ℤ, pos, unsigned_abs, List, [], ◌∷◌, ◌++◌, Option, Some, None, Result, Ok, Err, codes}
 use Rattle.std.specs.Int.{int_div_euclid, int_rem_euclid}
-use Rattle.cfg_values.specs.Gives.{◌>>=◌}
 use Rattle.cfg_values.specs.Moment.{Moment}
-use Rattle.cfg_types.specs.Keys.{Keys}
+use Rattle.cfg_types.specs.Keys.{Keys, bare_keys}
 use Rattle.cfg_types.specs.declared.credentials.AwsCredentialFeature.TheVariants.{CredentialsSso}
 use Rattle.cfg_types.specs.declared.errors.CredentialsError.{CredentialsError}
 use Rattle.cfg_types.specs.declared.errors.CredentialsError.TheVariants.{ProviderError, Unhandled}
@@ -11,6 +10,7 @@ use Rattle.cfg_types.specs.declared.errors.ProviderCause.TheVariants as cause
 use Rattle.cfg_types.specs.declared.errors.UnhandledCause.{UnhandledCause}
 use Rattle.cfg_types.specs.declared.errors.UnhandledCause.TheVariants.{SsoNoCredentials, SsoNoAccessKey, SsoNoSecretKey}
 use Rattle.cfg_types.specs.declared.reply.sso.RoleReply.{RoleReply}
+use Rattle.cfg_types.specs.declared.reply.sso.RoleCredentials.{RoleCredentials}
 use Rattle.cfg_types.specs.declared.request.sso.GetRoleCredentials.{GetRoleCredentials}
 use Rattle.cfg_types.specs.declared.settings.CallSettings.{CallSettings}
 use Rattle.cfg_world.specs.declared.leaves.NotGranted.{NotGranted}
@@ -34,22 +34,23 @@ moment_at millis = record { seconds = int_div_euclid millis (pos 1000); nanos = 
 abbrev pub by_sign_on : Keys → Keys
 by_sign_on keys = record keys { features = keys.features ++ CredentialsSso ∷ [] }
 
+abbrev pub keys_with : List ℕ → RoleCredentials → Option (List ℕ) → Option (List ℕ) → Result Keys UnhandledCause
+keys_with account given None secret = Err SsoNoAccessKey
+keys_with account given (Some id) None = Err SsoNoSecretKey
+keys_with account given (Some id) (Some secret) = Ok (by_sign_on (record (bare_keys id secret (codes "SSO")) {
+  session_token = given.session_token;
+  expiry = Some (moment_at given.expiration_ms);
+  account_id = Some account;
+}))
+
+abbrev pub keys_in : List ℕ → Option RoleCredentials → Result Keys UnhandledCause
+keys_in account None = Err SsoNoCredentials
+keys_in account (Some given) = keys_with account given given.access_key_id given.secret_access_key
+
 -- The credentials of a reply, for this account. A reply without credentials, or credentials without an
 -- id or a secret of their access key, are refused.
 unfoldable pub role_keys : List ℕ → RoleReply → Result Keys UnhandledCause
-role_keys account reply =
-    ok_or reply.credentials SsoNoCredentials >>= λ given.
-    ok_or given.access_key_id SsoNoAccessKey >>= λ id.
-    ok_or given.secret_access_key SsoNoSecretKey >>= λ secret.
-    Ok (record {
-      access_key_id = id;
-      secret_access_key = secret;
-      session_token = given.session_token;
-      expiry = Some (moment_at given.expiration_ms);
-      account_id = Some account;
-      provider_name = codes "SSO";
-      features = CredentialsSso ∷ [];
-    })
+role_keys account reply = keys_in account reply.credentials
 
 abbrev pub or_unhandled : Result Keys UnhandledCause → Answer
 or_unhandled (Ok keys) = Ok keys

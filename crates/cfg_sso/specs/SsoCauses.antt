@@ -27,8 +27,7 @@ use Rattle.cfg_token.specs.declared.sso_token.CachedSsoToken.{CachedSsoToken}
 use Rattle.cfg_token.specs.declared.token_key.TokenKey.{TokenKey}
 use Rattle.cfg_token.specs.Sections.{section, answer_of}
 use Rattle.cfg_token.specs.SsoTokens.{Given as GivenBy, sso_rules}
-use Rattle.cfg_keeping.specs.Kinds.{Value, KeptToken}
-use Rattle.cfg_keeping.specs.SsoHoldings.{sso_at}
+use Rattle.cfg_keeping.specs.Kinds.{SsoSection, Value, spot_of, sso_in}
 use Rattle.cfg_sso.specs.declared.config.SsoProviderConfig.{SsoProviderConfig}
 use Rattle.cfg_sso.specs.RoleKeys.{Answer, request as request_of}
 use Rattle.cfg_sso.specs.Tokens.{Token, url_path, token_in, of_file, of_section, sso_key}
@@ -37,10 +36,11 @@ use Rattle.cfg_sso.specs.Tokens.{Token, url_path, token_in, of_file, of_section,
 
 -- The part of a section found this value, and gave this token or error by the rules of the section.
 pub record IsSectionPart (conf : Configuration) (key : TokenKey) (found : List Value) (part : List Pair) (given : GivenBy CachedSsoToken) : Type 0 where
-  pub kept : KeptToken CachedSsoToken
-  pub finds : found ≡ sso_at kept ∷ []
+  pub value : Value
+  pub spot : spot_of value ≡ SsoSection
+  pub finds : found ≡ value ∷ []
   pub made : Sectioned CachedSsoToken SsoTokenProviderError
-  pub reads : Reads (section sso_rules key conf.environment (settings_of conf) kept.token kept.last) part made
+  pub reads : Reads (section sso_rules key conf.environment (settings_of conf) (sso_in value).token (sso_in value).last) part made
   pub gives : given ≡ answer_of made
 
 -- A file that has no path is not read. Another is read once, and gives what it holds, or why not.

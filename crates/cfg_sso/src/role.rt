@@ -1,5 +1,5 @@
 //! One request for the credentials of a role.
-ghost use Rattle.std.specs.Prelude.{◌≡◌, IfOk};
+ghost use Rattle.std.specs.Prelude.{◌≡◌, ◌<◌, IfOk};
 ghost use Rattle.cfg_world.specs.Follows.{Follows};
 ghost use Rattle.cfg_world.specs.Leaves.{getting_role_credentials};
 ghost use Rattle.cfg_sso.specs.RoleKeys.{moment_at as moment_at_of, role_keys as role_keys_of, role_answer as role_answer_of, settings_in as settings_in_of, request as request_of, exchange as exchange_of, by_sign_on};
@@ -133,7 +133,8 @@ fn role_keys(
         .set_session_token(token)
         .set_expiry(Some(moment_at(given.expiration_ms)))
         .set_account_id(Some(account));
-    Ok(Ok(mark(builder.build()?)?))
+    let credentials = mark(builder.build()?)?;
+    Ok(Ok(credentials))
 }
 
 // Credentials of IAM Identity Center, marked as such.
@@ -150,9 +151,16 @@ fn moment_at(millis: i64) -> Instant
     ensures { result ≡ moment_at_of millis }
 {
     let seconds = millis.div_euclid(1000);
-    let rest = millis.rem_euclid(1000);
-    match Instant::new(seconds, rest as u32 * 1_000_000) {
+    match Instant::new(seconds, nanos_at(millis)) {
         Some(moment) => moment,
         None => unreachable!(),
     }
+}
+
+fn nanos_at(millis: i64) -> u32
+    ensures value { result ≡ (moment_at_of millis).nanos }
+    ensures below { result < 1000000000 }
+{
+    let rest = millis.rem_euclid(1000);
+    rest as u32 * 1_000_000
 }
