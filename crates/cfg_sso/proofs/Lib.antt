@@ -1,3 +1,4 @@
+pub mod QuietSteps
 pub mod SsoSteps
 pub mod SsoCauses
 pub mod SectionWalks

@@ -5,11 +5,10 @@ ghost use Rattle.cfg_values.specs.Text.{characters};
 ghost use Rattle.cfg_world.specs.Follows.{Follows};
 ghost use Rattle.cfg_keeping.specs.Holds.{HoldsFollows, HoldsBreaks};
 ghost use Rattle.cfg_profile.specs.Configuration.{nothing_configured};
-ghost use Rattle.cfg_providers.specs.Provides.{is_memory};
 ghost use Rattle.cfg_sso.specs.Tokens.{sso_key, key_by, HasKey, sso_token as sso_token_of};
 ghost use Rattle.cfg_sso.specs.SsoCredentials.{behind_token as behind_token_of, sso_credentials};
 ghost use Rattle.cfg_sso.specs.SsoSetups.{nothing_set, is_complete as is_complete_of, build_of};
-ghost use Rattle.cfg_sso.specs.Provides.{ProvidesSso};
+ghost use Rattle.cfg_sso.specs.Provides.{is_memory, ProvidesSso};
 
 use crate::config::SsoProviderConfig;
 use crate::role::exchange;
@@ -61,7 +60,7 @@ fn sso_token<P: Keeper, A: Asking>(
 }
 
 // One request with the token, where there is one.
-#[tactic(auto, using(cfg_providers::proofs::QuietSteps::quiet_steps), unfolding(crate::specs::SsoCredentials::behind_token))]
+#[tactic(auto, using(crate::proofs::QuietSteps::quiet_steps), unfolding(crate::specs::SsoCredentials::behind_token))]
 fn behind_token<A: Asking>(
     alloc: Global,
     config: &ProviderConfig,
@@ -247,13 +246,22 @@ impl Builder {
         let Builder {
             alloc,
             config,
-            account_id: Some(account_id),
-            region: Some(region),
-            role_name: Some(role_name),
-            start_url: Some(start_url),
+            account_id,
+            region,
+            role_name,
+            start_url,
             session_name,
-        } = self
-        else {
+        } = self;
+        let Some(account_id) = account_id else {
+            unreachable!()
+        };
+        let Some(region) = region else {
+            unreachable!()
+        };
+        let Some(role_name) = role_name else {
+            unreachable!()
+        };
+        let Some(start_url) = start_url else {
             unreachable!()
         };
         let sso = SsoProviderConfig {

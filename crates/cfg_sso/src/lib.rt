@@ -1,5 +1,5 @@
-//! Credentials and tokens of AWS IAM Identity Center. It stands on cfg_token, cfg_keeping, cfg_profile
-//! and cfg_providers. The layers above may use that credentials come of one token, of a section of its
+//! Credentials and tokens of AWS IAM Identity Center. It stands on cfg_token, cfg_keeping and
+//! cfg_profile. The layers above may use that credentials come of one token, of a section of its
 //! session or else of the file that a start URL names, and of one request with it; that each answer has
 //! its cause; and that no token of a session is sent that has expired by the last reading of its
 //! section.

@@ -16,7 +16,7 @@ use cfg_world::{Asking, NotGranted, Stop, leaves};
 use std::alloc::Global;
 
 /// One request with this token, and what its reply gives.
-#[tactic(auto, using(cfg_world::proofs::Inquiries::asking_steps, cfg_providers::proofs::QuietSteps::quiet_steps), unfolding(crate::specs::RoleKeys::exchange))]
+#[tactic(auto, using(cfg_world::proofs::Inquiries::asking_steps, crate::proofs::QuietSteps::quiet_steps), unfolding(crate::specs::RoleKeys::exchange))]
 pub(crate) fn exchange<A: Asking>(
     alloc: Global,
     config: &ProviderConfig,

@@ -15,7 +15,7 @@ use cfg_world::{Asking, Stop, read_file};
 use std::alloc::Global;
 
 /// The token in the file that a start URL names. Its expiry is not looked at.
-#[tactic(auto, using(cfg_world::proofs::Inquiries::asking_steps, cfg_providers::proofs::QuietSteps::quiet_steps), unfolding(crate::specs::Tokens::url_token))]
+#[tactic(auto, using(cfg_world::proofs::Inquiries::asking_steps, crate::proofs::QuietSteps::quiet_steps), unfolding(crate::specs::Tokens::url_token))]
 pub(crate) fn url_token<A: Asking>(
     alloc: Global,
     config: &ProviderConfig,
@@ -50,7 +50,7 @@ fn url_path(
 }
 
 // The token that a file holds, or why it holds none.
-#[tactic(auto, using(cfg_world::proofs::Inquiries::asking_steps, cfg_providers::proofs::QuietSteps::quiet_steps), unfolding(crate::specs::Tokens::file_token))]
+#[tactic(auto, using(cfg_world::proofs::Inquiries::asking_steps, crate::proofs::QuietSteps::quiet_steps), unfolding(crate::specs::Tokens::file_token))]
 fn file_token<A: Asking>(
     alloc: Global,
     file: &Text,

@@ -138,11 +138,17 @@ impl Builder {
         let Builder {
             alloc,
             config,
-            region: Some(region),
-            session_name: Some(session),
-            start_url: Some(start_url),
-        } = self
-        else {
+            region,
+            session_name,
+            start_url,
+        } = self;
+        let Some(region) = region else {
+            unreachable!()
+        };
+        let Some(session) = session_name else {
+            unreachable!()
+        };
+        let Some(start_url) = start_url else {
             unreachable!()
         };
         let key = TokenKey::Sso {
