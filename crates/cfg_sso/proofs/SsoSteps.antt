@@ -115,11 +115,12 @@ module _ {W : Type 0} (w : Ghosts W) where
       holds_ends_then (λ g. Gives (bearer g)) (subst (λ o. IfSome o (λ k. HoldsEnds w (section_of conf k) old before new later given)) has h) (holds_said is)
 
   -- memory ran out behind the section
-  pub bearer_breaks : (conf : Configuration) (held : Option TokenKey) (key : TokenKey) (old new : W) (before later : Holdings) (given : Given CachedSsoToken) → held ≡ Some key →
-      IfSome held (λ k. HoldsEnds w (section_of conf k) old before new later given) → HoldsBreaks w (bearer_token conf key) old before new later
+  pub bearer_breaks : (conf : Configuration) (held : Option TokenKey) (key : TokenKey) (old new : W) (before later : Holdings) (given : Given CachedSsoToken) (result : Result Bearer Stop) → held ≡ Some key → result ≡ Err OutOfMemory →
+      IfSome held (λ k. HoldsEnds w (section_of conf k) old before new later given) → HoldsFollows w (bearer_token conf key) old before new later result
   unfolding bearer_token
-  bearer_breaks conf held key old new before later given has h =
-      holds_breaks_then (λ g. Gives (bearer g)) (subst (λ o. IfSome o (λ k. HoldsEnds w (section_of conf k) old before new later given)) has h) holds_breaks_here
+  bearer_breaks conf held key old new before later given result has is h =
+      subst (λ r. HoldsFollows w (bearer_token conf key) old before new later r) (sym is)
+      (holds_breaks_then (λ g. Gives (bearer g)) (subst (λ o. IfSome o (λ k. HoldsEnds w (section_of conf k) old before new later given)) has h) holds_breaks_here)
 
   pub bearer_halts : (conf : Configuration) (held : Option TokenKey) (key : TokenKey) (old new : W) (before later : Holdings) (stop : Stop) → held ≡ Some key →
       IfSome held (λ k. HoldsHalts w (section_of conf k) old before new later stop) → HoldsHalts w (bearer_token conf key) old before new later stop

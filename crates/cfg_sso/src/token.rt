@@ -2,6 +2,7 @@
 ghost use Rattle.std.specs.Prelude.{◌≡◌, IfOk, IfSome, Some, None, true, false};
 ghost use Rattle.std.specs.Option.{option_copied};
 ghost use Rattle.cfg_values.specs.Text.{characters};
+ghost use Rattle.cfg_token.specs.SsoTokens.{is_sso};
 ghost use Rattle.cfg_keeping.specs.Holds.{HoldsFollows, HoldsBreaks};
 ghost use Rattle.cfg_profile.specs.Configuration.{nothing_configured};
 ghost use Rattle.cfg_sso.specs.BearerTokens.{bearer as bearer_of, bearer_token, is_memory};
@@ -218,13 +219,7 @@ impl SsoTokenProvider {
         ensures follows { HoldsFollows ⟦<A as Asking>⟧ (bearer_token self.now.configuration self.now.key) asking.old (P.holdings keeper.old) asking.new (P.holdings keeper.new) result }
         ensures key { P.key_held keeper.new ≡ P.key_held keeper.old }
     {
-        match section(self.alloc, &self.config, keeper, asking) {
-            Ok(given) => {
-                let outcome = bearer(self.alloc, given)?;
-                Ok(outcome)
-            }
-            Err(stop) => Err(stop),
-        }
+        follow_bearer(self.alloc, &self.config, &self.key, keeper, asking)
     }
 
     /// One section of the keeper's token, whose key has to be [`Self::token_key`]. The value that was
@@ -250,6 +245,28 @@ impl SsoTokenProvider {
             Ok(outcome) => outcome,
             Err(_) => Err(TokenError::OutOfMemory),
         }
+    }
+}
+
+// One section of the token of this key, which the keeper has, as a bearer token.
+fn follow_bearer<P: Keeper, A: Asking>(
+    alloc: Global,
+    config: &ProviderConfig,
+    key: &TokenKey,
+    keeper: &mut P,
+    asking: &mut A,
+) -> Result<Result<Token, TokenError>, Stop>
+    requires kind { is_sso key.now ≡ true }
+    requires held { P.key_held keeper.old ≡ Some key.now }
+    ensures follows { HoldsFollows ⟦<A as Asking>⟧ (bearer_token config.now key.now) asking.old (P.holdings keeper.old) asking.new (P.holdings keeper.new) result }
+    ensures key { P.key_held keeper.new ≡ P.key_held keeper.old }
+{
+    match section(alloc, config, keeper, asking) {
+        Ok(given) => {
+            let outcome = bearer(alloc, given)?;
+            Ok(outcome)
+        }
+        Err(stop) => Err(stop),
     }
 }
 
