@@ -1,0 +1,261 @@
+-- Where nothing stands in the way, there are credentials.
+use Rattle.std.proofs.Common.{◌≡◌, ℕ, Bool, true, false, not, ◌&&◌, cond, List, [], ◌∷◌, ◌++◌, Option, Some, None, Result, Ok, Err, refl, sym, ap, ◌∙◌, subst, append-nil}
+use Rattle.std.specs.Prelude.{codes, is_ok, is_some, IsSome, IsOk, option_map}
+use Rattle.std.specs.Result.{result_err}
+use Rattle.std.specs.Str.{encode_utf8_all}
+use Rattle.cfg_values.specs.Moment.{Moment}
+use Rattle.cfg_types.specs.Environment.{Variables, variable}
+use Rattle.cfg_types.specs.Replies.{role_in}
+use Rattle.cfg_types.specs.declared.environment.VarError.{VarError}
+use Rattle.cfg_types.specs.declared.errors.CredentialsError.{CredentialsError}
+use Rattle.cfg_types.specs.declared.errors.CredentialsError.TheVariants.{Unhandled}
+use Rattle.cfg_types.specs.declared.errors.UnhandledCause.{UnhandledCause}
+use Rattle.cfg_types.specs.declared.errors.sso.CachedSsoTokenError.{CachedSsoTokenError}
+use Rattle.cfg_types.specs.declared.errors.sso.SsoTokenProviderError.{SsoTokenProviderError}
+use Rattle.cfg_types.specs.declared.reply.sso.RoleReply.{RoleReply}
+use Rattle.cfg_types.specs.declared.reply.sso.RoleCredentials.{RoleCredentials}
+use Rattle.cfg_types.specs.declared.settings.CallSettings.{CallSettings}
+use Rattle.cfg_world.specs.declared.ask.Answer.{Answer as Given}
+use Rattle.cfg_world.specs.declared.ask.Answer.TheVariants as answer
+use Rattle.cfg_world.specs.declared.ask.Question.TheVariants as question
+use Rattle.cfg_world.specs.declared.leaves.NotGranted.{NotGranted}
+use Rattle.cfg_world.specs.Fits.{Pair}
+use Rattle.cfg_world.specs.Inquiry.{Inquiry, Done, Ask, Reads, after}
+use Rattle.cfg_world.specs.Leaves.{clock, moment_of, contents_of, granted_of}
+use Rattle.cfg_profile.specs.Configuration.{Configuration}
+use Rattle.cfg_profile.specs.Settings.{settings_of}
+use Rattle.cfg_token.specs.declared.decision.Decision.{Decision}
+use Rattle.cfg_token.specs.declared.decision.Decision.TheVariants.{Use, Refresh, Refuse}
+use Rattle.cfg_token.specs.declared.file_token.Renewal.{Renewal}
+use Rattle.cfg_token.specs.declared.file_token.Renewal.TheVariants.{Granted, Passed, Refused}
+use Rattle.cfg_token.specs.declared.sections.Sectioned.{Sectioned}
+use Rattle.cfg_token.specs.declared.sections.Sectioned.TheVariants.{Hit, Load}
+use Rattle.cfg_token.specs.declared.sso_token.CachedSsoToken.{CachedSsoToken}
+use Rattle.cfg_token.specs.declared.steps.Loaded.{Loaded}
+use Rattle.cfg_token.specs.declared.token_key.TokenKey.{TokenKey}
+use Rattle.cfg_token.specs.declared.token_key.TokenKey.TheVariants.{Sso, Login}
+use Rattle.cfg_token.specs.Decisions.{decision, is_expired, is_soon, is_refreshable}
+use Rattle.cfg_token.specs.Moments.{is_before, more}
+use Rattle.cfg_token.specs.Sections
+use Rattle.cfg_token.specs.SsoFile.{sso_file}
+use Rattle.cfg_token.specs.SsoText.{sso_text}
+use Rattle.cfg_token.specs.SsoTokens.{Given as GivenBy, is_sso, home_path, key_path, loaded, sso_renewal, sso_rules}
+use Rattle.cfg_token.proofs.Outcomes.{Gives, gives_reads, gives_after, gives_more}
+use Rattle.cfg_keeping.specs.Kinds.{Value, sso_in}
+use Rattle.cfg_sso.specs.declared.config.SsoProviderConfig.{SsoProviderConfig}
+use Rattle.cfg_sso.specs.RoleKeys.{Answer}
+use Rattle.cfg_sso.specs.Tokens.{Token, url_path, token_in, of_file, of_section, key_by, sso_key}
+use Rattle.cfg_sso.specs.SsoCauses.{IsSectionPart, IsFilePart, IsTokenPart, why_keys, why_reply, why_granted, IsBehind, SsoCause}
+use Rattle.cfg_sso.specs.InNoWay.{ok_token, held_token, IsWritten, IsRenewed, IsRefreshed, IsInTime, IsSectionInTime, IsTokenInTime, HasKeys, HoldsKeys, IsGranted, AreGranted, NothingInTheWay}
+
+abbrev Made : Type 0
+Made = Sectioned CachedSsoToken SsoTokenProviderError
+
+abbrev Outcome : Type 0
+Outcome = Loaded CachedSsoToken SsoTokenProviderError
+
+never : false ≡ true → ⊥
+never h = cc
+
+-- whatever a tree does, where the same holds of all that it may do
+gives_all : {R : Type 0} (p : Inquiry R) (P : List Pair → R → Type 0) → ((part : List Pair) (out : R) → P part out) → Gives p P
+gives_all (Done r) P f = f [] r
+gives_all (Ask q n) P f = λ a. gives_all (n a) (λ part out. P ((q, a) ∷ part) out) (λ part out. f ((q, a) ∷ part) out)
+
+-- ---- a refresh
+
+-- the load gave a token, where this holds
+abbrev IfFine : Type 0 → Outcome → Type 0
+IfFine P l = P → IsOk l.outcome
+
+written_fine : (path : List ℕ) (now : Moment) (token : CachedSsoToken) (a : Given) → a ≡ answer.Written → IsOk (Sections.written sso_rules path now token a).outcome
+written_fine path now token a is = subst (λ x. IsOk (Sections.written sso_rules path now token x).outcome) (sym is) refl
+
+text_fine : (path : List ℕ) (now : Moment) (token : CachedSsoToken) (text : Option (List ℕ)) → Gives (Sections.saves_text sso_rules path now token (option_map encode_utf8_all text)) (λ part l. IfFine (IsSome text × IsWritten part) l)
+text_fine path now token None = λ h. absurd (never h.0)
+text_fine path now token (Some text) = λ a h. written_fine path now token a h.1
+
+lasting_fine : (file : CachedSsoToken) (now : Moment) → is_before now file.expires_at ≡ true → IsOk (Sections.while_it_lasts sso_rules file now)
+lasting_fine file now h = subst (λ b. IsOk (cond (not b) (Err sso_rules.expired) (Ok file))) (sym h) refl
+
+renews_fine : (path : List ℕ) (file : CachedSsoToken) (now : Moment) (r : Renewal CachedSsoToken SsoTokenProviderError) → is_before now file.expires_at ≡ true →
+    Gives (Sections.renews sso_rules path file now r) (λ part l. IfFine (IsRenewed part r) l)
+unfolding Sections.saves
+renews_fine path file now (Granted token) before = text_fine path now token (sso_text token)
+renews_fine path file now Passed before = λ h. lasting_fine file now before
+renews_fine path file now (Refused e noted) before = λ h. absurd h
+
+decides_fine : (key : TokenKey) (settings : CallSettings) (path : List ℕ) (file : CachedSsoToken) (now : Moment) (d : Decision) → is_before now file.expires_at ≡ true → (d ≡ Refuse → ⊥) →
+    Gives (Sections.decides sso_rules key settings path file now d) (λ part l. IfFine (IsRefreshed key file now part) l)
+unfolding Sections.refreshes Sections.asks_renewal
+decides_fine key settings path file now Refuse before other = absurd (other refl)
+decides_fine key settings path file now Use before other = λ h. refl
+decides_fine key settings path file now Refresh before other = λ a. renews_fine path file now (sso_renewal key file now a) before
+
+-- what has not expired is not refused
+not_refused : (soon can : Bool) → cond (not true && not can) Refuse (cond (soon && can) Refresh Use) ≡ Refuse → ⊥
+not_refused true true h = absurd cc
+not_refused true false h = absurd cc
+not_refused false true h = absurd cc
+not_refused false false h = absurd cc
+
+decided : (file : CachedSsoToken) (last : Option Moment) (now : Moment) → is_before now file.expires_at ≡ true → decision sso_rules file last now ≡ Refuse → ⊥
+decided file last now before h =
+    not_refused (is_soon sso_rules file now) (is_refreshable sso_rules file last now)
+    (subst (λ b. cond (not b && not (is_refreshable sso_rules file last now)) Refuse (cond (is_soon sso_rules file now && is_refreshable sso_rules file last now) Refresh Use) ≡ Refuse) before h)
+
+-- ---- the file, and the reading behind it
+
+module _ (key : TokenKey) (settings : CallSettings) (last : Option Moment) (path : List ℕ) (first : Pair) where
+  -- a token that is in time by this reading
+  by_second : (file : CachedSsoToken) (a : Given) (before : Bool) → is_before (moment_of a) file.expires_at ≡ before →
+      Gives (Sections.decides sso_rules key settings path file (moment_of a) (decision sso_rules file last (moment_of a)))
+      (λ part l. IfFine ((is_before (moment_of a) file.expires_at ≡ true) × IsRefreshed key file (moment_of a) part) l)
+  by_second file a true is =
+      let now = moment_of a in
+      let d = decision sso_rules file last now in
+      gives_more (Sections.decides sso_rules key settings path file now d) (λ part l. IfFine (IsRefreshed key file now part) l)
+          (λ part l. IfFine ((is_before now file.expires_at ≡ true) × IsRefreshed key file now part) l) (λ part l f h. f h.1)
+          (decides_fine key settings path file now d is (decided file last now is))
+  by_second file a false is =
+      let now = moment_of a in
+      gives_all (Sections.decides sso_rules key settings path file now (decision sso_rules file last now))
+          (λ part l. IfFine ((is_before now file.expires_at ≡ true) × IsRefreshed key file now part) l) (λ part l h. absurd (never (sym is ∙ h.0)))
+
+  -- what stands behind a file
+  abbrev Behind : Option CachedSsoToken → List Pair → Type 0
+  Behind held [] = IsSome held
+  Behind held (second ∷ rest) = IsInTime key (moment_of second.1) rest held
+
+  by_file : (file : Result CachedSsoToken CachedSsoTokenError) → Gives (Sections.judges_file sso_rules key settings last path (loaded file)) (λ part l. IfFine (Behind (ok_token file) part) l)
+  unfolding Sections.judges clock
+  by_file (Err e) = λ h. absurd (never h)
+  by_file (Ok file) = λ a. by_second file a (is_before (moment_of a) file.expires_at) refl
+
+  unread : Gives (Sections.judges_file sso_rules key settings last path (Err (sso_rules.unread path))) (λ part l. IfFine (Behind None part) l)
+  unread = λ h. absurd (never h)
+
+  by_answer : (b : Given) → Gives (Sections.judges_file sso_rules key settings last path (Sections.read_as sso_rules path b)) (λ part l. IfFine (Behind (held_token b) part) l)
+  by_answer (answer.Contents bytes) = by_file (sso_file bytes)
+  by_answer (answer.Moment m) = unread
+  by_answer (answer.Jitter n) = unread
+  by_answer answer.Written = unread
+  by_answer (answer.Finished finished) = unread
+  by_answer (answer.Addresses addresses) = unread
+  by_answer (answer.Replied reply) = unread
+  by_answer (answer.Failed kind) = unread
+
+  behind_in_time : (b : Given) (part : List Pair) → IsSectionInTime key (first ∷ (question.Read path, b) ∷ part) → Behind (held_token b) part
+  behind_in_time b [] h = h
+  behind_in_time b (second ∷ rest) h = h
+
+  read_fine : (b : Given) → Gives (Sections.judges_file sso_rules key settings last path (Sections.read_as sso_rules path b)) (λ part l. IfFine (IsSectionInTime key (first ∷ (question.Read path, b) ∷ part)) l)
+  read_fine b =
+      gives_more (Sections.judges_file sso_rules key settings last path (Sections.read_as sso_rules path b)) (λ part l. IfFine (Behind (held_token b) part) l)
+      (λ part l. IfFine (IsSectionInTime key (first ∷ (question.Read path, b) ∷ part)) l) (λ part l f h. f (behind_in_time b part h)) (by_answer b)
+
+-- ---- a section
+
+loads_fine : (key : TokenKey) (settings : CallSettings) (last : Option Moment) (first : Pair) (path : Result (List ℕ) SsoTokenProviderError) → IsOk path →
+    Gives (Sections.loads_from sso_rules key settings last path) (λ part l. IfFine (IsSectionInTime key (first ∷ part)) l)
+unfolding Sections.file
+loads_fine key settings last first (Err e) h = absurd (never h)
+loads_fine key settings last first (Ok path) h = λ b. read_fine key settings last path first b
+
+-- the section gave a token, where its part is in time
+abbrev IsFine : TokenKey → List Pair → Made → Type 0
+IsFine key part made = IsSectionInTime key part → IsOk (Sections.answer_of made)
+
+loaded_fine : (key : TokenKey) (env : Variables) (settings : CallSettings) (last : Option Moment) (a : Given) → IsOk (sso_rules.path key env) →
+    Gives (after (Sections.load sso_rules key env settings last) (λ l. Done (Load l))) (λ part made. IsFine key ((question.Now, a) ∷ part) made)
+unfolding Sections.load
+loaded_fine key env settings last a home =
+    gives_after (Sections.loads_from sso_rules key settings last (sso_rules.path key env)) (λ l. Done (Load l)) (λ part l. IfFine (IsSectionInTime key ((question.Now, a) ∷ part)) l)
+    (λ part made. IsFine key ((question.Now, a) ∷ part) made) (loads_fine key settings last (question.Now, a) (sso_rules.path key env) home)
+    (λ part l h. subst (λ (J : List Pair). IsFine key ((question.Now, a) ∷ J) (Load l)) (sym (append-nil part)) h)
+
+section_fine : (key : TokenKey) (env : Variables) (settings : CallSettings) (kept : Option CachedSsoToken) (last : Option Moment) → IsOk (sso_rules.path key env) →
+    Gives (Sections.section sso_rules key env settings kept last) (IsFine key)
+unfolding Sections.section Sections.by_reading clock
+section_fine key env settings None last home = λ a. loaded_fine key env settings last a home
+section_fine key env settings (Some token) last home = λ a. either_way a (more token.expires_at (moment_of a) 300)
+  where
+    either_way : (a : Given) (fresh : Bool) → Gives (cond fresh (Done (Hit token)) (after (Sections.load sso_rules key env settings last) (λ l. Done (Load l)))) (λ part made. IsFine key ((question.Now, a) ∷ part) made)
+    either_way a true = λ h. refl
+    either_way a false = loaded_fine key env settings last a home
+
+-- ---- the token
+
+home_fine : (session : List ℕ) (home : Result (List ℕ) VarError) → IsOk home → IsOk (home_path session home)
+home_fine session (Ok home) h = refl
+home_fine session (Err e) h = absurd (never h)
+
+told_fine : (given : GivenBy CachedSsoToken) → IsOk given → IsOk (of_section given)
+unfolding of_section
+told_fine (Ok token) h = refl
+told_fine (Err e) h = absurd (never h)
+
+held_fine : (path : List ℕ) (file : Result CachedSsoToken CachedSsoTokenError) → IsSome (ok_token file) → IsOk (of_file file)
+unfolding of_file
+held_fine path (Ok token) h = refl
+held_fine path (Err e) h = absurd (never h)
+
+read_token : (path : List ℕ) (given : Given) → IsSome (held_token given) → IsOk (of_file (token_in path (contents_of given)))
+unfolding token_in
+read_token path (answer.Contents bytes) h = held_fine path (sso_file bytes) h
+read_token path (answer.Moment m) h = absurd (never h)
+read_token path (answer.Jitter n) h = absurd (never h)
+read_token path answer.Written h = absurd (never h)
+read_token path (answer.Finished finished) h = absurd (never h)
+read_token path (answer.Addresses addresses) h = absurd (never h)
+read_token path (answer.Replied reply) h = absurd (never h)
+read_token path (answer.Failed kind) h = absurd (never h)
+
+file_fine : (url : List ℕ) (home : Result (List ℕ) VarError) (part : List Pair) (token : Token) → IsOk home → IsTokenInTime None part → IsFilePart (url_path url home) part token → IsOk token
+file_fine url (Err e) part token h t p = absurd (never h)
+file_fine url (Ok home) part token h t p = subst (λ (x : Token). IsOk x) (sym p.2) (read_token _ p.0 (subst (IsTokenInTime None) p.1 t))
+
+session_fine : (conf : Configuration) (session region url : List ℕ) (found : List Value) (part : List Pair) (token : Token) → IsOk (variable conf.environment (codes "HOME")) → IsSectionInTime (Sso session region url) part →
+    (given : GivenBy CachedSsoToken) → IsSectionPart conf (Sso session region url) found part given → token ≡ of_section given → IsOk token
+session_fine conf session region url found part token home t given s told =
+    let key = Sso session region url in
+    let was = sso_in s.value in
+    let fine = gives_reads (Sections.section sso_rules key conf.environment (settings_of conf) was.token was.last) (IsFine key) part s.made
+    (section_fine key conf.environment (settings_of conf) was.token was.last (home_fine session (variable conf.environment (codes "HOME")) home)) s.reads in
+    subst (λ (x : Token). IsOk x) (sym told) (told_fine given (subst (λ (x : GivenBy CachedSsoToken). IsOk x) (sym s.gives) (fine t)))
+
+token_fine : (conf : Configuration) (name : Option (List ℕ)) (region url : List ℕ) (found : List Value) (part : List Pair) (token : Token) → IsOk (variable conf.environment (codes "HOME")) →
+    IsTokenInTime (key_by name region url) part → IsTokenPart conf url (key_by name region url) found part token → IsOk token
+token_fine conf None region url found part token home t p = file_fine url (variable conf.environment (codes "HOME")) part token home t p.1
+token_fine conf (Some session) region url found part token home t p = session_fine conf session region url found part token home t p.0 p.1 p.2
+
+-- ---- the request
+
+keys_fine : (id secret : Option (List ℕ)) → IsSome id → IsSome secret → why_keys id secret ≡ None
+keys_fine None secret h k = absurd (never h)
+keys_fine (Some id) None h k = absurd (never k)
+keys_fine (Some id) (Some secret) h k = refl
+
+reply_fine : (given : Option RoleCredentials) → HoldsKeys given → why_reply given ≡ None
+reply_fine None h = absurd h
+reply_fine (Some given) h = keys_fine given.access_key_id given.secret_access_key h.id h.secret
+
+granted_fine : (given : Result RoleReply NotGranted) → IsGranted given → why_granted given ≡ None
+granted_fine (Ok reply) h = ap (option_map Unhandled) (reply_fine reply.credentials h)
+granted_fine (Err reason) h = absurd h
+
+no_error : (out : Answer) → result_err out ≡ None → is_ok out ≡ true
+no_error (Ok keys) h = refl
+no_error (Err e) h = cc
+
+behind_fine : (conf : Configuration) (sso : SsoProviderConfig) (token : Token) (part : List Pair) (out : Answer) → IsOk token → AreGranted part → IsBehind conf sso token part out → is_ok out ≡ true
+behind_fine conf sso (Err e) part out h g b = absurd (never h)
+behind_fine conf sso (Ok token) part out h g b = no_error out (b.2 ∙ granted_fine (granted_of role_in b.0) (subst AreGranted b.1 g))
+
+-- ---- the whole
+
+pub nothing_in_the_way : (conf : Configuration) (sso : SsoProviderConfig) (found : List Value) (part : List Pair) (out : Answer) (c : SsoCause conf sso found part out) →
+    NothingInTheWay conf sso c.token_part c.role_part → is_ok out ≡ true
+nothing_in_the_way conf sso found part out c n =
+    behind_fine conf sso c.token c.role_part out
+    (token_fine conf sso.session_name sso.region sso.start_url found c.token_part c.token n.home n.token c.of_token) n.role c.behind

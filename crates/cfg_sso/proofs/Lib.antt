@@ -1,0 +1,6 @@
+pub mod QuietSteps
+pub mod SsoSteps
+pub mod SsoCauses
+pub mod SectionWalks
+pub mod RoleRequests
+pub mod InTime

@@ -1,0 +1,70 @@
+-- One request for a role, with the token of the part before it.
+use Rattle.std.proofs.Common.{◌≡◌, ℕ, List, [], ◌∷◌, ◌++◌, true, false, Option, Some, None, IfSome, Result, Ok, Err, refl, sym, ap, ◌∙◌, subst, append-nil, inl, inr}
+use Rattle.std.specs.Prelude.{◌⊎◌, codes, is_ok, IfOk}
+use Rattle.std.specs.Result.{result_err}
+use Rattle.cfg_types.specs.Environment.{variable}
+use Rattle.cfg_types.specs.declared.errors.CredentialsError.{CredentialsError}
+use Rattle.cfg_types.specs.declared.errors.sso.CachedSsoTokenError.{CachedSsoTokenError}
+use Rattle.cfg_world.specs.Fits.{Pair}
+use Rattle.cfg_profile.specs.Configuration.{Configuration}
+use Rattle.cfg_profile.specs.Settings.{settings_of}
+use Rattle.cfg_token.specs.declared.sso_token.CachedSsoToken.{CachedSsoToken}
+use Rattle.cfg_token.specs.declared.token_key.TokenKey.{TokenKey}
+use Rattle.cfg_token.specs.SsoTokens.{Given}
+use Rattle.cfg_keeping.specs.Kinds.{Value, sso_in}
+use Rattle.cfg_sso.specs.declared.config.SsoProviderConfig.{SsoProviderConfig}
+use Rattle.cfg_sso.specs.RoleKeys.{Answer}
+use Rattle.cfg_sso.specs.Tokens.{Token, url_path, of_section, sso_key}
+use Rattle.cfg_sso.specs.SsoCauses.{IsSectionPart, IsFilePart, IsTokenPart, IsBehind, SsoCause}
+use Rattle.cfg_sso.specs.RoleRequests.{AsksNoRole, last_reading, EndsAfter, SendsOnce, SendsNothing}
+use Rattle.cfg_sso.proofs.SectionWalks.{section_asks_no_role, section_lasts}
+
+file_asks_no_role : (path : Result (List ℕ) CachedSsoTokenError) (part : List Pair) (token : Token) → IsFilePart path part token → AsksNoRole part
+file_asks_no_role (Err e) part token h = subst AsksNoRole (sym h.0) tt
+file_asks_no_role (Ok path) part token h = subst AsksNoRole (sym h.1) (refl, tt)
+
+token_asks_no_role : (conf : Configuration) (url : List ℕ) (key : Option TokenKey) (found : List Value) (part : List Pair) (token : Token) → IsTokenPart conf url key found part token → AsksNoRole part
+token_asks_no_role conf url None found part token h = file_asks_no_role (url_path url (variable conf.environment (codes "HOME"))) part token h.1
+token_asks_no_role conf url (Some key) found part token h =
+    let s = h.1 in
+    section_asks_no_role key conf.environment (settings_of conf) (sso_in s.value).token (sso_in s.value).last part s.made s.reads
+
+-- a token that is told is one that the section gave
+given_token : (given : Given CachedSsoToken) (token : CachedSsoToken) → ◌≡◌ {A = Token} (Ok token) (of_section given) → given ≡ Ok token
+unfolding of_section
+given_token (Ok t) token h = cc
+given_token (Err e) token h = cc
+
+lasting : (part : List Pair) (answer given : Given CachedSsoToken) (token : CachedSsoToken) → given ≡ answer → given ≡ Ok token → IfOk answer (λ t. EndsAfter (last_reading part) t) → EndsAfter (last_reading part) token
+lasting part answer given token is ok h = subst (λ r. IfOk r (λ t. EndsAfter (last_reading part) t)) (sym is ∙ ok) h
+
+token_lasts : (conf : Configuration) (url : List ℕ) (key : Option TokenKey) (found : List Value) (part : List Pair) (token : CachedSsoToken) → IsTokenPart conf url key found part (Ok token) →
+    IfSome key (λ k. EndsAfter (last_reading part) token)
+token_lasts conf url None found part token h = tt
+token_lasts conf url (Some key) found part token h =
+    let s = h.1 in
+    lasting part _ h.0 token s.gives (given_token h.0 token h.2)
+    (section_lasts key conf.environment (settings_of conf) (sso_in s.value).token (sso_in s.value).last part s.made s.reads)
+
+no_credentials : (out : Answer) (e : CredentialsError) → result_err out ≡ Some e → is_ok out ≡ false
+no_credentials (Ok keys) e h = cc
+no_credentials (Err x) e h = refl
+
+sends : (conf : Configuration) (sso : SsoProviderConfig) (found : List Value) (part token_part role_part : List Pair) (token : Token) (out : Answer) → part ≡ token_part ++ role_part →
+    IsTokenPart conf sso.start_url (sso_key sso) found token_part token → IsBehind conf sso token role_part out → SendsOnce conf sso found part ⊎ SendsNothing part out
+sends conf sso found part token_part role_part (Ok token) out parts of_token behind = inl (record {
+  token_part = token_part;
+  token = token;
+  given = behind.0;
+  parts = parts ∙ ap (λ t. token_part ++ t) behind.1;
+  of_token = of_token;
+  alone = token_asks_no_role conf sso.start_url (sso_key sso) found token_part (Ok token) of_token;
+  unexpired = token_lasts conf sso.start_url (sso_key sso) found token_part token of_token;
+})
+sends conf sso found part token_part role_part (Err e) out parts of_token behind = inr (record {
+  alone = subst AsksNoRole (sym (parts ∙ ap (λ t. token_part ++ t) behind.0 ∙ append-nil token_part)) (token_asks_no_role conf sso.start_url (sso_key sso) found token_part (Err e) of_token);
+  nothing = no_credentials out e behind.1;
+})
+
+pub sends_once : (conf : Configuration) (sso : SsoProviderConfig) (found : List Value) (part : List Pair) (out : Answer) → SsoCause conf sso found part out → SendsOnce conf sso found part ⊎ SendsNothing part out
+sends_once conf sso found part out c = sends conf sso found part c.token_part c.role_part c.token out c.parts c.of_token c.behind

@@ -1,0 +1,9 @@
+pub mod RoleKeys
+pub mod Tokens
+pub mod SsoCredentials
+pub mod SsoCauses
+pub mod BearerTokens
+pub mod Provides
+pub mod RoleRequests
+pub mod InNoWay
+pub mod SsoSetups

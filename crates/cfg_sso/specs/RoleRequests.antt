@@ -1,0 +1,60 @@
+-- What is sent for the credentials of a role, and with which token.
+use Rattle.std.specs.Prelude.{◌≡◌, List, [], ◌∷◌, ◌++◌, Bool, true, false, Option, Some, None, IfSome, Result, Ok, Err, is_ok}
+use Rattle.cfg_values.specs.Moment.{Moment}
+use Rattle.cfg_types.specs.declared.request.Request.TheVariants as request
+use Rattle.cfg_world.specs.declared.ask.Question.{Question}
+use Rattle.cfg_world.specs.declared.ask.Question.TheVariants as question
+use Rattle.cfg_world.specs.declared.ask.Answer.{Answer as Given}
+use Rattle.cfg_world.specs.Fits.{Pair}
+use Rattle.cfg_world.specs.Leaves.{moment_of}
+use Rattle.cfg_profile.specs.Configuration.{Configuration}
+use Rattle.cfg_token.specs.declared.sso_token.CachedSsoToken.{CachedSsoToken}
+use Rattle.cfg_token.specs.Moments.{is_before}
+use Rattle.cfg_keeping.specs.Kinds.{Value}
+use Rattle.cfg_sso.specs.declared.config.SsoProviderConfig.{SsoProviderConfig}
+use Rattle.cfg_sso.specs.RoleKeys.{Answer, request as request_of}
+use Rattle.cfg_sso.specs.Tokens.{sso_key}
+use Rattle.cfg_sso.specs.SsoCauses.{IsTokenPart}
+
+-- a request for the credentials of a role
+abbrev pub is_role_request : Question → Bool
+is_role_request (question.Send (request.GetRoleCredentials call)) = true
+is_role_request _ = false
+
+-- No entry is such a request.
+abbrev pub AsksNoRole : List Pair → Type 0
+AsksNoRole [] = Unit {0}
+AsksNoRole (e ∷ part) = (is_role_request e.0 ≡ false) × AsksNoRole part
+
+-- the last reading of the clock in a part, or else the one before it
+abbrev pub reading_or : Option Moment → Question → Given → Option Moment
+reading_or before question.Now given = Some (moment_of given)
+reading_or before _ given = before
+
+abbrev pub last_reading_from : Option Moment → List Pair → Option Moment
+last_reading_from before [] = before
+last_reading_from before (e ∷ part) = last_reading_from (reading_or before e.0 e.1) part
+
+abbrev pub last_reading : List Pair → Option Moment
+last_reading part = last_reading_from None part
+
+-- There is such a reading, and the token ends after it.
+abbrev pub EndsAfter : Option Moment → CachedSsoToken → Type 0
+EndsAfter None token = ⊥
+EndsAfter (Some now) token = is_before now token.expires_at ≡ true
+
+-- Behind the part that gave a token stands one request with it, and no other. A session's token ends
+-- after the last reading of its section.
+pub record SendsOnce (conf : Configuration) (sso : SsoProviderConfig) (found : List Value) (part : List Pair) : Type 0 where
+  pub token_part : List Pair
+  pub token : CachedSsoToken
+  pub given : Given
+  pub parts : part ≡ token_part ++ (question.Send (request.GetRoleCredentials (request_of conf sso token)), given) ∷ []
+  pub of_token : IsTokenPart conf sso.start_url (sso_key sso) found token_part (Ok token)
+  pub alone : AsksNoRole token_part
+  pub unexpired : IfSome (sso_key sso) (λ key. EndsAfter (last_reading token_part) token)
+
+-- Nothing is sent for the role, and there are no credentials.
+pub record SendsNothing (part : List Pair) (out : Answer) : Type 0 where
+  pub alone : AsksNoRole part
+  pub nothing : is_ok out ≡ false

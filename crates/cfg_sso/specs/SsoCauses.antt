@@ -1,0 +1,89 @@
+-- Why there are no credentials of IAM Identity Center.
+use Rattle.std.specs.Prelude.{◌≡◌, ℕ, List, [], ◌∷◌, ◌++◌, Option, Some, None, option_map, Result, Ok, Err, codes}
+use Rattle.std.specs.Result.{result_err}
+use Rattle.cfg_types.specs.Environment.{variable}
+use Rattle.cfg_types.specs.Replies.{role_in}
+use Rattle.cfg_types.specs.declared.errors.CredentialsError.{CredentialsError}
+use Rattle.cfg_types.specs.declared.errors.CredentialsError.TheVariants.{ProviderError, Unhandled}
+use Rattle.cfg_types.specs.declared.errors.ProviderCause.TheVariants as cause
+use Rattle.cfg_types.specs.declared.errors.UnhandledCause.{UnhandledCause}
+use Rattle.cfg_types.specs.declared.errors.UnhandledCause.TheVariants.{SsoNoCredentials, SsoNoAccessKey, SsoNoSecretKey}
+use Rattle.cfg_types.specs.declared.errors.sso.CachedSsoTokenError.{CachedSsoTokenError}
+use Rattle.cfg_types.specs.declared.errors.sso.SsoTokenProviderError.{SsoTokenProviderError}
+use Rattle.cfg_types.specs.declared.reply.sso.RoleReply.{RoleReply}
+use Rattle.cfg_types.specs.declared.reply.sso.RoleCredentials.{RoleCredentials}
+use Rattle.cfg_types.specs.declared.request.Request.TheVariants as request
+use Rattle.cfg_world.specs.declared.ask.Question.TheVariants as question
+use Rattle.cfg_world.specs.declared.ask.Answer.{Answer as Given}
+use Rattle.cfg_world.specs.declared.leaves.NotGranted.{NotGranted}
+use Rattle.cfg_world.specs.declared.leaves.NotGranted.TheVariants.{Failed, Refused}
+use Rattle.cfg_world.specs.Fits.{Pair}
+use Rattle.cfg_world.specs.Inquiry.{Reads}
+use Rattle.cfg_world.specs.Leaves.{contents_of, granted_of}
+use Rattle.cfg_profile.specs.Configuration.{Configuration}
+use Rattle.cfg_profile.specs.Settings.{settings_of}
+use Rattle.cfg_token.specs.declared.sections.Sectioned.{Sectioned}
+use Rattle.cfg_token.specs.declared.sso_token.CachedSsoToken.{CachedSsoToken}
+use Rattle.cfg_token.specs.declared.token_key.TokenKey.{TokenKey}
+use Rattle.cfg_token.specs.Sections.{section, answer_of}
+use Rattle.cfg_token.specs.SsoTokens.{Given as GivenBy, sso_rules}
+use Rattle.cfg_keeping.specs.Kinds.{SsoSection, Value, spot_of, sso_in}
+use Rattle.cfg_sso.specs.declared.config.SsoProviderConfig.{SsoProviderConfig}
+use Rattle.cfg_sso.specs.RoleKeys.{Answer, request as request_of}
+use Rattle.cfg_sso.specs.Tokens.{Token, url_path, token_in, of_file, of_section, sso_key}
+
+-- ---- the token
+
+-- The part of a section found this value, and gave this token or error by the rules of the section.
+pub record IsSectionPart (conf : Configuration) (key : TokenKey) (found : List Value) (part : List Pair) (given : GivenBy CachedSsoToken) : Type 0 where
+  pub value : Value
+  pub spot : spot_of value ≡ SsoSection
+  pub finds : found ≡ value ∷ []
+  pub made : Sectioned CachedSsoToken SsoTokenProviderError
+  pub reads : Reads (section sso_rules key conf.environment (settings_of conf) (sso_in value).token (sso_in value).last) part made
+  pub gives : given ≡ answer_of made
+
+-- A file that has no path is not read. Another is read once, and gives what it holds, or why not.
+abbrev pub IsFilePart : Result (List ℕ) CachedSsoTokenError → List Pair → Token → Type 0
+IsFilePart (Err e) part token = (part ≡ []) × (token ≡ of_file (Err e))
+IsFilePart (Ok path) part token = (given : Given) × (part ≡ (question.Read path, given) ∷ []) × (token ≡ of_file (token_in path (contents_of given)))
+
+-- The part of the token: of a section, where a session is named, and else of the start URL's file.
+abbrev pub IsTokenPart : Configuration → List ℕ → Option TokenKey → List Value → List Pair → Token → Type 0
+IsTokenPart conf url None found part token = (found ≡ []) × IsFilePart (url_path url (variable conf.environment (codes "HOME"))) part token
+IsTokenPart conf url (Some key) found part token = (given : GivenBy CachedSsoToken) × IsSectionPart conf key found part given × (token ≡ of_section given)
+
+-- ---- the request
+
+-- why a reply lacks credentials, or these an id or a secret of their access key
+abbrev pub why_keys : Option (List ℕ) → Option (List ℕ) → Option UnhandledCause
+why_keys None secret = Some SsoNoAccessKey
+why_keys (Some id) None = Some SsoNoSecretKey
+why_keys (Some id) (Some secret) = None
+
+abbrev pub why_reply : Option RoleCredentials → Option UnhandledCause
+why_reply None = Some SsoNoCredentials
+why_reply (Some given) = why_keys given.access_key_id given.secret_access_key
+
+-- why a request was not granted, or its reply gives no credentials
+abbrev pub why_granted : Result RoleReply NotGranted → Option CredentialsError
+why_granted (Err (Failed kind)) = Some (ProviderError (cause.Sent kind))
+why_granted (Err (Refused refusal)) = Some (ProviderError (cause.Refused refusal))
+why_granted (Ok reply) = option_map Unhandled (why_reply reply.credentials)
+
+-- Where there is no token nothing is asked, and why there is none is told. With a token the part is one
+-- `GetRoleCredentials`, and why there are no credentials is what its answer shows.
+abbrev pub IsBehind : Configuration → SsoProviderConfig → Token → List Pair → Answer → Type 0
+IsBehind conf sso (Err e) part out = (part ≡ []) × (result_err out ≡ Some e)
+IsBehind conf sso (Ok token) part out =
+    (given : Given) × (part ≡ (question.Send (request.GetRoleCredentials (request_of conf sso token)), given) ∷ []) × (result_err out ≡ why_granted (granted_of role_in given))
+
+-- The part of a call is that of the token, and then that of the request. The answer is an error exactly
+-- where there is no token, or else the request gives nothing, and tells of that.
+pub record SsoCause (conf : Configuration) (sso : SsoProviderConfig) (found : List Value) (part : List Pair) (out : Answer) : Type 0 where
+  pub token_part : List Pair
+  pub role_part : List Pair
+  pub parts : part ≡ token_part ++ role_part
+  pub token : Token
+  pub of_token : IsTokenPart conf sso.start_url (sso_key sso) found token_part token
+  pub behind : IsBehind conf sso token role_part out

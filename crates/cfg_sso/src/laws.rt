@@ -1,0 +1,41 @@
+//! Laws, each on a call that carries it.
+ghost use Rattle.std.specs.Prelude.{◌≡◌, ◌⊎◌, ◌<◌, ℤ, pos, ◌*ℤ◌, List, true, is_ok};
+ghost use Rattle.cfg_values.specs.Instant.{number};
+ghost use Rattle.cfg_world.specs.Fits.{Pair};
+ghost use Rattle.cfg_profile.specs.Configuration.{Configuration};
+ghost use Rattle.cfg_token.specs.declared.token_key.TokenKey.{TokenKey as Key};
+ghost use Rattle.cfg_keeping.specs.Kinds.{Value};
+ghost use Rattle.cfg_keeping.specs.KeptInquiry.{Reads};
+ghost use Rattle.cfg_sso.specs.declared.config.SsoProviderConfig.{SsoProviderConfig as Asked};
+ghost use Rattle.cfg_sso.specs.RoleKeys.{Answer, moment_at};
+ghost use Rattle.cfg_sso.specs.SsoCredentials.{sso_credentials};
+ghost use Rattle.cfg_sso.specs.SsoCauses.{SsoCause};
+ghost use Rattle.cfg_sso.specs.BearerTokens.{Bearer, bearer_token, BearerCause};
+ghost use Rattle.cfg_sso.specs.RoleRequests.{SendsOnce, SendsNothing};
+ghost use Rattle.cfg_sso.specs.InNoWay.{NothingInTheWay};
+
+/// Each answer has its cause: over any part, it is an error exactly where there is no token, or else
+/// the request gives nothing, and tells of that.
+pub fn answers_have_their_causes()
+    ensures credentials { (conf : Configuration) (sso : Asked) (found : List Value) (part : List Pair) (out : Answer) → Reads (sso_credentials conf sso) found part out → SsoCause conf sso found part out }
+    ensures token { (conf : Configuration) (key : Key) (found : List Value) (part : List Pair) (out : Bearer) → Reads (bearer_token conf key) found part out → BearerCause conf key found part out }
+{}
+
+/// Exactly one `GetRoleCredentials` is sent, with the token that the part before it gave and no other;
+/// a session's token ends after the last reading of the clock in its section. Or nothing is sent, and
+/// there are no credentials.
+pub fn one_request_with_an_unexpired_token()
+    ensures { (conf : Configuration) (sso : Asked) (found : List Value) (part : List Pair) (out : Answer) → Reads (sso_credentials conf sso) found part out → SendsOnce conf sso found part ⊎ SendsNothing part out }
+{}
+
+/// Where the home directory is known, the token is in time and the request is granted, there are
+/// credentials.
+pub fn nothing_in_the_way_gives_credentials()
+    ensures { (conf : Configuration) (sso : Asked) (found : List Value) (part : List Pair) (out : Answer) (cause : SsoCause conf sso found part out) → NothingInTheWay conf sso cause.token_part cause.role_part → is_ok out ≡ true }
+{}
+
+/// An expiry in milliseconds is a moment of as many nanoseconds as they are, at both ends of 64 bits too.
+pub fn expiries_are_exact()
+    ensures number { (millis : ℤ) → number (moment_at millis) ≡ millis *ℤ pos 1000000 }
+    ensures below { (millis : ℤ) → (moment_at millis).nanos < 1000000000 }
+{}

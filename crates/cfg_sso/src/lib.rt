@@ -1,0 +1,18 @@
+//! Credentials and tokens of AWS IAM Identity Center. It stands on cfg_token, cfg_keeping and
+//! cfg_profile. The layers above may use that credentials come of one token, of a section of its
+//! session or else of the file that a start URL names, and of one request with it; that each answer has
+//! its cause; and that no token of a session is sent that has expired by the last reading of its
+//! section.
+#![tactic(auto)]
+
+pub mod config;
+pub mod credentials;
+pub mod laws;
+mod role;
+mod section;
+mod start_url;
+pub mod token;
+
+pub use config::SsoProviderConfig;
+pub use credentials::{SsoCredentialsProvider, follow_sso};
+pub use token::SsoTokenProvider;
