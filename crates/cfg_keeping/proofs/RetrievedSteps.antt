@@ -1,5 +1,5 @@
 -- Credentials that are read from a document are those that their receipts tell.
-use Rattle.std.proofs.Common.{◌≡◌, List, ◌∷◌, Option, Some, Ok, IfSome, refl, sym, ◌∙◌, ap}
+use Rattle.std.proofs.Common.{◌≡◌, ◌∷◌, Option, Ok, IfSome, sym, ◌∙◌, ap}
 use Rattle.std.specs.Prelude.{is_some}
 use Rattle.std.specs.Option.{option_to_list}
 use Rattle.cfg_world.specs.declared.ask.Question.TheVariants.{Now, Jitter}

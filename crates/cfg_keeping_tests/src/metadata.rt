@@ -1,7 +1,8 @@
 // Session tokens and retrieved credentials of two places, over scripts: what is asked and answered, and
 // what was found.
 ghost use Rattle.std.specs.Prelude.{◌≡◌, None as none};
-ghost use Rattle.cfg_imds.specs.Clients.{rules_of, endpoint_fault};
+ghost use Rattle.cfg_imds.specs.Clients.{endpoint_fault};
+ghost use Rattle.cfg_keeping.specs.Clients.{client_rules};
 
 use crate::setup::{retrieve, retrieved_words, world_of};
 use cfg_exchange::ClassifyRetry;
@@ -87,7 +88,7 @@ fn token_answer(
     client: &Client,
     world: &mut World<ScriptDevices>,
 ) -> Result<String, OutOfMemory>
-    requires { endpoint_fault (rules_of repeated client.now).endpoint ≡ none }
+    requires { endpoint_fault (client_rules repeated client.now).endpoint ≡ none }
 {
     match imds_token(kept, alloc, place, client, world) {
         Ok(value) => Ok(format!(in alloc; "{value:?}")?),
@@ -120,7 +121,7 @@ fn answer(
     client: &Client,
     world: &mut World<ScriptDevices>,
 ) -> Result<String, OutOfMemory>
-    requires { endpoint_fault (rules_of repeated client.now).endpoint ≡ none }
+    requires { endpoint_fault (client_rules repeated client.now).endpoint ≡ none }
 {
     let place = place_of(word);
     if word.starts_with("token") {
@@ -141,7 +142,7 @@ fn holding_words(
     client: &Client,
     world: &mut World<ScriptDevices>,
 ) -> Result<String, OutOfMemory>
-    requires { endpoint_fault (rules_of repeated client.now).endpoint ≡ none }
+    requires { endpoint_fault (client_rules repeated client.now).endpoint ≡ none }
 {
     world.clear_journal();
     kept.clear_found();
