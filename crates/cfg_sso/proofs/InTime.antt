@@ -1,15 +1,13 @@
 -- Where nothing stands in the way, there are credentials.
-use Rattle.std.proofs.Common.{◌≡◌, ℕ, Bool, true, false, not, ◌&&◌, cond, List, [], ◌∷◌, ◌++◌, Option, Some, None, Result, Ok, Err, refl, sym, ap, ◌∙◌, subst, append-nil}
-use Rattle.std.specs.Prelude.{codes, is_ok, is_some, IsSome, IsOk, option_map}
+use Rattle.std.proofs.Common.{◌≡◌, ℕ, Bool, true, false, not, ◌&&◌, cond, List, [], ◌∷◌, Option, Some, None, Result, Ok, Err, refl, sym, ap, ◌∙◌, subst, append-nil}
+use Rattle.std.specs.Prelude.{codes, is_ok, IsSome, IsOk, option_map}
 use Rattle.std.specs.Result.{result_err}
 use Rattle.std.specs.Str.{encode_utf8_all}
 use Rattle.cfg_values.specs.Moment.{Moment}
 use Rattle.cfg_types.specs.Environment.{Variables, variable}
 use Rattle.cfg_types.specs.Replies.{role_in}
 use Rattle.cfg_types.specs.declared.environment.VarError.{VarError}
-use Rattle.cfg_types.specs.declared.errors.CredentialsError.{CredentialsError}
 use Rattle.cfg_types.specs.declared.errors.CredentialsError.TheVariants.{Unhandled}
-use Rattle.cfg_types.specs.declared.errors.UnhandledCause.{UnhandledCause}
 use Rattle.cfg_types.specs.declared.errors.sso.CachedSsoTokenError.{CachedSsoTokenError}
 use Rattle.cfg_types.specs.declared.errors.sso.SsoTokenProviderError.{SsoTokenProviderError}
 use Rattle.cfg_types.specs.declared.reply.sso.RoleReply.{RoleReply}
@@ -20,7 +18,7 @@ use Rattle.cfg_world.specs.declared.ask.Answer.TheVariants as answer
 use Rattle.cfg_world.specs.declared.ask.Question.TheVariants as question
 use Rattle.cfg_world.specs.declared.leaves.NotGranted.{NotGranted}
 use Rattle.cfg_world.specs.Fits.{Pair}
-use Rattle.cfg_world.specs.Inquiry.{Inquiry, Done, Ask, Reads, after}
+use Rattle.cfg_world.specs.Inquiry.{Inquiry, Done, Ask, after}
 use Rattle.cfg_world.specs.Leaves.{clock, moment_of, contents_of, granted_of}
 use Rattle.cfg_profile.specs.Configuration.{Configuration}
 use Rattle.cfg_profile.specs.Settings.{settings_of}
@@ -33,20 +31,20 @@ use Rattle.cfg_token.specs.declared.sections.Sectioned.TheVariants.{Hit, Load}
 use Rattle.cfg_token.specs.declared.sso_token.CachedSsoToken.{CachedSsoToken}
 use Rattle.cfg_token.specs.declared.steps.Loaded.{Loaded}
 use Rattle.cfg_token.specs.declared.token_key.TokenKey.{TokenKey}
-use Rattle.cfg_token.specs.declared.token_key.TokenKey.TheVariants.{Sso, Login}
-use Rattle.cfg_token.specs.Decisions.{decision, is_expired, is_soon, is_refreshable}
+use Rattle.cfg_token.specs.declared.token_key.TokenKey.TheVariants.{Sso}
+use Rattle.cfg_token.specs.Decisions.{decision, is_soon, is_refreshable}
 use Rattle.cfg_token.specs.Moments.{is_before, more}
 use Rattle.cfg_token.specs.Sections
 use Rattle.cfg_token.specs.SsoFile.{sso_file}
 use Rattle.cfg_token.specs.SsoText.{sso_text}
-use Rattle.cfg_token.specs.SsoTokens.{Given as GivenBy, is_sso, home_path, key_path, loaded, sso_renewal, sso_rules}
+use Rattle.cfg_token.specs.SsoTokens.{Given as GivenBy, home_path, loaded, sso_renewal, sso_rules}
 use Rattle.cfg_token.proofs.Outcomes.{Gives, gives_reads, gives_after, gives_more}
 use Rattle.cfg_keeping.specs.Kinds.{Value, sso_in}
 use Rattle.cfg_sso.specs.declared.config.SsoProviderConfig.{SsoProviderConfig}
 use Rattle.cfg_sso.specs.RoleKeys.{Answer}
-use Rattle.cfg_sso.specs.Tokens.{Token, url_path, token_in, of_file, of_section, key_by, sso_key}
+use Rattle.cfg_sso.specs.Tokens.{Token, url_path, token_in, of_file, of_section, key_by}
 use Rattle.cfg_sso.specs.SsoCauses.{IsSectionPart, IsFilePart, IsTokenPart, why_keys, why_reply, why_granted, IsBehind, SsoCause}
-use Rattle.cfg_sso.specs.InNoWay.{ok_token, held_token, IsWritten, IsRenewed, IsRefreshed, IsInTime, IsSectionInTime, IsTokenInTime, HasKeys, HoldsKeys, IsGranted, AreGranted, NothingInTheWay}
+use Rattle.cfg_sso.specs.InNoWay.{ok_token, held_token, IsWritten, IsRenewed, IsRefreshed, IsInTime, IsSectionInTime, IsTokenInTime, HoldsKeys, IsGranted, AreGranted, NothingInTheWay}
 
 abbrev Made : Type 0
 Made = Sectioned CachedSsoToken SsoTokenProviderError
@@ -115,12 +113,12 @@ module _ (key : TokenKey) (settings : CallSettings) (last : Option Moment) (path
       let now = moment_of a in
       let d = decision sso_rules file last now in
       gives_more (Sections.decides sso_rules key settings path file now d) (λ part l. IfFine (IsRefreshed key file now part) l)
-          (λ part l. IfFine ((is_before now file.expires_at ≡ true) × IsRefreshed key file now part) l) (λ part l f h. f h.1)
-          (decides_fine key settings path file now d is (decided file last now is))
+      (λ part l. IfFine ((is_before now file.expires_at ≡ true) × IsRefreshed key file now part) l) (λ part l f h. f h.1)
+      (decides_fine key settings path file now d is (decided file last now is))
   by_second file a false is =
       let now = moment_of a in
       gives_all (Sections.decides sso_rules key settings path file now (decision sso_rules file last now))
-          (λ part l. IfFine ((is_before now file.expires_at ≡ true) × IsRefreshed key file now part) l) (λ part l h. absurd (never (sym is ∙ h.0)))
+      (λ part l. IfFine ((is_before now file.expires_at ≡ true) × IsRefreshed key file now part) l) (λ part l h. absurd (never (sym is ∙ h.0)))
 
   -- what stands behind a file
   abbrev Behind : Option CachedSsoToken → List Pair → Type 0

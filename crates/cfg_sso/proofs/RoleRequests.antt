@@ -1,5 +1,5 @@
 -- One request for a role, with the token of the part before it.
-use Rattle.std.proofs.Common.{◌≡◌, ℕ, List, [], ◌∷◌, ◌++◌, true, false, Option, Some, None, IfSome, Result, Ok, Err, refl, sym, ap, ◌∙◌, subst, append-nil, inl, inr}
+use Rattle.std.proofs.Common.{◌≡◌, ℕ, List, ◌++◌, false, Option, Some, None, IfSome, Result, Ok, Err, refl, sym, ap, ◌∙◌, subst, append-nil, inl, inr}
 use Rattle.std.specs.Prelude.{◌⊎◌, codes, is_ok, IfOk}
 use Rattle.std.specs.Result.{result_err}
 use Rattle.cfg_types.specs.Environment.{variable}
@@ -15,7 +15,7 @@ use Rattle.cfg_keeping.specs.Kinds.{Value, sso_in}
 use Rattle.cfg_sso.specs.declared.config.SsoProviderConfig.{SsoProviderConfig}
 use Rattle.cfg_sso.specs.RoleKeys.{Answer}
 use Rattle.cfg_sso.specs.Tokens.{Token, url_path, of_section, sso_key}
-use Rattle.cfg_sso.specs.SsoCauses.{IsSectionPart, IsFilePart, IsTokenPart, IsBehind, SsoCause}
+use Rattle.cfg_sso.specs.SsoCauses.{IsFilePart, IsTokenPart, IsBehind, SsoCause}
 use Rattle.cfg_sso.specs.RoleRequests.{AsksNoRole, last_reading, EndsAfter, SendsOnce, SendsNothing}
 use Rattle.cfg_sso.proofs.SectionWalks.{section_asks_no_role, section_lasts}
 

@@ -1,5 +1,5 @@
 -- What a section asks, and by which reading its token lasts.
-use Rattle.std.proofs.Common.{◌≡◌, ℕ, Bool, true, false, cond, List, [], ◌∷◌, ◌++◌, Option, Some, None, Result, Ok, Err, refl, sym, ap, subst, append-nil, arith}
+use Rattle.std.proofs.Common.{◌≡◌, ℕ, Bool, true, false, cond, List, [], ◌∷◌, Option, Some, None, Result, Ok, Err, refl, sym, subst, append-nil, arith}
 use Rattle.std.specs.Prelude.{ℤ, ◌+ℤ◌, int_lt, IfOk}
 use Rattle.std.proofs.lemmas.Int.{ints}
 use Rattle.cfg_values.specs.Instant.{number, nanos_in}
@@ -8,10 +8,9 @@ use Rattle.cfg_types.specs.Environment.{Variables}
 use Rattle.cfg_types.specs.declared.errors.sso.SsoTokenProviderError.{SsoTokenProviderError}
 use Rattle.cfg_types.specs.declared.settings.CallSettings.{CallSettings}
 use Rattle.cfg_world.specs.declared.ask.Answer.{Answer as Given}
-use Rattle.cfg_world.specs.declared.ask.Answer.TheVariants as answer
 use Rattle.cfg_world.specs.declared.ask.Question.TheVariants as question
 use Rattle.cfg_world.specs.Fits.{Pair}
-use Rattle.cfg_world.specs.Inquiry.{Inquiry, Done, Reads, after}
+use Rattle.cfg_world.specs.Inquiry.{Done, Reads, after}
 use Rattle.cfg_world.specs.Leaves.{clock, moment_of}
 use Rattle.cfg_token.specs.declared.decision.Decision.{Decision}
 use Rattle.cfg_token.specs.declared.decision.Decision.TheVariants.{Use, Refresh, Refuse}
@@ -58,7 +57,7 @@ decides_rest key settings path file now Use = (tt, refl)
 decides_rest key settings path file now Refresh = λ a.
     let r = sso_rules.renewal key file now a in
     gives_more (Sections.renews sso_rules path file now r) (λ part l. IsRest now part)
-        (λ part l. IsRest now ((question.Send (sso_rules.request key settings file), a) ∷ part)) (λ part l h. ((refl, h.0), h.1)) (renews_rest path file now r)
+    (λ part l. IsRest now ((question.Send (sso_rules.request key settings file), a) ∷ part)) (λ part l h. ((refl, h.0), h.1)) (renews_rest path file now r)
 
 -- A load asks nothing for a role, and where it gives a token its second reading is the last.
 abbrev IsLoadPart : List Pair → Outcome → Type 0
@@ -76,8 +75,8 @@ judges_part key settings last path read (Ok file) = λ a.
     let now = moment_of a in
     let d = decision sso_rules file last now in
     gives_more (Sections.decides sso_rules key settings path file now d) (λ part l. IsRest now part)
-        (λ part l. IsLoadPart ((question.Read path, read) ∷ (question.Now, a) ∷ part) l)
-        (λ part l h. ((refl, (refl, h.0)), λ first before. whatever l.outcome h.1)) (decides_rest key settings path file now d)
+    (λ part l. IsLoadPart ((question.Read path, read) ∷ (question.Now, a) ∷ part) l)
+    (λ part l h. ((refl, (refl, h.0)), λ first before. whatever l.outcome h.1)) (decides_rest key settings path file now d)
 
 loads_part : (key : TokenKey) (settings : CallSettings) (last : Option Moment) (path : Result (List ℕ) SsoTokenProviderError) → Gives (Sections.loads_from sso_rules key settings last path) IsLoadPart
 unfolding Sections.file

@@ -4,7 +4,6 @@ use Rattle.std.specs.Prelude.{option_map, codes}
 use Rattle.std.specs.Result.{result_err}
 use Rattle.cfg_types.specs.Environment.{variable}
 use Rattle.cfg_types.specs.Replies.{role_in}
-use Rattle.cfg_types.specs.declared.errors.CredentialsError.{CredentialsError}
 use Rattle.cfg_types.specs.declared.errors.CredentialsError.TheVariants.{Unhandled}
 use Rattle.cfg_types.specs.declared.errors.sso.CachedSsoTokenError.{CachedSsoTokenError}
 use Rattle.cfg_types.specs.declared.reply.sso.RoleReply.{RoleReply}
@@ -49,8 +48,7 @@ left_alone at made (f ∷ found) part out h = absurd h
 given_then : {A B : Type 0} (p : KeptInquiry A) (g : A → B) (found : List Value) (part : List Pair) (out : B) → Reads (onwards p (λ x. Gives (g x))) found part out → (x : A) × Reads p found part x × (out ≡ g x)
 given_then p g found part out h =
     let s = split_onwards p (λ x. Gives (g x)) found part out h in
-    let a = given_alone (g s.middle) s.found_then s.rest out s.then in
-    (
+    let a = given_alone (g s.middle) s.found_then s.rest out s.then in (
       s.middle,
       subst (λ f. Reads p f part s.middle) (sym (s.finds ∙ ap (λ t. s.found_first ++ t) a.0 ∙ append-nil s.found_first))
           (subst (λ J. Reads p s.found_first J s.middle) (sym (s.parts ∙ ap (λ t. s.part ++ t) a.1 ∙ append-nil s.part)) s.first),

@@ -1,5 +1,5 @@
 -- How the calls of a provider of IAM Identity Center are put together.
-use Rattle.std.proofs.Common.{◌≡◌, List, Option, Some, None, IfSome, Result, Ok, Err, refl, sym, ◌∙◌, ap, subst}
+use Rattle.std.proofs.Common.{◌≡◌, List, Option, Some, None, IfSome, Result, Ok, Err, sym, ◌∙◌, ap, subst}
 use Rattle.std.specs.Prelude.{ℕ, true, is_some, IsSome}
 use Rattle.cfg_types.specs.Environment.{Variables}
 use Rattle.cfg_types.specs.declared.settings.CallSettings.{CallSettings}
@@ -15,7 +15,7 @@ use Rattle.cfg_token.specs.declared.sso_token.CachedSsoToken.{CachedSsoToken}
 use Rattle.cfg_token.specs.declared.token_key.TokenKey.{TokenKey}
 use Rattle.cfg_token.specs.declared.token_key.TokenKey.TheVariants.{Sso}
 use Rattle.cfg_token.specs.SsoTokens.{Given}
-use Rattle.cfg_keeping.specs.KeptInquiry.{KeptInquiry, Gives, lift, onwards}
+use Rattle.cfg_keeping.specs.KeptInquiry.{KeptInquiry, Gives, lift}
 use Rattle.cfg_keeping.specs.KeyedStates.{is_sso_key}
 use Rattle.cfg_keeping.specs.Holds.{Holdings, HoldsEnds, HoldsBreaks, HoldsHalts, HoldsFollows}
 use Rattle.cfg_keeping.specs.SsoHoldings.{sso_holding}

@@ -1,5 +1,5 @@
 -- What is sent for the credentials of a role, and with which token.
-use Rattle.std.specs.Prelude.{◌≡◌, List, [], ◌∷◌, ◌++◌, Bool, true, false, Option, Some, None, IfSome, Result, Ok, Err, is_ok}
+use Rattle.std.specs.Prelude.{◌≡◌, List, [], ◌∷◌, ◌++◌, Bool, true, false, Option, Some, None, IfSome, Ok, is_ok}
 use Rattle.cfg_values.specs.Moment.{Moment}
 use Rattle.cfg_types.specs.declared.request.Request.TheVariants as request
 use Rattle.cfg_world.specs.declared.ask.Question.{Question}

@@ -1,5 +1,5 @@
 -- Credentials of IAM Identity Center.
-use Rattle.std.specs.Prelude.{Result, Ok, Err}
+use Rattle.std.specs.Prelude.{Ok, Err}
 use Rattle.cfg_world.specs.Inquiry.{Inquiry, Done}
 use Rattle.cfg_keeping.specs.KeptInquiry.{KeptInquiry, lift, onwards}
 use Rattle.cfg_profile.specs.Configuration.{Configuration}

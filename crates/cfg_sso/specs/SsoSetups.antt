@@ -1,7 +1,7 @@
 -- What providers of IAM Identity Center are set to.
-use Rattle.std.specs.Prelude.{◌≡◌, ℕ, List, Bool, ◌&&◌, true, Option, Some, None, is_some, refl}
+use Rattle.std.specs.Prelude.{◌≡◌, ℕ, List, Bool, ◌&&◌, Option, Some, None, is_some, refl}
 use Rattle.std.specs.Coded.{Coded, code_by, coded×, coded_ℕ, coded_list, coded_option}
-use Rattle.cfg_profile.specs.Configuration.{Configuration, configuration_code, nothing_configured}
+use Rattle.cfg_profile.specs.Configuration.{Configuration, configuration_code}
 use Rattle.cfg_token.specs.declared.token_key.TokenKey.{TokenKey}
 use Rattle.cfg_token.specs.declared.token_key.TokenKey.TheVariants.{Sso}
 use Rattle.cfg_token.specs.contracts.token_key.TokenKey as token_key

@@ -9,7 +9,6 @@ use Rattle.cfg_types.specs.declared.errors.ProviderCause.TheVariants as cause
 use Rattle.cfg_types.specs.declared.errors.sso.CachedSsoTokenError.{CachedSsoTokenError}
 use Rattle.cfg_types.specs.declared.errors.sso.CachedSsoTokenError.TheVariants.{IoError, NoHomeDirectory}
 use Rattle.cfg_types.specs.declared.errors.sso.IoStep.TheVariants as step
-use Rattle.cfg_types.specs.declared.errors.sso.SsoTokenProviderError.{SsoTokenProviderError}
 use Rattle.cfg_types.specs.declared.reply.FailKind.{FailKind}
 use Rattle.cfg_world.specs.Inquiry.{Inquiry, Done, after}
 use Rattle.cfg_world.specs.Leaves.{reading_file}

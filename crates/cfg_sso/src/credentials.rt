@@ -255,9 +255,7 @@ impl Builder {
         let Some(account_id) = account_id else {
             unreachable!()
         };
-        let Some(region) = region else {
-            unreachable!()
-        };
+        let Some(region) = region else { unreachable!() };
         let Some(role_name) = role_name else {
             unreachable!()
         };

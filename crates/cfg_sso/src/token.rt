@@ -143,9 +143,7 @@ impl Builder {
             session_name,
             start_url,
         } = self;
-        let Some(region) = region else {
-            unreachable!()
-        };
+        let Some(region) = region else { unreachable!() };
         let Some(session) = session_name else {
             unreachable!()
         };

@@ -95,16 +95,56 @@ fn words_of(
 #[test]
 fn calls_of_a_session(rt: HostRuntime) -> Result<(), Fail> {
     let table: &[(usize, &str, &str)] = &[
-        (3, r#"{"variables":[["HOME","/home/u"]],"clock":[0,0,3299,3300,3300],"files":[["/home/u/.aws/sso/cache/a9993e364706816aba3e25717850c26c9cd0d89d.json","{\"accessToken\":\"t\",\"expiresAt\":\"1970-01-01T01:00:00Z\"}"]],"replies":{"role-credentials":[{"id":"R1","secret":"S1","token":"T1","expires_ms":5000000},{"id":"R2","secret":"S2","token":"T2","expires_ms":5000000},{"id":"R3","secret":"S3","token":"T3","expires_ms":5000000}]}}"#, r#"Credentials { provider_name: "SSO", access_key_id: "R1", secret_access_key: "** redacted **", expires_after: 5000 s 0 ns, account_id: "1" } S1 Some("T1") [CredentialsSso] now read now role-credentials; Credentials { provider_name: "SSO", access_key_id: "R2", secret_access_key: "** redacted **", expires_after: 5000 s 0 ns, account_id: "1" } S2 Some("T2") [CredentialsSso] now role-credentials; Credentials { provider_name: "SSO", access_key_id: "R3", secret_access_key: "** redacted **", expires_after: 5000 s 0 ns, account_id: "1" } S3 Some("T3") [CredentialsSso] now read now role-credentials; "#),
-        (4, r#"{"variables":[["HOME","/home/u"]],"clock":[1000,1000,1029,1029,990,990,1030,1030],"files":[["/home/u/.aws/sso/cache/a9993e364706816aba3e25717850c26c9cd0d89d.json","{\"accessToken\":\"t\",\"expiresAt\":\"1970-01-01T00:15:00Z\",\"clientId\":\"ci\",\"clientSecret\":\"cs\",\"refreshToken\":\"rt\",\"registrationExpiresAt\":\"1970-01-02T00:00:00Z\"}"]],"replies":{"create-token":[{"refused":"Other","message":"m"},{"refused":"Other","message":"m"}]}}"#, r#"ProviderError(SsoToken(ExpiredToken)) now read now create-token; ProviderError(SsoToken(ExpiredToken)) now read now; ProviderError(SsoToken(ExpiredToken)) now read now; ProviderError(SsoToken(ExpiredToken)) now read now create-token; "#),
-        (2, r#"{"variables":[["HOME","/home/u"]],"clock":[1000,1000,1029,1029],"files":[["/home/u/.aws/sso/cache/a9993e364706816aba3e25717850c26c9cd0d89d.json","{\"accessToken\":\"t\",\"expiresAt\":\"1970-01-01T00:15:00Z\",\"clientId\":\"ci\",\"clientSecret\":\"cs\",\"refreshToken\":\"rt\",\"registrationExpiresAt\":\"1970-01-02T00:00:00Z\"}"]],"replies":{"create-token":[{"access":"t2","expires_in":0},{"access":"t2","expires_in":0}]}}"#, r#"ProviderError(SsoToken(BadExpirationTimeFromSsoOidc(0))) now read now create-token; ProviderError(SsoToken(BadExpirationTimeFromSsoOidc(0))) now read now create-token; "#),
-        (2, r#"{"variables":[["HOME","/home/u"]],"clock":[1000,1000,1000],"files":[["/home/u/.aws/sso/cache/a9993e364706816aba3e25717850c26c9cd0d89d.json","{\"accessToken\":\"t\",\"expiresAt\":\"1970-01-01T00:15:00Z\",\"clientId\":\"ci\",\"clientSecret\":\"cs\",\"refreshToken\":\"rt\",\"registrationExpiresAt\":\"1970-01-02T00:00:00Z\"}"]],"replies":{"role-credentials":[{"id":"R1","secret":"S1","token":"T1","expires_ms":5000000},{"id":"R2","secret":"S2","token":"T2","expires_ms":5000000}],"create-token":[{"access":"t2","refresh":"r2","expires_in":3600}]}}"#, r#"Credentials { provider_name: "SSO", access_key_id: "R1", secret_access_key: "** redacted **", expires_after: 5000 s 0 ns, account_id: "1" } S1 Some("T1") [CredentialsSso] now read now create-token write role-credentials; Credentials { provider_name: "SSO", access_key_id: "R2", secret_access_key: "** redacted **", expires_after: 5000 s 0 ns, account_id: "1" } S2 Some("T2") [CredentialsSso] now role-credentials; "#),
-        (1, r#"{"variables":[["HOME","/home/u"]],"clock":[1000,1000],"files":[["/home/u/.aws/sso/cache/a9993e364706816aba3e25717850c26c9cd0d89d.json","{\"accessToken\":\"t\",\"expiresAt\":\"1970-01-01T00:15:00Z\",\"clientId\":\"ci\",\"clientSecret\":\"cs\",\"refreshToken\":\"rt\",\"registrationExpiresAt\":\"1970-01-02T00:00:00Z\"}"]],"replies":{"create-token":[{"access":"t2","expires_in":3600}]},"unwritable":["/home/u/.aws/sso/cache/a9993e364706816aba3e25717850c26c9cd0d89d.json"]}"#, r#"ProviderError(SsoToken(FailedToLoadToken(IoError { what: Write, path: "/home/u/.aws/sso/cache/a9993e364706816aba3e25717850c26c9cd0d89d.json" }))) now read now create-token write; "#),
-        (1, r#"{"variables":[["HOME","/home/u"]],"clock":[700,700],"files":[["/home/u/.aws/sso/cache/a9993e364706816aba3e25717850c26c9cd0d89d.json","{\"accessToken\":\"t\",\"expiresAt\":\"1970-01-01T00:15:00Z\",\"clientId\":\"ci\",\"clientSecret\":\"cs\",\"refreshToken\":\"rt\",\"registrationExpiresAt\":\"1970-01-02T00:00:00Z\"}"]],"replies":{"role-credentials":[{"id":"R1","secret":"S1","token":"T1","expires_ms":5000000}],"create-token":[{"refused":"Other","message":"m"}]}}"#, r#"Credentials { provider_name: "SSO", access_key_id: "R1", secret_access_key: "** redacted **", expires_after: 5000 s 0 ns, account_id: "1" } S1 Some("T1") [CredentialsSso] now read now create-token role-credentials; "#),
-        (1, r#"{"clock":[5],"files":[["/home/u/.aws/sso/cache/a9993e364706816aba3e25717850c26c9cd0d89d.json","{\"accessToken\":\"t\",\"expiresAt\":\"1970-01-01T01:00:00Z\"}"]]}"#, r#"ProviderError(SsoToken(FailedToLoadToken(NoHomeDirectory))) now; "#),
-        (1, r#"{"variables":[["HOME","/home/u"]],"clock":[0],"files":[["/home/u/.aws/sso/cache/a9993e364706816aba3e25717850c26c9cd0d89d.json","{\"accessToken\":\"t\",\"expiresAt\":\"1970-01-01T01:00:00Z\"} x"]]}"#, r#"ProviderError(SsoToken(FailedToLoadToken(Other("found more JSON tokens after completing parsing")))) now read; "#),
-        (1, r#"{"variables":[["HOME","/home/u"]],"clock":[3600,3600],"files":[["/home/u/.aws/sso/cache/a9993e364706816aba3e25717850c26c9cd0d89d.json","{\"accessToken\":\"t\",\"expiresAt\":\"1970-01-01T01:00:00Z\"}"]]}"#, r#"ProviderError(SsoToken(ExpiredToken)) now read now; "#),
-        (2, r#"{"variables":[["HOME","/home/u"]],"clock":[0,0,1],"files":[["/home/u/.aws/sso/cache/a9993e364706816aba3e25717850c26c9cd0d89d.json","{\"accessToken\":\"t\",\"expiresAt\":\"1970-01-01T01:00:00Z\"}"]],"replies":{"role-credentials":["dispatch",{"refused":"Other","message":"m"}]}}"#, r#"ProviderError(Sent(Dispatch)) now read now role-credentials; ProviderError(Refused(Refusal { kind: Other, message: "m" })) now role-credentials; "#),
+        (
+            3,
+            r#"{"variables":[["HOME","/home/u"]],"clock":[0,0,3299,3300,3300],"files":[["/home/u/.aws/sso/cache/a9993e364706816aba3e25717850c26c9cd0d89d.json","{\"accessToken\":\"t\",\"expiresAt\":\"1970-01-01T01:00:00Z\"}"]],"replies":{"role-credentials":[{"id":"R1","secret":"S1","token":"T1","expires_ms":5000000},{"id":"R2","secret":"S2","token":"T2","expires_ms":5000000},{"id":"R3","secret":"S3","token":"T3","expires_ms":5000000}]}}"#,
+            r#"Credentials { provider_name: "SSO", access_key_id: "R1", secret_access_key: "** redacted **", expires_after: 5000 s 0 ns, account_id: "1" } S1 Some("T1") [CredentialsSso] now read now role-credentials; Credentials { provider_name: "SSO", access_key_id: "R2", secret_access_key: "** redacted **", expires_after: 5000 s 0 ns, account_id: "1" } S2 Some("T2") [CredentialsSso] now role-credentials; Credentials { provider_name: "SSO", access_key_id: "R3", secret_access_key: "** redacted **", expires_after: 5000 s 0 ns, account_id: "1" } S3 Some("T3") [CredentialsSso] now read now role-credentials; "#,
+        ),
+        (
+            4,
+            r#"{"variables":[["HOME","/home/u"]],"clock":[1000,1000,1029,1029,990,990,1030,1030],"files":[["/home/u/.aws/sso/cache/a9993e364706816aba3e25717850c26c9cd0d89d.json","{\"accessToken\":\"t\",\"expiresAt\":\"1970-01-01T00:15:00Z\",\"clientId\":\"ci\",\"clientSecret\":\"cs\",\"refreshToken\":\"rt\",\"registrationExpiresAt\":\"1970-01-02T00:00:00Z\"}"]],"replies":{"create-token":[{"refused":"Other","message":"m"},{"refused":"Other","message":"m"}]}}"#,
+            r#"ProviderError(SsoToken(ExpiredToken)) now read now create-token; ProviderError(SsoToken(ExpiredToken)) now read now; ProviderError(SsoToken(ExpiredToken)) now read now; ProviderError(SsoToken(ExpiredToken)) now read now create-token; "#,
+        ),
+        (
+            2,
+            r#"{"variables":[["HOME","/home/u"]],"clock":[1000,1000,1029,1029],"files":[["/home/u/.aws/sso/cache/a9993e364706816aba3e25717850c26c9cd0d89d.json","{\"accessToken\":\"t\",\"expiresAt\":\"1970-01-01T00:15:00Z\",\"clientId\":\"ci\",\"clientSecret\":\"cs\",\"refreshToken\":\"rt\",\"registrationExpiresAt\":\"1970-01-02T00:00:00Z\"}"]],"replies":{"create-token":[{"access":"t2","expires_in":0},{"access":"t2","expires_in":0}]}}"#,
+            r#"ProviderError(SsoToken(BadExpirationTimeFromSsoOidc(0))) now read now create-token; ProviderError(SsoToken(BadExpirationTimeFromSsoOidc(0))) now read now create-token; "#,
+        ),
+        (
+            2,
+            r#"{"variables":[["HOME","/home/u"]],"clock":[1000,1000,1000],"files":[["/home/u/.aws/sso/cache/a9993e364706816aba3e25717850c26c9cd0d89d.json","{\"accessToken\":\"t\",\"expiresAt\":\"1970-01-01T00:15:00Z\",\"clientId\":\"ci\",\"clientSecret\":\"cs\",\"refreshToken\":\"rt\",\"registrationExpiresAt\":\"1970-01-02T00:00:00Z\"}"]],"replies":{"role-credentials":[{"id":"R1","secret":"S1","token":"T1","expires_ms":5000000},{"id":"R2","secret":"S2","token":"T2","expires_ms":5000000}],"create-token":[{"access":"t2","refresh":"r2","expires_in":3600}]}}"#,
+            r#"Credentials { provider_name: "SSO", access_key_id: "R1", secret_access_key: "** redacted **", expires_after: 5000 s 0 ns, account_id: "1" } S1 Some("T1") [CredentialsSso] now read now create-token write role-credentials; Credentials { provider_name: "SSO", access_key_id: "R2", secret_access_key: "** redacted **", expires_after: 5000 s 0 ns, account_id: "1" } S2 Some("T2") [CredentialsSso] now role-credentials; "#,
+        ),
+        (
+            1,
+            r#"{"variables":[["HOME","/home/u"]],"clock":[1000,1000],"files":[["/home/u/.aws/sso/cache/a9993e364706816aba3e25717850c26c9cd0d89d.json","{\"accessToken\":\"t\",\"expiresAt\":\"1970-01-01T00:15:00Z\",\"clientId\":\"ci\",\"clientSecret\":\"cs\",\"refreshToken\":\"rt\",\"registrationExpiresAt\":\"1970-01-02T00:00:00Z\"}"]],"replies":{"create-token":[{"access":"t2","expires_in":3600}]},"unwritable":["/home/u/.aws/sso/cache/a9993e364706816aba3e25717850c26c9cd0d89d.json"]}"#,
+            r#"ProviderError(SsoToken(FailedToLoadToken(IoError { what: Write, path: "/home/u/.aws/sso/cache/a9993e364706816aba3e25717850c26c9cd0d89d.json" }))) now read now create-token write; "#,
+        ),
+        (
+            1,
+            r#"{"variables":[["HOME","/home/u"]],"clock":[700,700],"files":[["/home/u/.aws/sso/cache/a9993e364706816aba3e25717850c26c9cd0d89d.json","{\"accessToken\":\"t\",\"expiresAt\":\"1970-01-01T00:15:00Z\",\"clientId\":\"ci\",\"clientSecret\":\"cs\",\"refreshToken\":\"rt\",\"registrationExpiresAt\":\"1970-01-02T00:00:00Z\"}"]],"replies":{"role-credentials":[{"id":"R1","secret":"S1","token":"T1","expires_ms":5000000}],"create-token":[{"refused":"Other","message":"m"}]}}"#,
+            r#"Credentials { provider_name: "SSO", access_key_id: "R1", secret_access_key: "** redacted **", expires_after: 5000 s 0 ns, account_id: "1" } S1 Some("T1") [CredentialsSso] now read now create-token role-credentials; "#,
+        ),
+        (
+            1,
+            r#"{"clock":[5],"files":[["/home/u/.aws/sso/cache/a9993e364706816aba3e25717850c26c9cd0d89d.json","{\"accessToken\":\"t\",\"expiresAt\":\"1970-01-01T01:00:00Z\"}"]]}"#,
+            r#"ProviderError(SsoToken(FailedToLoadToken(NoHomeDirectory))) now; "#,
+        ),
+        (
+            1,
+            r#"{"variables":[["HOME","/home/u"]],"clock":[0],"files":[["/home/u/.aws/sso/cache/a9993e364706816aba3e25717850c26c9cd0d89d.json","{\"accessToken\":\"t\",\"expiresAt\":\"1970-01-01T01:00:00Z\"} x"]]}"#,
+            r#"ProviderError(SsoToken(FailedToLoadToken(Other("found more JSON tokens after completing parsing")))) now read; "#,
+        ),
+        (
+            1,
+            r#"{"variables":[["HOME","/home/u"]],"clock":[3600,3600],"files":[["/home/u/.aws/sso/cache/a9993e364706816aba3e25717850c26c9cd0d89d.json","{\"accessToken\":\"t\",\"expiresAt\":\"1970-01-01T01:00:00Z\"}"]]}"#,
+            r#"ProviderError(SsoToken(ExpiredToken)) now read now; "#,
+        ),
+        (
+            2,
+            r#"{"variables":[["HOME","/home/u"]],"clock":[0,0,1],"files":[["/home/u/.aws/sso/cache/a9993e364706816aba3e25717850c26c9cd0d89d.json","{\"accessToken\":\"t\",\"expiresAt\":\"1970-01-01T01:00:00Z\"}"]],"replies":{"role-credentials":["dispatch",{"refused":"Other","message":"m"}]}}"#,
+            r#"ProviderError(Sent(Dispatch)) now read now role-credentials; ProviderError(Refused(Refusal { kind: Other, message: "m" })) now role-credentials; "#,
+        ),
     ];
     for (calls, script, want) in table {
         let words = words_of(rt.alloc(), "abc", *calls, false, *script)?;
@@ -116,16 +156,46 @@ fn calls_of_a_session(rt: HostRuntime) -> Result<(), Fail> {
 #[test]
 fn files_of_a_start_url(rt: HostRuntime) -> Result<(), Fail> {
     let table: &[(&str, &str)] = &[
-        (r#""{\"accessToken\":\"t\",\"expiresAt\":\"1970-01-01T01:00:00Z\"}""#, r#"Credentials { provider_name: "SSO", access_key_id: "R1", secret_access_key: "** redacted **", expires_after: 5000 s 0 ns, account_id: "1" } S1 Some("T1") [CredentialsSso] read role-credentials; "#),
-        (r#""{\"accessToken\":\"t\",\"expiresAt\":\"0001-01-01T00:00:00Z\"}""#, r#"Credentials { provider_name: "SSO", access_key_id: "R1", secret_access_key: "** redacted **", expires_after: 5000 s 0 ns, account_id: "1" } S1 Some("T1") [CredentialsSso] read role-credentials; "#),
-        (r#""{\"accessToken\":\"t\",\"expiresAt\":\"1970-01-01T01:00:00Z\"} x""#, r#"ProviderError(SsoFile(Other("found more JSON tokens after completing parsing"))) read; "#),
-        (r#""x""#, r#"ProviderError(SsoFile(Other("expected a JSON document starting with `{`"))) read; "#),
-        (r#""{\"accessToken\":""#, r#"ProviderError(SsoFile(JsonError)) read; "#),
-        (r#""{\"expiresAt\":\"1970-01-01T01:00:00Z\"}""#, r#"ProviderError(SsoFile(MissingField(AccessToken))) read; "#),
-        (r#""{\"accessToken\":\"t\"}""#, r#"ProviderError(SsoFile(MissingField(LowerExpiresAt))) read; "#),
-        (r#""{\"accessToken\":\"t\",\"expiresAt\":\"1970\"}""#, r#"ProviderError(SsoFile(InvalidField(LowerExpiresAt))) read; "#),
-        (r#""{\"accessToken\":\"t\",\"expiresAt\":\"1970-01-01T01:00:00Z\",\"registrationExpiresAt\":\"x\"}""#, r#"ProviderError(SsoFile(InvalidField(RegistrationExpiresAt))) read; "#),
-        (r#"null"#, r#"ProviderError(SsoFile(IoError { what: Read, path: "/home/u/.aws/sso/cache/a9993e364706816aba3e25717850c26c9cd0d89d.json" })) read; "#),
+        (
+            r#""{\"accessToken\":\"t\",\"expiresAt\":\"1970-01-01T01:00:00Z\"}""#,
+            r#"Credentials { provider_name: "SSO", access_key_id: "R1", secret_access_key: "** redacted **", expires_after: 5000 s 0 ns, account_id: "1" } S1 Some("T1") [CredentialsSso] read role-credentials; "#,
+        ),
+        (
+            r#""{\"accessToken\":\"t\",\"expiresAt\":\"0001-01-01T00:00:00Z\"}""#,
+            r#"Credentials { provider_name: "SSO", access_key_id: "R1", secret_access_key: "** redacted **", expires_after: 5000 s 0 ns, account_id: "1" } S1 Some("T1") [CredentialsSso] read role-credentials; "#,
+        ),
+        (
+            r#""{\"accessToken\":\"t\",\"expiresAt\":\"1970-01-01T01:00:00Z\"} x""#,
+            r#"ProviderError(SsoFile(Other("found more JSON tokens after completing parsing"))) read; "#,
+        ),
+        (
+            r#""x""#,
+            r#"ProviderError(SsoFile(Other("expected a JSON document starting with `{`"))) read; "#,
+        ),
+        (
+            r#""{\"accessToken\":""#,
+            r#"ProviderError(SsoFile(JsonError)) read; "#,
+        ),
+        (
+            r#""{\"expiresAt\":\"1970-01-01T01:00:00Z\"}""#,
+            r#"ProviderError(SsoFile(MissingField(AccessToken))) read; "#,
+        ),
+        (
+            r#""{\"accessToken\":\"t\"}""#,
+            r#"ProviderError(SsoFile(MissingField(LowerExpiresAt))) read; "#,
+        ),
+        (
+            r#""{\"accessToken\":\"t\",\"expiresAt\":\"1970\"}""#,
+            r#"ProviderError(SsoFile(InvalidField(LowerExpiresAt))) read; "#,
+        ),
+        (
+            r#""{\"accessToken\":\"t\",\"expiresAt\":\"1970-01-01T01:00:00Z\",\"registrationExpiresAt\":\"x\"}""#,
+            r#"ProviderError(SsoFile(InvalidField(RegistrationExpiresAt))) read; "#,
+        ),
+        (
+            r#"null"#,
+            r#"ProviderError(SsoFile(IoError { what: Read, path: "/home/u/.aws/sso/cache/a9993e364706816aba3e25717850c26c9cd0d89d.json" })) read; "#,
+        ),
     ];
     for (file, want) in table {
         let script = format!(in rt.alloc();
@@ -135,7 +205,10 @@ fn files_of_a_start_url(rt: HostRuntime) -> Result<(), Fail> {
         assert_eq!(rt; words.as_str(), *want, "{file}");
     }
     let homeless = words_of(rt.alloc(), "", 1, false, "{}")?;
-    assert_eq!(rt; homeless.as_str(), "ProviderError(SsoFile(NoHomeDirectory)); ");
+    assert_eq!(rt;
+        homeless.as_str(),
+        "ProviderError(SsoFile(NoHomeDirectory)); "
+    );
     Ok(())
 }
 
@@ -151,15 +224,30 @@ fn replied(alloc: Global, reply: &str) -> Result<String, OutOfMemory> {
 fn replies_to_get_role_credentials(rt: HostRuntime) -> Result<(), Fail> {
     let table: &[(&str, &str)] = &[
         (r#"null"#, r#"Unhandled(SsoNoCredentials)"#),
-        (r#"{"secret":"S","expires_ms":1}"#, r#"Unhandled(SsoNoAccessKey)"#),
-        (r#"{"id":"I","expires_ms":1}"#, r#"Unhandled(SsoNoSecretKey)"#),
+        (
+            r#"{"secret":"S","expires_ms":1}"#,
+            r#"Unhandled(SsoNoAccessKey)"#,
+        ),
+        (
+            r#"{"id":"I","expires_ms":1}"#,
+            r#"Unhandled(SsoNoSecretKey)"#,
+        ),
         (r#"{"expires_ms":1}"#, r#"Unhandled(SsoNoAccessKey)"#),
         (r#""dispatch""#, r#"ProviderError(Sent(Dispatch))"#),
         (r#""timeout""#, r#"ProviderError(Sent(Timeout))"#),
         (r#""broken""#, r#"ProviderError(Sent(Broken))"#),
-        (r#"{"refused":"RegionDisabled","message":"m"}"#, r#"ProviderError(Refused(Refusal { kind: RegionDisabled, message: "m" }))"#),
-        (r#"{"id":"R1","secret":"S1","expires_ms":5000000}"#, r#"Credentials { provider_name: "SSO", access_key_id: "R1", secret_access_key: "** redacted **", expires_after: 5000 s 0 ns, account_id: "1" } S1 None [CredentialsSso]"#),
-        (r#"{"id":"","secret":"","expires_ms":0}"#, r#"Credentials { provider_name: "SSO", access_key_id: "", secret_access_key: "** redacted **", expires_after: 0 s 0 ns, account_id: "1" }  None [CredentialsSso]"#),
+        (
+            r#"{"refused":"RegionDisabled","message":"m"}"#,
+            r#"ProviderError(Refused(Refusal { kind: RegionDisabled, message: "m" }))"#,
+        ),
+        (
+            r#"{"id":"R1","secret":"S1","expires_ms":5000000}"#,
+            r#"Credentials { provider_name: "SSO", access_key_id: "R1", secret_access_key: "** redacted **", expires_after: 5000 s 0 ns, account_id: "1" } S1 None [CredentialsSso]"#,
+        ),
+        (
+            r#"{"id":"","secret":"","expires_ms":0}"#,
+            r#"Credentials { provider_name: "SSO", access_key_id: "", secret_access_key: "** redacted **", expires_after: 0 s 0 ns, account_id: "1" }  None [CredentialsSso]"#,
+        ),
     ];
     for (reply, want) in table {
         let words = replied(rt.alloc(), *reply)?;
@@ -198,8 +286,16 @@ fn expiries_in_milliseconds(rt: HostRuntime) -> Result<(), Fail> {
 #[test]
 fn requests_of_credentials(rt: HostRuntime) -> Result<(), Fail> {
     let table: &[(&str, &str, &str)] = &[
-        ("abc", r#"{"variables":[["HOME","/home/u"]],"clock":[1000,1000],"files":[["/home/u/.aws/sso/cache/a9993e364706816aba3e25717850c26c9cd0d89d.json","{\"accessToken\":\"t\",\"expiresAt\":\"1970-01-01T00:15:00Z\",\"clientId\":\"ci\",\"clientSecret\":\"cs\",\"refreshToken\":\"rt\",\"registrationExpiresAt\":\"1970-01-02T00:00:00Z\"}"]],"replies":{"role-credentials":["dispatch"],"create-token":[{"access":"t2","expires_in":3600}]}}"#, r#"ProviderError(Sent(Dispatch)) now read /home/u/.aws/sso/cache/a9993e364706816aba3e25717850c26c9cd0d89d.json now CreateToken { client_id: "ci", secrets: "** redacted **" } rt Some("us-east-1") None 3 write /home/u/.aws/sso/cache/a9993e364706816aba3e25717850c26c9cd0d89d.json GetRoleCredentials { role_name: "r", account_id: "1", secrets: "** redacted **" } t2 Some("us-east-1") None 3; "#),
-        ("", r#"{"variables":[["HOME","/home/u"]],"files":[["/home/u/.aws/sso/cache/a9993e364706816aba3e25717850c26c9cd0d89d.json","{\"accessToken\":\"t\",\"expiresAt\":\"1970-01-01T01:00:00Z\"}"]],"replies":{"role-credentials":["dispatch"]}}"#, r#"ProviderError(Sent(Dispatch)) read /home/u/.aws/sso/cache/a9993e364706816aba3e25717850c26c9cd0d89d.json GetRoleCredentials { role_name: "r", account_id: "1", secrets: "** redacted **" } t Some("us-east-1") None 3; "#),
+        (
+            "abc",
+            r#"{"variables":[["HOME","/home/u"]],"clock":[1000,1000],"files":[["/home/u/.aws/sso/cache/a9993e364706816aba3e25717850c26c9cd0d89d.json","{\"accessToken\":\"t\",\"expiresAt\":\"1970-01-01T00:15:00Z\",\"clientId\":\"ci\",\"clientSecret\":\"cs\",\"refreshToken\":\"rt\",\"registrationExpiresAt\":\"1970-01-02T00:00:00Z\"}"]],"replies":{"role-credentials":["dispatch"],"create-token":[{"access":"t2","expires_in":3600}]}}"#,
+            r#"ProviderError(Sent(Dispatch)) now read /home/u/.aws/sso/cache/a9993e364706816aba3e25717850c26c9cd0d89d.json now CreateToken { client_id: "ci", secrets: "** redacted **" } rt Some("us-east-1") None 3 write /home/u/.aws/sso/cache/a9993e364706816aba3e25717850c26c9cd0d89d.json GetRoleCredentials { role_name: "r", account_id: "1", secrets: "** redacted **" } t2 Some("us-east-1") None 3; "#,
+        ),
+        (
+            "",
+            r#"{"variables":[["HOME","/home/u"]],"files":[["/home/u/.aws/sso/cache/a9993e364706816aba3e25717850c26c9cd0d89d.json","{\"accessToken\":\"t\",\"expiresAt\":\"1970-01-01T01:00:00Z\"}"]],"replies":{"role-credentials":["dispatch"]}}"#,
+            r#"ProviderError(Sent(Dispatch)) read /home/u/.aws/sso/cache/a9993e364706816aba3e25717850c26c9cd0d89d.json GetRoleCredentials { role_name: "r", account_id: "1", secrets: "** redacted **" } t Some("us-east-1") None 3; "#,
+        ),
     ];
     for (session, script, want) in table {
         let words = words_of(rt.alloc(), *session, 1, true, *script)?;

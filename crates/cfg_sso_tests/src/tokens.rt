@@ -72,12 +72,36 @@ fn words_of(alloc: Global, calls: usize, script: &str) -> Result<String, OutOfMe
 #[test]
 fn tokens_of_a_session(rt: HostRuntime) -> Result<(), Fail> {
     let table: &[(usize, &str, &str)] = &[
-        (3, r#"{"variables":[["HOME","/home/u"]],"clock":[0,0,3299,3300,3300],"files":[["/home/u/.aws/sso/cache/a9993e364706816aba3e25717850c26c9cd0d89d.json","{\"accessToken\":\"t\",\"expiresAt\":\"1970-01-01T01:00:00Z\"}"]]}"#, r#"t Token { token: "** redacted **", expires_after: 3600 s 0 ns } now read now; t Token { token: "** redacted **", expires_after: 3600 s 0 ns } now; t Token { token: "** redacted **", expires_after: 3600 s 0 ns } now read now; "#),
-        (2, r#"{"variables":[["HOME","/home/u"]],"clock":[1000,1000,1001],"files":[["/home/u/.aws/sso/cache/a9993e364706816aba3e25717850c26c9cd0d89d.json","{\"accessToken\":\"t\",\"expiresAt\":\"1970-01-01T00:15:00Z\",\"clientId\":\"ci\",\"clientSecret\":\"cs\",\"refreshToken\":\"rt\",\"registrationExpiresAt\":\"1970-01-02T00:00:00Z\"}"]],"replies":{"create-token":[{"access":"t2","expires_in":3600}]}}"#, r#"t2 Token { token: "** redacted **", expires_after: 4600 s 0 ns } now read now create-token write; t2 Token { token: "** redacted **", expires_after: 4600 s 0 ns } now; "#),
-        (1, r#"{"variables":[["HOME","/home/u"]],"clock":[1000,1000],"files":[["/home/u/.aws/sso/cache/a9993e364706816aba3e25717850c26c9cd0d89d.json","{\"accessToken\":\"t\",\"expiresAt\":\"1970-01-01T00:15:00Z\",\"clientId\":\"ci\",\"clientSecret\":\"cs\",\"refreshToken\":\"rt\",\"registrationExpiresAt\":\"1970-01-02T00:00:00Z\"}"]],"replies":{"create-token":[{"access":"t2","expires_in":-1}]}}"#, r#"ProviderError(BadExpirationTimeFromSsoOidc(-1)) now read now create-token; "#),
-        (1, r#"{"variables":[["HOME","/home/u"]],"clock":[3600,3600],"files":[["/home/u/.aws/sso/cache/a9993e364706816aba3e25717850c26c9cd0d89d.json","{\"accessToken\":\"t\",\"expiresAt\":\"1970-01-01T01:00:00Z\"}"]]}"#, r#"ProviderError(ExpiredToken) now read now; "#),
-        (1, r#"{"clock":[5],"files":[["/home/u/.aws/sso/cache/a9993e364706816aba3e25717850c26c9cd0d89d.json","{\"accessToken\":\"t\",\"expiresAt\":\"1970-01-01T01:00:00Z\"}"]]}"#, r#"ProviderError(FailedToLoadToken(NoHomeDirectory)) now; "#),
-        (1, r#"{"variables":[["HOME","/home/u"]],"clock":[5],"files":[["/home/u/.aws/sso/cache/a9993e364706816aba3e25717850c26c9cd0d89d.json",null]]}"#, r#"ProviderError(FailedToLoadToken(IoError { what: Read, path: "/home/u/.aws/sso/cache/a9993e364706816aba3e25717850c26c9cd0d89d.json" })) now read; "#),
+        (
+            3,
+            r#"{"variables":[["HOME","/home/u"]],"clock":[0,0,3299,3300,3300],"files":[["/home/u/.aws/sso/cache/a9993e364706816aba3e25717850c26c9cd0d89d.json","{\"accessToken\":\"t\",\"expiresAt\":\"1970-01-01T01:00:00Z\"}"]]}"#,
+            r#"t Token { token: "** redacted **", expires_after: 3600 s 0 ns } now read now; t Token { token: "** redacted **", expires_after: 3600 s 0 ns } now; t Token { token: "** redacted **", expires_after: 3600 s 0 ns } now read now; "#,
+        ),
+        (
+            2,
+            r#"{"variables":[["HOME","/home/u"]],"clock":[1000,1000,1001],"files":[["/home/u/.aws/sso/cache/a9993e364706816aba3e25717850c26c9cd0d89d.json","{\"accessToken\":\"t\",\"expiresAt\":\"1970-01-01T00:15:00Z\",\"clientId\":\"ci\",\"clientSecret\":\"cs\",\"refreshToken\":\"rt\",\"registrationExpiresAt\":\"1970-01-02T00:00:00Z\"}"]],"replies":{"create-token":[{"access":"t2","expires_in":3600}]}}"#,
+            r#"t2 Token { token: "** redacted **", expires_after: 4600 s 0 ns } now read now create-token write; t2 Token { token: "** redacted **", expires_after: 4600 s 0 ns } now; "#,
+        ),
+        (
+            1,
+            r#"{"variables":[["HOME","/home/u"]],"clock":[1000,1000],"files":[["/home/u/.aws/sso/cache/a9993e364706816aba3e25717850c26c9cd0d89d.json","{\"accessToken\":\"t\",\"expiresAt\":\"1970-01-01T00:15:00Z\",\"clientId\":\"ci\",\"clientSecret\":\"cs\",\"refreshToken\":\"rt\",\"registrationExpiresAt\":\"1970-01-02T00:00:00Z\"}"]],"replies":{"create-token":[{"access":"t2","expires_in":-1}]}}"#,
+            r#"ProviderError(BadExpirationTimeFromSsoOidc(-1)) now read now create-token; "#,
+        ),
+        (
+            1,
+            r#"{"variables":[["HOME","/home/u"]],"clock":[3600,3600],"files":[["/home/u/.aws/sso/cache/a9993e364706816aba3e25717850c26c9cd0d89d.json","{\"accessToken\":\"t\",\"expiresAt\":\"1970-01-01T01:00:00Z\"}"]]}"#,
+            r#"ProviderError(ExpiredToken) now read now; "#,
+        ),
+        (
+            1,
+            r#"{"clock":[5],"files":[["/home/u/.aws/sso/cache/a9993e364706816aba3e25717850c26c9cd0d89d.json","{\"accessToken\":\"t\",\"expiresAt\":\"1970-01-01T01:00:00Z\"}"]]}"#,
+            r#"ProviderError(FailedToLoadToken(NoHomeDirectory)) now; "#,
+        ),
+        (
+            1,
+            r#"{"variables":[["HOME","/home/u"]],"clock":[5],"files":[["/home/u/.aws/sso/cache/a9993e364706816aba3e25717850c26c9cd0d89d.json",null]]}"#,
+            r#"ProviderError(FailedToLoadToken(IoError { what: Read, path: "/home/u/.aws/sso/cache/a9993e364706816aba3e25717850c26c9cd0d89d.json" })) now read; "#,
+        ),
     ];
     for (calls, script, want) in table {
         let words = words_of(rt.alloc(), *calls, *script)?;
