@@ -7,3 +7,4 @@ pub mod AddressText
 pub mod HeaderNames
 pub mod Fitting
 pub mod Placing
+pub mod InPlace

@@ -15,3 +15,4 @@ pub mod Telling
 pub mod Gives
 pub mod Held
 pub mod Devices
+pub mod Places

@@ -15,6 +15,7 @@ mod moments;
 mod names;
 mod object;
 mod part;
+mod places;
 mod reading;
 mod replies;
 mod script;

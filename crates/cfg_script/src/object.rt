@@ -9,6 +9,7 @@ ghost use Rattle.cfg_script.specs.Faults.{first_name, other_name as other_name_o
 ghost use Rattle.cfg_script.specs.Table.{only, only_fault, object_read, object_fault as object_fault_of};
 
 use crate::fault::{Fault, Wanted, here, name_fault};
+use crate::places::{Placed, places_of};
 use crate::script::ScriptError;
 use crate::table::Group;
 use crate::value::members_of;
@@ -53,16 +54,16 @@ pub(crate) fn other_name<G: Group>(
 }
 
 /// What an object says that has the members of a table and no others.
-pub(crate) fn read_only<G: Group>(
+pub(crate) fn read_only<G: Placed>(
     alloc: Global,
-    mut members: Map<String, Value>,
+    members: Map<String, Value>,
 ) -> Result<G::Read, ScriptError>
     ensures { GivesPart G.seen result (only G.table (members_view members.entries)) }
 {
-    if !every_named::<G>(&members) {
-        return Err(ScriptError::NoScript);
+    match places_of::<G>(members) {
+        Some(places) => G::read_places(alloc, places),
+        None => Err(ScriptError::NoScript),
     }
-    G::read(alloc, &mut members)
 }
 
 /// The first fault of such an object: a name that is none of the table's, or else a member of another
@@ -79,7 +80,7 @@ pub(crate) fn only_fault_in<G: Group>(
 }
 
 /// The same of a value that has to be such an object.
-pub(crate) fn read_object<G: Group>(alloc: Global, value: Value) -> Result<G::Read, ScriptError>
+pub(crate) fn read_object<G: Placed>(alloc: Global, value: Value) -> Result<G::Read, ScriptError>
     ensures { GivesPart G.seen result (object_read G.table (view value)) }
 {
     let members = members_of(value).ok_or(ScriptError::NoScript)?;
