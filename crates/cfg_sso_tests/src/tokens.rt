@@ -50,7 +50,7 @@ fn calls_words(
     let mut kept = Kept::new(alloc, key);
     let mut world = World::new(alloc, devices);
     let mut words = String::new(alloc);
-    for _ in 0..calls {
+    for _count in 0..calls {
         let call = call_words(alloc, provider, &mut kept, &mut world)?;
         words.push_str(call.as_str())?;
     }
