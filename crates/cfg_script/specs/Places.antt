@@ -1,6 +1,6 @@
 -- The members of an object that are put in their places one after the other.
-use Rattle.std.specs.Prelude.{Option, Some, None, option_map}
-use Rattle.serde_json.specs.Data.{Data, Members}
+use Rattle.std.specs.Prelude.{Option, Some, None}
+use Rattle.serde_json.specs.Data.{Members}
 use Rattle.serde_json.specs.Find.{get_member}
 use Rattle.serde_json.specs.View.{view}
 use Rattle.serde_json.specs.declared.value.Value.{Value}
