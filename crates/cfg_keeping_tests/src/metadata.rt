@@ -153,23 +153,32 @@ fn holding_words(
 }
 
 // The words of holdings, one after the other, on one keeper.
-fn words_of(alloc: Global, script: &str, holdings: &[&str]) -> Result<String, OutOfMemory> {
-    let client = Client::builder(alloc)?.build()?;
-    let mut words = String::new(alloc);
-    let Some(mut world) = world_of(alloc, script)? else {
-        words.push_str("no script")?;
-        return Ok(words);
-    };
-    if client.usable("/").is_err() {
-        words.push_str("no endpoint")?;
-        return Ok(words);
-    }
+fn holdings_words(
+    alloc: Global,
+    client: &Client,
+    world: &mut World<ScriptDevices>,
+    holdings: &[&str],
+) -> Result<String, OutOfMemory>
+    requires { endpoint_fault (client_rules repeated client.now).endpoint ≡ none }
+{
     let mut kept = Kept::new(alloc, None);
+    let mut words = String::new(alloc);
     for word in holdings {
-        let holding = holding_words(alloc, &mut kept, word, &client, &mut world)?;
+        let holding = holding_words(alloc, &mut kept, word, client, world)?;
         words.push_str(holding.as_str())?;
     }
     Ok(words)
+}
+
+fn words_of(alloc: Global, script: &str, holdings: &[&str]) -> Result<String, OutOfMemory> {
+    let client = Client::builder(alloc)?.build()?;
+    let Some(mut world) = world_of(alloc, script)? else {
+        return Ok(String::from_str(alloc, "no script")?);
+    };
+    match client.usable("/") {
+        Ok(()) => holdings_words(alloc, &client, &mut world, holdings),
+        Err(error) => Ok(format!(in alloc; "{error:?}")?),
+    }
 }
 
 #[test]
