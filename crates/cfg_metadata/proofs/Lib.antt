@@ -1,0 +1,7 @@
+pub mod Given
+pub mod Gets
+pub mod Texts
+pub mod Reasons
+pub mod Passing
+pub mod Validity
+pub mod Over
