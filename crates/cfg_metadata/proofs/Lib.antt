@@ -5,3 +5,4 @@ pub mod Reasons
 pub mod Passing
 pub mod Validity
 pub mod Over
+pub mod Found

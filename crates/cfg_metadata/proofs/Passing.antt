@@ -38,10 +38,10 @@ IsNotLoaded None = ⊥
 IsNotLoaded (Some e) = is_not_loaded e ≡ true
 
 clash : {X : Type 0} → false ≡ true → X
-clash h = absurd (no h)
+clash h = absurd (differ h)
   where
-    no : false ≡ true → ⊥
-    no e = absurd cc
+    differ : false ≡ true → ⊥
+    differ e = absurd cc
 
 -- ---- a document never passes
 
@@ -72,7 +72,7 @@ role_stays_by client path part (Some text) h = document_stays text.0 h
 -- ---- a listing
 
 absent_by : (e : ImdsError) (reason : Option NotLoadedCause) → is_not_loaded (listing_error_by e reason) ≡ true → IsSome reason
-absent_by e (Some reason) h = tt
+absent_by e (Some reason) h = refl
 absent_by e None h = clash h
 
 unlisted_fault : (s : MetadataSetting) (part : List Pair) (fault : Option ImdsError) → why_no_text s.client listing_path part ≡ fault → s.disabled ≡ false → s.role ≡ None → first_text part ≡ None →
@@ -113,7 +113,7 @@ off_quiet s found part out h off =
 
 ok_loaded : (out : Answer) → IsOk out → is_not_loaded_answer out ≡ true → ⊥
 ok_loaded (Ok keys) ok h = clash h
-ok_loaded (Err e) ok h = absurd ok
+ok_loaded (Err e) ok h = clash ok
 
 -- what an answer that nothing was loaded tells
 abbrev Told : Option CredentialsError → Option Keys → Type 0
@@ -137,7 +137,7 @@ answered (Some e) out h cause = ap is_not_loaded_answer (sym cause) ∙ h
 
 absent_loaded : (e : ImdsError) (reason : Option NotLoadedCause) → IsSome reason → is_not_loaded (listing_error_by e reason) ≡ true
 absent_loaded e (Some reason) h = refl
-absent_loaded e None h = absurd h
+absent_loaded e None h = clash h
 
 unlisted_loaded : (s : MetadataSetting) (part : List Pair) → IsUnlisted s part → IsNotLoaded (why_nothing s part)
 unlisted_loaded s part u =

@@ -171,7 +171,7 @@ abbrev pub Settles : List Value → Answer → List Value → List Pair → Answ
 Settles before given found part out = (part ≡ []) × AnswersBy (result_err given) (retrieved_in (before ++ found)) out
 
 pub settled_answers : (place : Place) (given : Answer) (before found : List Value) (part : List Pair) (out : Answer) → Reads (settled place given) found part out → Settles before given found part out
-settled_answers place (Ok keys) before found part out h = let g = given_is {R = Answer} (Ok (just_read keys)) out found part h in (g.1, subst IsOk g.2 tt)
+settled_answers place (Ok keys) before found part out h = let g = given_is {R = Answer} (Ok (just_read keys)) out found part h in (g.1, subst IsOk g.2 refl)
 settled_answers place (Err e) before [] part out h = absurd h
 settled_answers place (Err e) before (v ∷ found) part out h =
     let g = given_is (or_found e (keys_in v)) out found part h.2 in

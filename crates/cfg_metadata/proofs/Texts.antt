@@ -73,7 +73,7 @@ got_first text part rest g =
 -- ---- a settle shows none
 
 no_get : (e : Pair) (q : Question) → e.0 ≡ q → is_get q ≡ false → is_text e ≡ false
-no_get e q is no = ap (λ b. b && is_none (entry_fault e)) (ap is_get is ∙ no)
+no_get e q is other = ap (λ b. b && is_none (entry_fault e)) (ap is_get is ∙ other)
 
 asking_token : (s : Service) (endpoint : List ℕ) (repeats : Answer → Bool) (part : List Pair) →
     AllByRecursion (λ e. (e.0 ≡ Send (token_request s.settings endpoint)) × (repeats e.1 ≡ true)) part → Silent part
@@ -98,10 +98,10 @@ settle_silent client kept part out h =
 -- ---- what is repeated is no text
 
 clash : {X : Type 0} → false ≡ true → X
-clash h = absurd (no h)
+clash h = absurd (differ h)
   where
-    no : false ≡ true → ⊥
-    no e = absurd cc
+    differ : false ≡ true → ⊥
+    differ e = absurd cc
 
 by_tests : (success text : Bool) (body : List ℕ) (fault : ImdsError) (r : Bool) → unless_fine (if success then fine_if text else Refused) r ≡ true →
     is_none (if success then text_fault (if text then Some body else None) else Some fault) ≡ false

@@ -40,10 +40,10 @@ use Rattle.cfg_metadata.proofs.Gets.{token_settles}
 use Rattle.cfg_metadata.proofs.Reasons.{Shows, get_shows, Lists, listing_lists, dated_ok, settled_answers, has_cause, nothing_cause}
 
 clash : {X : Type 0} → false ≡ true → X
-clash h = absurd (no h)
+clash h = absurd (differ h)
   where
-    no : false ≡ true → ⊥
-    no e = absurd cc
+    differ : false ≡ true → ⊥
+    differ e = absurd cc
 
 -- ---- the entries
 
@@ -70,7 +70,7 @@ not_again A q request reading is asks (inr again) = absurd (now_is_sent request 
 
 read_ok : (r : Result Token FailedToLoadToken) → IsOk r → is_ok ((renewed r).0) ≡ true
 read_ok (Ok token) h = refl
-read_ok (Err e) h = absurd h
+read_ok (Err e) h = clash h
 
 renewal_ok : (reply reading : Pair) → IsOk (read_token reply reading) → is_ok ((renewal reply reading).0) ≡ true
 unfolding renewal
@@ -145,7 +145,7 @@ get_ok client place path found part out fine is h uses = get_by client place pat
 
 said_ok : (said : Result RoleKeys CredentialsError) (text : Pair) → role_document text ≡ said → IsOk (role_document text) → is_ok said ≡ true
 said_ok (Ok role) text is h = refl
-said_ok (Err e) text is h = absurd (subst IsOk is h)
+said_ok (Err e) text is h = clash (subst IsOk is h)
 
 documented_ok : (client : ClientRules) (path : List ℕ) (got : Result Pair ImdsError) (part : List Pair) → is_ok got ≡ true → Shows client path got part → IsDocument (first_text part) → is_ok (documented got) ≡ true
 unfolding documented
@@ -226,7 +226,7 @@ enabled_ok false s found part out is fine gives uses h = retrieves_ok s.client s
 
 by_middle : (given out : Answer) (kept : Option _) → is_ok given ≡ true → AnswersBy (result_err given) kept out → is_ok out ≡ true
 by_middle (Ok keys) (Ok more) kept ok a = refl
-by_middle (Ok keys) (Err e) kept ok a = absurd a
+by_middle (Ok keys) (Err e) kept ok a = clash a
 by_middle (Err e) out kept ok a = clash ok
 
 pub valid_gives : (s : MetadataSetting) (found : List Value) (part : List Pair) (out : Answer) → Reads (metadata s) found part out → IsValid s part → is_ok out ≡ true

@@ -2,6 +2,12 @@
 #![tactic(auto)]
 
 #[cfg(test)]
-mod rows;
+mod documents;
+#[cfg(test)]
+mod keeping;
+#[cfg(test)]
+mod requests;
 #[cfg(test)]
 mod setup;
+#[cfg(test)]
+mod switches;

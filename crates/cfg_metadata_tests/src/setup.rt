@@ -48,6 +48,7 @@ pub(crate) fn set_up(alloc: Global, script: &str) -> Result<Option<Setup>, OutOf
 }
 
 /// One call: for the chain, for a named source, for a role of this name, or switched off.
+#[derive(Drop)]
 pub(crate) enum Call<'a> {
     Chain,
     Named,
@@ -182,4 +183,24 @@ pub(crate) fn words_of(
         Some(setup) => words_by(alloc, setup, calls),
         None => Ok(String::from_str(alloc, "no script")?),
     }
+}
+
+/// A document of credentials that end at 1456380211, as a text of JSON.
+pub(crate) const DOCUMENT: &str =
+    r#""{\"AccessKeyId\":\"MUA...\",\"SecretAccessKey\":\"/7PC5om....\",\"Token\":\"AQoDY....=\",\"Expiration\":\"2016-02-25T06:03:31Z\"}""#;
+
+/// What is asked for a listing where no session token is kept.
+pub(crate) const LISTING: &str =
+    "; now; token 21600; now; get /latest/meta-data/iam/security-credentials/ [116, 111, 107]";
+
+/// What is asked for a role's document where a session token is kept.
+pub(crate) const ROLE: &str =
+    "; now; get /latest/meta-data/iam/security-credentials/role [116, 111, 107]";
+
+/// A script of these members, whose service gives the session token `tok` for 21600 seconds, and then
+/// answers these gets.
+pub(crate) fn script_of(alloc: Global, members: &str, gets: &str) -> Result<String, AllocError> {
+    format!(in alloc;
+        r#"{{{members}"replies":{{"imds-token":[[200,[["x-aws-ec2-metadata-token-ttl-seconds","21600"]],"tok"]],"imds-get":{gets}}}}}"#
+    )
 }
