@@ -5,6 +5,7 @@ ghost use Rattle.cfg_imds.specs.Clients.{rules_of};
 ghost use Rattle.cfg_metadata.specs.Setups.{IsClientOf};
 
 use crate::provider::ImdsCredentialsProvider;
+use cfg_exchange::ClassifyRetry;
 use cfg_imds::{Client, is_disabled};
 use cfg_keeping::Place;
 use cfg_profile::ProviderConfig;

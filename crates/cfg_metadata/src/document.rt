@@ -14,6 +14,7 @@ ghost use Rattle.cfg_metadata.specs.Metadata.{documented, document as document_o
 
 use crate::get::metadata_get;
 use crate::listing::get_error;
+use cfg_exchange::ClassifyRetry;
 use cfg_imds::Client;
 use cfg_keeping::{Keeper, Place, Retrieved, RoleDocument};
 use cfg_types::imds::ImdsError;

@@ -9,6 +9,7 @@ ghost use Rattle.cfg_metadata.specs.Metadata.{retrieves_at, retrieves, unless_di
 
 use crate::document::{date, get_document};
 use crate::listing::path_of_role;
+use cfg_exchange::ClassifyRetry;
 use cfg_imds::Client;
 use cfg_keeping::{Keeper, Place, Retrieved};
 use cfg_types::{

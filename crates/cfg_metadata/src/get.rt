@@ -6,6 +6,7 @@ ghost use Rattle.cfg_imds.specs.Fetches.{entry_fault};
 ghost use Rattle.cfg_keeping.specs.Holds.{HoldsFollows};
 ghost use Rattle.cfg_metadata.specs.Metadata.{get_fault as get_fault_of, token_and_text as token_and_text_of, metadata_get as metadata_get_of};
 
+use cfg_exchange::ClassifyRetry;
 use cfg_imds::Client;
 use cfg_keeping::{Keeper, Place};
 use cfg_types::OutOfMemory;

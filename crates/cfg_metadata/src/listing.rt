@@ -7,6 +7,7 @@ ghost use Rattle.cfg_keeping.specs.Holds.{HoldsFollows};
 ghost use Rattle.cfg_metadata.specs.Metadata.{get_error as get_error_of, role_path as role_path_of, absence as absence_of, listing_error as listing_error_of, listed, listing, path_of_role as path_of_role_of};
 
 use crate::get::metadata_get;
+use cfg_exchange::ClassifyRetry;
 use cfg_imds::{Client, entry_text};
 use cfg_keeping::{Keeper, Place};
 use cfg_types::imds::ImdsError;

@@ -9,6 +9,7 @@ ghost use Rattle.cfg_metadata.specs.Provides.{ProvidesMetadata};
 
 use crate::builder::Builder;
 use crate::follow::follow_metadata;
+use cfg_exchange::ClassifyRetry;
 use cfg_imds::Client;
 use cfg_keeping::{Keeper, Place};
 use cfg_types::{Credentials, CredentialsError, OutOfMemory, Text};
