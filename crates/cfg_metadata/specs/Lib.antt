@@ -1,3 +1,4 @@
+pub mod Clients
 pub mod Settings
 pub mod Metadata
 pub mod Causes

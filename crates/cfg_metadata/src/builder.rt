@@ -1,11 +1,10 @@
 //! What a provider of metadata credentials is set up with.
 ghost use Rattle.std.specs.Prelude.{◌≡◌, IfOk, Some as some, option_map};
 ghost use Rattle.cfg_values.specs.Text.{characters};
-ghost use Rattle.cfg_imds.specs.Clients.{rules_of};
+ghost use Rattle.cfg_metadata.specs.Clients.{client_rules};
 ghost use Rattle.cfg_metadata.specs.Setups.{IsClientOf};
 
 use crate::provider::ImdsCredentialsProvider;
-use cfg_exchange::ClassifyRetry;
 use cfg_imds::{Client, is_disabled};
 use cfg_keeping::Place;
 use cfg_profile::ProviderConfig;
@@ -28,7 +27,7 @@ fn client_of(
     given: Option<Client>,
     config: &ProviderConfig,
 ) -> Result<Client, OutOfMemory>
-    ensures { IfOk result (λ client. IsClientOf (option_map (rules_of repeated) given) config.now (rules_of repeated client)) }
+    ensures { IfOk result (λ client. IsClientOf (option_map (client_rules repeated) given) config.now (client_rules repeated client)) }
 {
     match given {
         Some(client) => Ok(client),
@@ -74,7 +73,7 @@ impl Builder {
 
     /// With this client, whatever the configuration says of one.
     pub fn imds_client(mut self, client: Client) -> Builder
-        ensures { setup_of repeated result ≡ record (setup_of repeated self) { client = some (rules_of repeated client) } }
+        ensures { setup_of repeated result ≡ record (setup_of repeated self) { client = some (client_rules repeated client) } }
     {
         self.client = Some(client);
         self

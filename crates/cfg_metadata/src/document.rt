@@ -4,7 +4,7 @@ ghost use Rattle.cfg_world.specs.declared.ask.Question.TheVariants.{Now, Jitter}
 ghost use Rattle.cfg_world.specs.Follows.{Follows};
 ghost use Rattle.cfg_world.specs.Leaves.{moment_of};
 ghost use Rattle.cfg_exchange.specs.Attempts.{asked};
-ghost use Rattle.cfg_imds.specs.Clients.{rules_of};
+ghost use Rattle.cfg_metadata.specs.Clients.{client_rules};
 ghost use Rattle.cfg_imds.specs.Fetches.{entry_fault};
 ghost use Rattle.cfg_imds.specs.Tokens.{in_ok};
 ghost use Rattle.cfg_keeping.specs.Holds.{HoldsFollows};
@@ -14,7 +14,6 @@ ghost use Rattle.cfg_metadata.specs.Metadata.{documented, document as document_o
 
 use crate::get::metadata_get;
 use crate::listing::get_error;
-use cfg_exchange::ClassifyRetry;
 use cfg_imds::Client;
 use cfg_keeping::{Keeper, Place, Retrieved, RoleDocument};
 use cfg_types::imds::ImdsError;
@@ -47,7 +46,7 @@ pub fn get_document<P: Keeper, A: Asking>(
     keeper: &mut P,
     asking: &mut A,
 ) -> Result<Result<RoleDocument, CredentialsError>, Stop>
-    ensures follows { HoldsFollows ⟦<A as Asking>⟧ (document_of (rules_of repeated client.now) place path.now) asking.old (P.holdings keeper.old) asking.new (P.holdings keeper.new) (in_ok (in_ok bare_role) result) }
+    ensures follows { HoldsFollows ⟦<A as Asking>⟧ (document_of (client_rules repeated client.now) place path.now) asking.old (P.holdings keeper.old) asking.new (P.holdings keeper.new) (in_ok (in_ok bare_role) result) }
     ensures key { P.key_held keeper.new ≡ P.key_held keeper.old }
 {
     let got = metadata_get(alloc, client, place, path, keeper, asking)?;

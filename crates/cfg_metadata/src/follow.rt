@@ -1,6 +1,6 @@
 //! The body of a provider of metadata credentials, over anything that can be asked.
 ghost use Rattle.std.specs.Prelude.{◌≡◌, IfOk, Some, Ok, Err, option_map};
-ghost use Rattle.cfg_imds.specs.Clients.{rules_of};
+ghost use Rattle.cfg_metadata.specs.Clients.{client_rules};
 ghost use Rattle.cfg_imds.specs.Tokens.{in_ok};
 ghost use Rattle.cfg_keeping.specs.Holds.{HoldsFollows};
 ghost use Rattle.cfg_keeping.specs.Retrieved.{keys_of_retrieved};
@@ -9,7 +9,6 @@ ghost use Rattle.cfg_metadata.specs.Metadata.{retrieves_at, retrieves, unless_di
 
 use crate::document::{date, get_document};
 use crate::listing::path_of_role;
-use cfg_exchange::ClassifyRetry;
 use cfg_imds::Client;
 use cfg_keeping::{Keeper, Place, Retrieved};
 use cfg_types::{
@@ -28,7 +27,7 @@ fn retrieve_at<P: Keeper, A: Asking>(
     keeper: &mut P,
     asking: &mut A,
 ) -> Result<Result<Retrieved, CredentialsError>, Stop>
-    ensures follows { HoldsFollows ⟦<A as Asking>⟧ (retrieves_at (rules_of repeated client.now) place path.now) asking.old (P.holdings keeper.old) asking.new (P.holdings keeper.new) (in_ok (in_ok keys_of_retrieved) result) }
+    ensures follows { HoldsFollows ⟦<A as Asking>⟧ (retrieves_at (client_rules repeated client.now) place path.now) asking.old (P.holdings keeper.old) asking.new (P.holdings keeper.new) (in_ok (in_ok keys_of_retrieved) result) }
     ensures key { P.key_held keeper.new ≡ P.key_held keeper.old }
 {
     let document = match get_document(alloc, client, place, path, keeper, asking)? {
@@ -49,7 +48,7 @@ fn retrieve<P: Keeper, A: Asking>(
     keeper: &mut P,
     asking: &mut A,
 ) -> Result<Result<Retrieved, CredentialsError>, Stop>
-    ensures follows { HoldsFollows ⟦<A as Asking>⟧ (retrieves (rules_of repeated client.now) place role.now) asking.old (P.holdings keeper.old) asking.new (P.holdings keeper.new) (in_ok (in_ok keys_of_retrieved) result) }
+    ensures follows { HoldsFollows ⟦<A as Asking>⟧ (retrieves (client_rules repeated client.now) place role.now) asking.old (P.holdings keeper.old) asking.new (P.holdings keeper.new) (in_ok (in_ok keys_of_retrieved) result) }
     ensures key { P.key_held keeper.new ≡ P.key_held keeper.old }
 {
     let path = match path_of_role(alloc, client, place, role, keeper, asking)? {
@@ -71,7 +70,7 @@ fn retrieve_unless_disabled<P: Keeper, A: Asking>(
     keeper: &mut P,
     asking: &mut A,
 ) -> Result<Result<Retrieved, CredentialsError>, Stop>
-    ensures follows { HoldsFollows ⟦<A as Asking>⟧ (unless_disabled (setting disabled (rules_of repeated client.now) role.now place)) asking.old (P.holdings keeper.old) asking.new (P.holdings keeper.new) (in_ok (in_ok keys_of_retrieved) result) }
+    ensures follows { HoldsFollows ⟦<A as Asking>⟧ (unless_disabled (setting disabled (client_rules repeated client.now) role.now place)) asking.old (P.holdings keeper.old) asking.new (P.holdings keeper.new) (in_ok (in_ok keys_of_retrieved) result) }
     ensures key { P.key_held keeper.new ≡ P.key_held keeper.old }
 {
     if disabled {
@@ -155,7 +154,7 @@ pub fn follow_metadata<P: Keeper, A: Asking>(
     keeper: &mut P,
     asking: &mut A,
 ) -> Result<Result<Credentials, CredentialsError>, Stop>
-    ensures follows { HoldsFollows ⟦<A as Asking>⟧ (metadata (setting disabled (rules_of repeated client.now) role.now place)) asking.old (P.holdings keeper.old) asking.new (P.holdings keeper.new) result }
+    ensures follows { HoldsFollows ⟦<A as Asking>⟧ (metadata (setting disabled (client_rules repeated client.now) role.now place)) asking.old (P.holdings keeper.old) asking.new (P.holdings keeper.new) result }
     ensures key { P.key_held keeper.new ≡ P.key_held keeper.old }
 {
     match retrieve_unless_disabled(alloc, disabled, client, role, place, keeper, asking)? {

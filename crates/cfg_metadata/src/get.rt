@@ -1,12 +1,12 @@
 //! What stands at a path of the instance metadata service, with the session token that is kept.
 ghost use Rattle.std.specs.Prelude.{◌≡◌, IfOk, None as none};
 ghost use Rattle.cfg_imds.specs.Calls.{is_memory as is_memory_of};
-ghost use Rattle.cfg_imds.specs.Clients.{rules_of, endpoint_fault};
+ghost use Rattle.cfg_imds.specs.Clients.{endpoint_fault};
+ghost use Rattle.cfg_metadata.specs.Clients.{client_rules};
 ghost use Rattle.cfg_imds.specs.Fetches.{entry_fault};
 ghost use Rattle.cfg_keeping.specs.Holds.{HoldsFollows};
 ghost use Rattle.cfg_metadata.specs.Metadata.{get_fault as get_fault_of, token_and_text as token_and_text_of, metadata_get as metadata_get_of};
 
-use cfg_exchange::ClassifyRetry;
 use cfg_imds::Client;
 use cfg_keeping::{Keeper, Place};
 use cfg_types::OutOfMemory;
@@ -22,8 +22,8 @@ fn is_memory(usable: &Result<(), ImdsError>) -> bool
 
 // Why a path is not asked for, if it is not.
 fn get_fault(client: &Client, path: &str) -> Result<Option<ImdsError>, OutOfMemory>
-    ensures fault { IfOk result (λ fault. fault ≡ get_fault_of (rules_of repeated client.now) path.now) }
-    ensures endpoint { IfOk result (λ fault. fault ≡ none → endpoint_fault (rules_of repeated client.now).endpoint ≡ none) }
+    ensures fault { IfOk result (λ fault. fault ≡ get_fault_of (client_rules repeated client.now) path.now) }
+    ensures endpoint { IfOk result (λ fault. fault ≡ none → endpoint_fault (client_rules repeated client.now).endpoint ≡ none) }
 {
     let usable = client.usable(path);
     if is_memory(&usable) {
@@ -45,8 +45,8 @@ fn token_and_text<P: Keeper, A: Asking>(
     keeper: &mut P,
     asking: &mut A,
 ) -> Result<Result<Receipt, ImdsError>, Stop>
-    requires { endpoint_fault (rules_of repeated client.now).endpoint ≡ none }
-    ensures follows { HoldsFollows ⟦<A as Asking>⟧ (token_and_text_of (rules_of repeated client.now) place path.now) asking.old (P.holdings keeper.old) asking.new (P.holdings keeper.new) result }
+    requires { endpoint_fault (client_rules repeated client.now).endpoint ≡ none }
+    ensures follows { HoldsFollows ⟦<A as Asking>⟧ (token_and_text_of (client_rules repeated client.now) place path.now) asking.old (P.holdings keeper.old) asking.new (P.holdings keeper.new) result }
     ensures fine { IfOk result (λ r. IfOk r (λ e. entry_fault e ≡ none)) }
     ensures key { P.key_held keeper.new ≡ P.key_held keeper.old }
 {
@@ -68,7 +68,7 @@ pub fn metadata_get<P: Keeper, A: Asking>(
     keeper: &mut P,
     asking: &mut A,
 ) -> Result<Result<Receipt, ImdsError>, Stop>
-    ensures follows { HoldsFollows ⟦<A as Asking>⟧ (metadata_get_of (rules_of repeated client.now) place path.now) asking.old (P.holdings keeper.old) asking.new (P.holdings keeper.new) result }
+    ensures follows { HoldsFollows ⟦<A as Asking>⟧ (metadata_get_of (client_rules repeated client.now) place path.now) asking.old (P.holdings keeper.old) asking.new (P.holdings keeper.new) result }
     ensures fine { IfOk result (λ r. IfOk r (λ e. entry_fault e ≡ none)) }
     ensures key { P.key_held keeper.new ≡ P.key_held keeper.old }
 {

@@ -1,13 +1,12 @@
 //! The path of the machine's role.
 ghost use Rattle.std.specs.Prelude.{◌≡◌, IfOk, string_bytes, None as none};
-ghost use Rattle.cfg_imds.specs.Clients.{rules_of};
+ghost use Rattle.cfg_metadata.specs.Clients.{client_rules};
 ghost use Rattle.cfg_imds.specs.Fetches.{entry_fault};
 ghost use Rattle.cfg_imds.specs.Tokens.{in_ok};
 ghost use Rattle.cfg_keeping.specs.Holds.{HoldsFollows};
 ghost use Rattle.cfg_metadata.specs.Metadata.{get_error as get_error_of, role_path as role_path_of, absence as absence_of, listing_error as listing_error_of, listed, listing, path_of_role as path_of_role_of};
 
 use crate::get::metadata_get;
-use cfg_exchange::ClassifyRetry;
 use cfg_imds::{Client, entry_text};
 use cfg_keeping::{Keeper, Place};
 use cfg_types::imds::ImdsError;
@@ -83,7 +82,7 @@ fn list_role<P: Keeper, A: Asking>(
     keeper: &mut P,
     asking: &mut A,
 ) -> Result<Result<String, CredentialsError>, Stop>
-    ensures follows { HoldsFollows ⟦<A as Asking>⟧ (listing (rules_of repeated client.now) place) asking.old (P.holdings keeper.old) asking.new (P.holdings keeper.new) (in_ok (in_ok string_bytes) result) }
+    ensures follows { HoldsFollows ⟦<A as Asking>⟧ (listing (client_rules repeated client.now) place) asking.old (P.holdings keeper.old) asking.new (P.holdings keeper.new) (in_ok (in_ok string_bytes) result) }
     ensures key { P.key_held keeper.new ≡ P.key_held keeper.old }
 {
     let path = "/latest/meta-data/iam/security-credentials/";
@@ -102,7 +101,7 @@ pub fn path_of_role<P: Keeper, A: Asking>(
     keeper: &mut P,
     asking: &mut A,
 ) -> Result<Result<String, CredentialsError>, Stop>
-    ensures follows { HoldsFollows ⟦<A as Asking>⟧ (path_of_role_of (rules_of repeated client.now) place role.now) asking.old (P.holdings keeper.old) asking.new (P.holdings keeper.new) (in_ok (in_ok string_bytes) result) }
+    ensures follows { HoldsFollows ⟦<A as Asking>⟧ (path_of_role_of (client_rules repeated client.now) place role.now) asking.old (P.holdings keeper.old) asking.new (P.holdings keeper.new) (in_ok (in_ok string_bytes) result) }
     ensures key { P.key_held keeper.new ≡ P.key_held keeper.old }
 {
     match role {

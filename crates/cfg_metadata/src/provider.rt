@@ -1,6 +1,6 @@
 //! The provider of metadata credentials.
 ghost use Rattle.std.specs.Prelude.{◌≡◌, IfOk, true, false};
-ghost use Rattle.cfg_imds.specs.Clients.{rules_of};
+ghost use Rattle.cfg_metadata.specs.Clients.{client_rules};
 ghost use Rattle.cfg_keeping.specs.Holds.{HoldsFollows, HoldsBreaks};
 ghost use Rattle.cfg_providers.specs.Provides.{is_memory};
 ghost use Rattle.cfg_metadata.specs.Settings.{setting};
@@ -9,7 +9,6 @@ ghost use Rattle.cfg_metadata.specs.Provides.{ProvidesMetadata};
 
 use crate::builder::Builder;
 use crate::follow::follow_metadata;
-use cfg_exchange::ClassifyRetry;
 use cfg_imds::Client;
 use cfg_keeping::{Keeper, Place};
 use cfg_types::{Credentials, CredentialsError, OutOfMemory, Text};
@@ -37,7 +36,7 @@ impl ImdsCredentialsProvider {
         role: Option<Text>,
         place: Place,
     ) -> ImdsCredentialsProvider
-        ensures { setting_of repeated result ≡ setting disabled (rules_of repeated client) role place }
+        ensures { setting_of repeated result ≡ setting disabled (client_rules repeated client) role place }
     {
         ImdsCredentialsProvider {
             alloc,
