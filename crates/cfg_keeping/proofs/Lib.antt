@@ -6,3 +6,5 @@ pub mod Agreeing
 pub mod Beginnings
 pub mod OneHolding
 pub mod SsoSteps
+pub mod MetadataSteps
+pub mod RetrievedSteps

@@ -112,10 +112,8 @@ module _ {W : Type 0} (w : Ghosts W) where
   one_told (Some k) p old new found later was is result states stands h = h (Some states) stands
 
   -- a call that came to an end has begun
-  pub ended_breaks : {K R : Type 0} (key : Option K) (p : K → KeptInquiry R) (old new : W) (before later : Holdings) (out : R) →
-      IfSome key (λ k. HoldsEnds w (p k) old before new later out) → IfSome key (λ k. HoldsBreaks w (p k) old before new later)
-  ended_breaks None p old new before later out h = h
-  ended_breaks (Some k) p old new before later out h = record {
+  pub ended_begins : {R : Type 0} (p : KeptInquiry R) (old new : W) (before later : Holdings) (out : R) → HoldsEnds w p old before new later out → HoldsBreaks w p old before new later
+  ended_begins p old new before later out h = record {
     part = h.part;
     grows = h.grows;
     fits = h.fits;
@@ -124,8 +122,13 @@ module _ {W : Type 0} (w : Ghosts W) where
     counted = h.counted;
     found = h.found;
     finds = h.finds;
-    begins = run_begins (p k) before.kept later.kept h.found h.part out h.runs;
+    begins = run_begins p before.kept later.kept h.found h.part out h.runs;
   }
+
+  pub ended_breaks : {K R : Type 0} (key : Option K) (p : K → KeptInquiry R) (old new : W) (before later : Holdings) (out : R) →
+      IfSome key (λ k. HoldsEnds w (p k) old before new later out) → IfSome key (λ k. HoldsBreaks w (p k) old before new later)
+  ended_breaks None p old new before later out h = h
+  ended_breaks (Some k) p old new before later out h = ended_begins (p k) old new before later out h
 
   -- a value that was left
   pub holds_left : {R : Type 0} (v : Value) (old : W) (before later : Holdings) (said out : R) → later ≡ leaves_in before v → said ≡ out → HoldsEnds w (Leaves v (Gives said)) old before old later out

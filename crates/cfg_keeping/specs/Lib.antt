@@ -5,6 +5,7 @@ pub mod Beginnings
 pub mod SsoHoldings
 pub mod RoleDocuments
 pub mod Retrieved
+pub mod Clients
 pub mod MetadataHoldings
 pub mod FoundValues
 pub mod KeyedStates

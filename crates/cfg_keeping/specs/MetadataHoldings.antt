@@ -1,10 +1,9 @@
 -- One holding of the session token of a metadata client.
-use Rattle.std.specs.Prelude.{ℕ, List, Option, Result}
+use Rattle.std.specs.Prelude.{ℕ, List, Result}
 use Rattle.cfg_types.specs.declared.errors.imds.ImdsError.{ImdsError}
 use Rattle.cfg_imds.specs.Clients.{ClientRules, settle}
-use Rattle.cfg_imds.specs.Tokens.{Token}
 use Rattle.cfg_keeping.specs.declared.place.Place.{Place}
-use Rattle.cfg_keeping.specs.Kinds.{Value, MetadataTokenOf, MetadataTokenAt, token_in}
+use Rattle.cfg_keeping.specs.Kinds.{MetadataTokenOf, MetadataTokenAt, token_in}
 use Rattle.cfg_keeping.specs.KeptInquiry.{KeptInquiry}
 use Rattle.cfg_keeping.specs.Holds.{holding}
 

@@ -1,5 +1,5 @@
 -- The document of a role's credentials that the instance metadata service gives.
-use Rattle.std.specs.Prelude.{◌≡◌, ℕ, List, Option, None, Result, Ok, Err, codes, if◌then◌else◌}
+use Rattle.std.specs.Prelude.{◌≡◌, ℕ, List, None, Result, Ok, Err, codes, if◌then◌else◌}
 use Rattle.std.specs.Str.{encode_utf8_all, bytes_eq}
 use Rattle.cfg_values.specs.Moment.{Moment}
 use Rattle.cfg_types.specs.declared.errors.CredentialsError.{CredentialsError}

@@ -5,7 +5,8 @@ ghost use Rattle.cfg_token.specs.declared.token_key.TokenKey.{TokenKey as KeyHel
 ghost use Rattle.cfg_token.specs.SsoTokens.{sso_rules};
 ghost use Rattle.cfg_token.specs.SectionCalls.{is_memory};
 ghost use Rattle.cfg_imds.specs.Calls.{is_memory as is_metadata_memory};
-ghost use Rattle.cfg_imds.specs.Clients.{rules_of, endpoint_fault};
+ghost use Rattle.cfg_imds.specs.Clients.{endpoint_fault};
+ghost use Rattle.cfg_keeping.specs.Clients.{client_rules};
 ghost use Rattle.cfg_keeping.specs.Kinds.{RetrievedAt};
 ghost use Rattle.cfg_keeping.specs.FoundValues.{bare};
 ghost use Rattle.cfg_keeping.specs.KeyedStates.{is_sso_key};
@@ -57,8 +58,8 @@ pub trait Keeper {
         client: &Client,
         asking: &mut A,
     ) -> Result<Result<Bytes, ImdsError>, Stop>
-        requires { endpoint_fault (rules_of repeated client.now).endpoint ≡ none }
-        ensures follows { HoldsFollows ⟦<A as Asking>⟧ (token_holding (rules_of repeated client.now) place) asking.old (holdings self.old) asking.new (holdings self.new) result }
+        requires { endpoint_fault (client_rules repeated client.now).endpoint ≡ none }
+        ensures follows { HoldsFollows ⟦<A as Asking>⟧ (token_holding (client_rules repeated client.now) place) asking.old (holdings self.old) asking.new (holdings self.new) result }
         ensures key { key_held self.new ≡ key_held self.old };
 
     /// The credentials that were retrieved for the place, if any were. Nothing is asked, and they stay
@@ -126,9 +127,9 @@ pub fn imds_token<P: Keeper, D: Devices>(
     client: &Client,
     world: &mut World<D>,
 ) -> Result<Bytes, ImdsError>
-    requires { endpoint_fault (rules_of repeated client.now).endpoint ≡ none }
-    ensures finished { is_metadata_memory result ≡ false → HoldsEnds ⟦<World<D> as Asking>⟧ (token_holding (rules_of repeated client.now) place) world.old (P.holdings keeper.old) world.new (P.holdings keeper.new) result }
-    ensures stopped { is_metadata_memory result ≡ true → HoldsBreaks ⟦<World<D> as Asking>⟧ (token_holding (rules_of repeated client.now) place) world.old (P.holdings keeper.old) world.new (P.holdings keeper.new) }
+    requires { endpoint_fault (client_rules repeated client.now).endpoint ≡ none }
+    ensures finished { is_metadata_memory result ≡ false → HoldsEnds ⟦<World<D> as Asking>⟧ (token_holding (client_rules repeated client.now) place) world.old (P.holdings keeper.old) world.new (P.holdings keeper.new) result }
+    ensures stopped { is_metadata_memory result ≡ true → HoldsBreaks ⟦<World<D> as Asking>⟧ (token_holding (client_rules repeated client.now) place) world.old (P.holdings keeper.old) world.new (P.holdings keeper.new) }
     ensures key { P.key_held keeper.new ≡ P.key_held keeper.old }
 {
     match keeper.imds_token(alloc, place, client, world) {

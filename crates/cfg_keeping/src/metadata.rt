@@ -1,6 +1,6 @@
 //! What is kept for one place of a metadata client, and the holdings of it.
 ghost use Rattle.std.specs.Prelude.{◌≡◌, ◌++◌, ◌∷◌, [], IfOk, OnOk, OnErr, map, option_map};
-ghost use Rattle.cfg_imds.specs.Clients.{rules_of};
+ghost use Rattle.cfg_keeping.specs.Clients.{client_rules};
 ghost use Rattle.cfg_imds.specs.Tokens.{bare_token};
 ghost use Rattle.cfg_keeping.specs.FoundValues.{bare};
 ghost use Rattle.cfg_keeping.specs.Holds.{HoldsOne};
@@ -59,7 +59,7 @@ pub fn hold_token<A: Asking>(
     client: &Client,
     asking: &mut A,
 ) -> Result<Result<Bytes, ImdsError>, Stop>
-    ensures { HoldsOne ⟦<A as Asking>⟧ (token_holding (rules_of repeated client.now) place) asking.old asking.new (map bare found.old.items) (map bare found.new.items) (MetadataTokenAt place (option_map bare_token token.old)) (MetadataTokenAt place (option_map bare_token token.new)) result }
+    ensures { HoldsOne ⟦<A as Asking>⟧ (token_holding (client_rules repeated client.now) place) asking.old asking.new (map bare found.old.items) (map bare found.new.items) (MetadataTokenAt place (option_map bare_token token.old)) (MetadataTokenAt place (option_map bare_token token.new)) result }
 {
     note_token(alloc, found, place, token)?;
     let outcome = client.follow_settle(token, asking)?;

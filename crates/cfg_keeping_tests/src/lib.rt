@@ -5,3 +5,9 @@
 mod holdings;
 #[cfg(test)]
 mod keys;
+#[cfg(test)]
+mod metadata;
+#[cfg(test)]
+mod retrieved;
+#[cfg(test)]
+mod setup;
