@@ -1,4 +1,3 @@
-pub mod Clients
 pub mod Settings
 pub mod Metadata
 pub mod Causes

@@ -9,7 +9,7 @@ use Rattle.cfg_keeping.specs.declared.place.Place.{Place}
 use Rattle.cfg_keeping.specs.declared.place.Place.TheVariants.{Chain}
 use Rattle.cfg_metadata.specs.declared.builder.Builder.{Builder}
 use Rattle.cfg_metadata.specs.declared.provider.ImdsCredentialsProvider.{ImdsCredentialsProvider}
-use Rattle.cfg_metadata.specs.Clients.{client_rules}
+use Rattle.cfg_keeping.specs.Clients.{client_rules}
 use Rattle.cfg_metadata.specs.Settings.{MetadataSetting, setting}
 
 -- what a builder is set to: the role and the client where they were given

@@ -1,7 +1,7 @@
 //! What a provider of metadata credentials is set up with.
 ghost use Rattle.std.specs.Prelude.{◌≡◌, IfOk, Some as some, option_map};
 ghost use Rattle.cfg_values.specs.Text.{characters};
-ghost use Rattle.cfg_metadata.specs.Clients.{client_rules};
+ghost use Rattle.cfg_keeping.specs.Clients.{client_rules};
 ghost use Rattle.cfg_metadata.specs.Setups.{IsClientOf};
 
 use crate::provider::ImdsCredentialsProvider;

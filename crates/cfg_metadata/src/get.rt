@@ -2,7 +2,7 @@
 ghost use Rattle.std.specs.Prelude.{◌≡◌, IfOk, None as none};
 ghost use Rattle.cfg_imds.specs.Calls.{is_memory as is_memory_of};
 ghost use Rattle.cfg_imds.specs.Clients.{endpoint_fault};
-ghost use Rattle.cfg_metadata.specs.Clients.{client_rules};
+ghost use Rattle.cfg_keeping.specs.Clients.{client_rules};
 ghost use Rattle.cfg_imds.specs.Fetches.{entry_fault};
 ghost use Rattle.cfg_keeping.specs.Holds.{HoldsFollows};
 ghost use Rattle.cfg_metadata.specs.Metadata.{get_fault as get_fault_of, token_and_text as token_and_text_of, metadata_get as metadata_get_of};

@@ -1,6 +1,6 @@
 //! The provider of metadata credentials.
 ghost use Rattle.std.specs.Prelude.{◌≡◌, IfOk, true, false};
-ghost use Rattle.cfg_metadata.specs.Clients.{client_rules};
+ghost use Rattle.cfg_keeping.specs.Clients.{client_rules};
 ghost use Rattle.cfg_keeping.specs.Holds.{HoldsFollows, HoldsBreaks};
 ghost use Rattle.cfg_providers.specs.Provides.{is_memory};
 ghost use Rattle.cfg_metadata.specs.Settings.{setting};
