@@ -6,3 +6,4 @@ pub mod Passing
 pub mod Validity
 pub mod Over
 pub mod Found
+pub mod Steps

@@ -1,12 +1,17 @@
 -- Where a provider of metadata credentials is passed over.
 use Rattle.std.proofs.Common.{◌≡◌, ◌⊎◌, inl, inr, ℕ, List, [], ◌∷◌, ◌++◌, Bool, true, false, Option, Some, None, refl, sym, ap, ◌∙◌, subst}
-use Rattle.std.specs.Prelude.{Result, Ok, Err, IsOk, IsSome, option_map, if◌then◌else◌}
+use Rattle.std.specs.Prelude.{Result, Ok, Err, IsOk, IsSome, option_map, codes, if◌then◌else◌}
 use Rattle.std.specs.Result.{result_err}
+use Rattle.std.specs.Str.{bytes_eq}
+use denote.Hole.Carrier as carrier
 use Rattle.cfg_types.specs.Classes.{is_of_class}
 use Rattle.cfg_types.specs.Keys.{Keys}
 use Rattle.cfg_types.specs.declared.errors.Class.TheVariants as class
+use Rattle.cfg_types.specs.declared.errors.CredentialsError as errors
 use Rattle.cfg_types.specs.declared.errors.CredentialsError.{CredentialsError}
-use Rattle.cfg_types.specs.declared.errors.CredentialsError.TheVariants.{CredentialsNotLoaded}
+use Rattle.cfg_types.specs.declared.errors.CredentialsError.TheVariants.{CredentialsNotLoaded, InvalidConfiguration, ProviderError}
+use Rattle.cfg_types.specs.declared.errors.ConfigCause.TheVariants.{MetadataRole}
+use Rattle.cfg_types.specs.declared.errors.ProviderCause.TheVariants.{ErrorDocument}
 use Rattle.cfg_types.specs.declared.errors.NotLoadedCause.{NotLoadedCause}
 use Rattle.cfg_types.specs.declared.errors.NotLoadedCause.TheVariants.{MetadataDisabled}
 use Rattle.cfg_types.specs.declared.errors.imds.ImdsError.{ImdsError}
@@ -50,9 +55,11 @@ by_code true x y h k = h
 by_code false x y h k = k
 
 refused_stays : (code message : List ℕ) → is_not_loaded (refused_role code message) ≡ false
-refused_stays code message = by_code _ _ _ refl refl
+unfolding errors.out-CredentialsError carrier.out
+refused_stays code message = by_code (bytes_eq code (codes "AssumeRoleUnauthorizedAccess")) (InvalidConfiguration (MetadataRole code message)) (ProviderError (ErrorDocument code message)) refl refl
 
 said_stays : (said : Read JsonCredentials) → IsNotLoaded (result_err (said_role said)) → ⊥
+unfolding errors.out-CredentialsError carrier.out
 said_stays (Ok (says.RefreshableCredentials id secret token account end)) h = h
 said_stays (Ok (says.Error code message)) h = clash (sym (refused_stays code message) ∙ h)
 said_stays (Err e) h = clash h
@@ -62,6 +69,7 @@ unfolding role_document
 document_stays text h = said_stays (get_document text) h
 
 error_stays : (e : Option ImdsError) → IsNotLoaded (option_map get_error e) → ⊥
+unfolding errors.out-CredentialsError carrier.out
 error_stays None h = h
 error_stays (Some e) h = clash h
 
@@ -72,6 +80,7 @@ role_stays_by client path part (Some text) h = document_stays text.0 h
 -- ---- a listing
 
 absent_by : (e : ImdsError) (reason : Option NotLoadedCause) → is_not_loaded (listing_error_by e reason) ≡ true → IsSome reason
+unfolding errors.out-CredentialsError carrier.out
 absent_by e (Some reason) h = refl
 absent_by e None h = clash h
 
@@ -136,6 +145,7 @@ answered None out h cause = absurd h
 answered (Some e) out h cause = ap is_not_loaded_answer (sym cause) ∙ h
 
 absent_loaded : (e : ImdsError) (reason : Option NotLoadedCause) → IsSome reason → is_not_loaded (listing_error_by e reason) ≡ true
+unfolding errors.out-CredentialsError carrier.out
 absent_loaded e (Some reason) h = refl
 absent_loaded e None h = clash h
 
@@ -146,8 +156,12 @@ unlisted_loaded s part u =
     let why = ap (λ b. if b then Some (CredentialsNotLoaded MetadataDisabled) else why_by_role s.client s.role part) u.enabled ∙ role ∙ text ∙ ap (option_map listing_error) u.is in
     subst IsNotLoaded (sym why) (absent_loaded u.fault (absence u.fault) u.absent)
 
+disabled_loaded : is_not_loaded (CredentialsNotLoaded MetadataDisabled) ≡ true
+unfolding errors.out-CredentialsError carrier.out
+disabled_loaded = refl
+
 line_loaded : (s : MetadataSetting) (part : List Pair) → LineBy s part → IsNotLoaded (why_nothing s part)
-line_loaded s part (inl off) = subst IsNotLoaded (sym (ap (λ b. if b then Some (CredentialsNotLoaded MetadataDisabled) else why_by_role s.client s.role part) off.0)) refl
+line_loaded s part (inl off) = subst IsNotLoaded (sym (ap (λ b. if b then Some (CredentialsNotLoaded MetadataDisabled) else why_by_role s.client s.role part) off.0)) disabled_loaded
 line_loaded s part (inr u) = unlisted_loaded s part u
 
 passes_back : (s : MetadataSetting) (found : List Value) (part : List Pair) (out : Answer) → Reads (metadata s) found part out → IsPassedOver s found part → is_not_loaded_answer out ≡ true

@@ -3,11 +3,16 @@ use Rattle.std.proofs.Common.{◌≡◌, ◌⊎◌, inl, inr, ℕ, List, [], ◌
 use Rattle.std.specs.Option.{option_or}
 use Rattle.std.specs.Prelude.{Result, Ok, Err, IsOk, IfSome, is_ok, option_map, if◌then◌else◌}
 use Rattle.std.specs.Result.{result_err}
+use Rattle.std.specs.Str.{is_utf8}
+use Rattle.cfg_values.specs.Text.{characters}
+use Rattle.cfg_types.specs.Keys.{Keys}
 use Rattle.cfg_types.specs.declared.errors.CredentialsError.{CredentialsError}
 use Rattle.cfg_types.specs.declared.errors.CredentialsError.TheVariants.{CredentialsNotLoaded}
 use Rattle.cfg_types.specs.declared.errors.NotLoadedCause.TheVariants.{MetadataDisabled}
 use Rattle.cfg_types.specs.declared.errors.imds.FailedToLoadToken.{FailedToLoadToken}
 use Rattle.cfg_types.specs.declared.errors.imds.ImdsError.{ImdsError}
+use Rattle.cfg_types.specs.declared.errors.imds.ImdsError.TheVariants as imds
+use Rattle.cfg_types.specs.declared.errors.imds.UnexpectedCause.TheVariants as unexpected
 use Rattle.cfg_types.specs.declared.request.Request.{Request}
 use Rattle.cfg_world.specs.declared.ask.Question.{Question}
 use Rattle.cfg_world.specs.declared.ask.Question.TheVariants.{Now, Send}
@@ -133,13 +138,13 @@ get_by client place path None found part out is h uses = asked_ok client place p
 
 no_fault : (endpoint : Endpoint) (path : List ℕ) → endpoint_fault endpoint ≡ None → is_path path ≡ true → why_unusable endpoint path ≡ None
 unfolding why_unusable
-no_fault endpoint path fine is = ap (λ b. option_or (if b then None else _) (endpoint_fault endpoint)) is ∙ fine
+no_fault endpoint path fine is = ap (λ b. option_or (if b then None else Some (unexpected.Path (characters path))) (endpoint_fault endpoint)) is ∙ fine
 
 -- a get of a path that may be asked for
 get_ok : (client : ClientRules) (place : Place) (path : List ℕ) (found : List Value) (part : List Pair) (out : Result Pair ImdsError) → endpoint_fault client.endpoint ≡ None → is_path path ≡ true →
     Reads (metadata_get client place path) found part out → AreOfUse part → is_ok out ≡ true
 unfolding metadata_get
-get_ok client place path found part out fine is h uses = get_by client place path (get_fault client path) found part out (ap (option_map _) (no_fault client.endpoint path fine is)) h uses
+get_ok client place path found part out fine is h uses = get_by client place path (get_fault client path) found part out (ap (option_map imds.Unexpected) (no_fault client.endpoint path fine is)) h uses
 
 -- ---- the document
 
@@ -184,7 +189,7 @@ role_ok client place path found part out fine is gives h uses =
 -- ---- the listing
 
 listing_is_path : is_path listing_path ≡ true
-unfolding is_path
+unfolding is_path is_utf8
 listing_is_path = refl
 
 listed_ok : (got : Result Pair ImdsError) → is_ok got ≡ true → is_ok (listed got) ≡ true
@@ -224,7 +229,7 @@ enabled_ok : (b : Bool) (s : MetadataSetting) (found : List Value) (part : List 
 enabled_ok true s found part out is fine gives uses h = clash (sym is)
 enabled_ok false s found part out is fine gives uses h = retrieves_ok s.client s.place s.role found part out fine gives h uses
 
-by_middle : (given out : Answer) (kept : Option _) → is_ok given ≡ true → AnswersBy (result_err given) kept out → is_ok out ≡ true
+by_middle : (given out : Answer) (kept : Option Keys) → is_ok given ≡ true → AnswersBy (result_err given) kept out → is_ok out ≡ true
 by_middle (Ok keys) (Ok more) kept ok a = refl
 by_middle (Ok keys) (Err e) kept ok a = clash a
 by_middle (Err e) out kept ok a = clash ok
