@@ -1,9 +1,10 @@
 -- Where nothing stands in the way, a call gives credentials.
+use lib.Utf8.{encode}
 use Rattle.std.proofs.Common.{◌≡◌, ◌⊎◌, inl, inr, ℕ, List, [], ◌∷◌, ◌++◌, Bool, true, false, Option, Some, None, refl, sym, ap, ◌∙◌, subst, append-nil, append_assoc}
 use Rattle.std.specs.Option.{option_or}
 use Rattle.std.specs.Prelude.{Result, Ok, Err, IsOk, IfSome, is_ok, option_map, if◌then◌else◌}
 use Rattle.std.specs.Result.{result_err}
-use Rattle.std.specs.Str.{is_utf8}
+use Rattle.std.specs.Str.{is_utf8, chars}
 use Rattle.cfg_values.specs.Text.{characters}
 use Rattle.cfg_types.specs.Keys.{Keys}
 use Rattle.cfg_types.specs.declared.errors.CredentialsError.{CredentialsError}
@@ -189,7 +190,7 @@ role_ok client place path found part out fine is gives h uses =
 -- ---- the listing
 
 listing_is_path : is_path listing_path ≡ true
-unfolding is_path is_utf8
+unfolding is_path is_utf8 chars encode
 listing_is_path = refl
 
 listed_ok : (got : Result Pair ImdsError) → is_ok got ≡ true → is_ok (listed got) ≡ true
