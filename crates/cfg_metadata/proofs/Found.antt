@@ -1,13 +1,13 @@
 -- A kept value that was found, and nothing asked.
-use Rattle.std.proofs.Common.{◌≡◌, List, [], ◌∷◌, Result, Ok, Err, refl, sym, ap, subst, append-nil}
+use Rattle.std.proofs.Common.{◌≡◌, [], ◌∷◌, Result, Err, refl, sym, subst, append-nil}
 use Rattle.cfg_world.specs.declared.asking.Asking.{Ghosts}
 use Rattle.cfg_world.specs.declared.asking.Stop.{Stop}
 use Rattle.cfg_world.specs.declared.asking.Stop.TheVariants.{OutOfMemory}
 use Rattle.cfg_world.proofs.Counts.{Same-refl, Counted-none}
 use Rattle.cfg_keeping.specs.Kinds.{Spot, Value, spot_of}
-use Rattle.cfg_keeping.specs.KeptInquiry.{KeptInquiry, Gives, Finds, Begins}
-use Rattle.cfg_keeping.specs.Holds.{Holdings, HoldsFound, HoldsEnds, HoldsBreaks, HoldsFollows}
-use Rattle.cfg_keeping.proofs.OneHolding.{holds_found, nothing_done}
+use Rattle.cfg_keeping.specs.KeptInquiry.{KeptInquiry, Finds, Begins}
+use Rattle.cfg_keeping.specs.Holds.{Holdings, HoldsFound, HoldsFollows}
+use Rattle.cfg_keeping.proofs.OneHolding.{nothing_done}
 use Rattle.cfg_keeping.proofs.Trees.{begins_here}
 
 module _ {W : Type 0} (w : Ghosts W) where

@@ -1,5 +1,5 @@
 -- A get reads as that of a client, on the session token that was found.
-use Rattle.std.proofs.Common.{◌≡◌, ℕ, List, [], ◌∷◌, ◌++◌, Option, Some, None, refl, sym, ap, ◌∙◌, subst, append-nil}
+use Rattle.std.proofs.Common.{◌≡◌, ℕ, List, [], ◌∷◌, Option, Some, None, refl, sym, ◌∙◌, subst, append-nil}
 use Rattle.std.specs.Prelude.{Result, Ok, Err, option_map}
 use Rattle.std.specs.Result.{result_err}
 use Rattle.cfg_types.specs.declared.errors.imds.ImdsError.{ImdsError}
@@ -17,7 +17,7 @@ use Rattle.cfg_imds.proofs.WhyNot.{get_fault}
 use Rattle.cfg_keeping.specs.declared.place.Place.{Place}
 use Rattle.cfg_keeping.specs.Holds.{holding, left_by}
 use Rattle.cfg_keeping.specs.Kinds.{Value, MetadataTokenAt, token_in}
-use Rattle.cfg_keeping.specs.KeptInquiry.{Gives, Reads, lift, onwards, onwards_if_ok}
+use Rattle.cfg_keeping.specs.KeptInquiry.{Reads, lift, onwards_if_ok}
 use Rattle.cfg_keeping.specs.MetadataHoldings.{token_holding}
 use Rattle.cfg_keeping.proofs.Splits.{split_onwards, lowered}
 use Rattle.cfg_metadata.specs.Metadata.{unless_fault, token_and_text, metadata_get}

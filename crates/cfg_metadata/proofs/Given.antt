@@ -1,5 +1,5 @@
 -- What was given, whoever keeps the values.
-use Rattle.std.proofs.Common.{◌≡◌, List, [], ◌∷◌, ◌++◌, Option, None, refl, ap, ◌∙◌, append-nil}
+use Rattle.std.proofs.Common.{◌≡◌, List, [], ◌∷◌, ◌++◌, Option, refl, ap, ◌∙◌, append-nil}
 use Rattle.cfg_world.specs.Fits.{Pair}
 use Rattle.cfg_keeping.specs.Kinds.{Value, States}
 use Rattle.cfg_keeping.specs.KeptInquiry.{KeptInquiry, Gives, Puts, Finds, Leaves, Runs, Reads, leave}

@@ -1,5 +1,4 @@
 -- Calls over a world, from what they follow.
-use Rattle.std.proofs.Common.{Option, Some}
 use Rattle.std.specs.Prelude.{IsSome}
 use Rattle.cfg_world.specs.declared.asking.Asking.{Ghosts}
 use Rattle.cfg_world.specs.declared.asking.Stop.{Stop}

@@ -1,6 +1,6 @@
 -- Where a provider of metadata credentials is passed over.
-use Rattle.std.proofs.Common.{◌≡◌, ◌⊎◌, inl, inr, ℕ, List, [], ◌∷◌, ◌++◌, Bool, true, false, Option, Some, None, refl, sym, ap, ◌∙◌, subst}
-use Rattle.std.specs.Prelude.{Result, Ok, Err, IsOk, IsSome, option_map, codes, if◌then◌else◌}
+use Rattle.std.proofs.Common.{◌≡◌, ◌⊎◌, inl, inr, ℕ, List, [], Bool, true, false, Option, Some, None, refl, sym, ap, ◌∙◌, subst}
+use Rattle.std.specs.Prelude.{Ok, Err, IsOk, IsSome, option_map, codes, if◌then◌else◌}
 use Rattle.std.specs.Result.{result_err}
 use Rattle.std.specs.Str.{bytes_eq}
 use denote.Hole.Carrier as carrier
@@ -30,7 +30,7 @@ use Rattle.cfg_providers.specs.CustomSources.{Answer}
 use Rattle.cfg_providers.specs.EnvironmentCauses.{is_not_loaded_answer}
 use Rattle.cfg_metadata.specs.Settings.{MetadataSetting}
 use Rattle.cfg_metadata.specs.Metadata.{listing_path, role_path, get_error, absence, listing_error_by, listing_error, retrieves, unless_disabled, or_found, settled, metadata}
-use Rattle.cfg_metadata.specs.Causes.{first_text, why_document, why_role_by, why_role, why_listed_by, why_by_role, why_nothing, retrieved_in, AnswersBy}
+use Rattle.cfg_metadata.specs.Causes.{first_text, why_document, why_role_by, why_listed_by, why_by_role, why_nothing, retrieved_in, AnswersBy}
 use Rattle.cfg_metadata.specs.PassedOver.{IsUnlisted, IsPassedOver}
 use Rattle.cfg_metadata.proofs.Given.{given_is, whole_part}
 use Rattle.cfg_metadata.proofs.Reasons.{settled_answers, has_cause}

@@ -2,7 +2,6 @@
 use Rattle.std.proofs.Common.{◌≡◌, ℕ, List, [], ◌∷◌, ◌++◌, Bool, true, false, Option, Some, None, refl, sym, ap, ◌∙◌, subst, append-nil}
 use Rattle.std.specs.Prelude.{Result, Ok, Err, IsOk, option_map, if◌then◌else◌}
 use Rattle.std.specs.Result.{result_err}
-use Rattle.cfg_types.specs.Keys.{Keys}
 use Rattle.cfg_types.specs.declared.errors.CredentialsError.{CredentialsError}
 use Rattle.cfg_types.specs.declared.errors.CredentialsError.TheVariants.{CredentialsNotLoaded}
 use Rattle.cfg_types.specs.declared.errors.NotLoadedCause.TheVariants.{MetadataDisabled}
@@ -17,15 +16,15 @@ use Rattle.cfg_imds.specs.Causes.{why_no_text}
 use Rattle.cfg_imds.specs.Clients.{ClientRules}
 use Rattle.cfg_imds.specs.Fetches.{entry_text}
 use Rattle.cfg_keeping.specs.declared.place.Place.{Place}
-use Rattle.cfg_keeping.specs.Kinds.{Value, RetrievedOf, spot_of, keys_in}
-use Rattle.cfg_keeping.specs.KeptInquiry.{Gives, Reads, lift, onwards, onwards_if_ok}
+use Rattle.cfg_keeping.specs.Kinds.{Value, keys_in}
+use Rattle.cfg_keeping.specs.KeptInquiry.{Gives, Reads, lift, onwards_if_ok}
 use Rattle.cfg_keeping.specs.Retrieved.{is_due}
 use Rattle.cfg_keeping.specs.RoleDocuments.{RoleKeys, role_document}
 use Rattle.cfg_keeping.proofs.Splits.{split_onwards, lowered}
 use Rattle.cfg_providers.specs.CustomSources.{Answer}
 use Rattle.cfg_metadata.specs.Settings.{MetadataSetting}
 use Rattle.cfg_metadata.specs.Metadata.{metadata_get, listing_path, role_path, get_error, listing_error, listed, listing, path_of_role, documented, document, dated_keys, jittered, extended, dated, retrieves_at, retrieves, unless_disabled, just_read, or_found, settled, metadata}
-use Rattle.cfg_metadata.specs.Causes.{first_text, why_document, why_role_by, why_role, why_listed_by, why_listed, why_by_role, why_nothing, retrieved_in, AnswersBy, CauseMetadata}
+use Rattle.cfg_metadata.specs.Causes.{first_text, why_role_by, why_role, why_listed_by, why_listed, why_by_role, why_nothing, retrieved_in, AnswersBy, CauseMetadata}
 use Rattle.cfg_metadata.proofs.Given.{given_is, whole_part}
 use Rattle.cfg_metadata.proofs.Gets.{get_cause}
 use Rattle.cfg_metadata.proofs.Texts.{GotText, silent_none, got_first, get_texts}

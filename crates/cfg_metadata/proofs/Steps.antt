@@ -1,6 +1,6 @@
 -- Calls one after another, where an outcome is a reading of what a call made.
-use Rattle.std.proofs.Common.{◌≡◌, ℕ, List, Option, Some, sym, subst}
-use Rattle.std.specs.Prelude.{Result, Ok, Err}
+use Rattle.std.proofs.Common.{◌≡◌, ℕ, List, Option, Some, subst}
+use Rattle.std.specs.Prelude.{Result, Ok}
 use Rattle.cfg_types.specs.declared.errors.CredentialsError.{CredentialsError}
 use Rattle.cfg_types.specs.declared.errors.imds.ImdsError.{ImdsError}
 use Rattle.cfg_world.specs.declared.ask.Question.TheVariants.{Jitter}

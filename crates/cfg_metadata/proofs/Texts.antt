@@ -1,10 +1,9 @@
 -- The texts that a get shows in its part: none, or its last entry alone.
-use Rattle.std.proofs.Common.{◌≡◌, ℕ, List, [], ◌∷◌, ◌++◌, Bool, true, false, Option, Some, None, refl, sym, ap, ◌∙◌, subst, append-nil, append_assoc}
+use Rattle.std.proofs.Common.{◌≡◌, ℕ, List, [], ◌∷◌, ◌++◌, Bool, true, false, Option, Some, None, refl, sym, ap, ◌∙◌, subst, append_assoc}
 use Rattle.std.specs.Prelude.{◌&&◌, is_none, Result, Ok, Err, if◌then◌else◌}
 use Rattle.std.specs.List.{AllByRecursion}
 use Rattle.std.specs.Str.{is_utf8}
 use Rattle.cfg_types.specs.declared.errors.imds.ImdsError.{ImdsError}
-use Rattle.cfg_types.specs.declared.reply.Reply.{Reply}
 use Rattle.cfg_types.specs.declared.reply.Reply.TheVariants as reply
 use Rattle.cfg_types.specs.declared.reply.http.HttpReply.{HttpReply}
 use Rattle.cfg_types.specs.declared.request.Request.{Request}
@@ -29,12 +28,12 @@ use Rattle.cfg_imds.specs.Utf8.{utf8}
 use Rattle.cfg_imds.proofs.Shapes.{settle_shape, fetch_shape}
 use Rattle.cfg_keeping.specs.declared.place.Place.{Place}
 use Rattle.cfg_keeping.specs.Kinds.{Value}
-use Rattle.cfg_keeping.specs.KeptInquiry.{Gives, Reads, lift, onwards, onwards_if_ok}
+use Rattle.cfg_keeping.specs.KeptInquiry.{Reads, lift, onwards_if_ok}
 use Rattle.cfg_keeping.specs.MetadataHoldings.{token_holding}
 use Rattle.cfg_keeping.proofs.Splits.{split_onwards, lowered}
 use Rattle.cfg_metadata.specs.Causes.{is_get, is_text, first_text}
 use Rattle.cfg_metadata.specs.Metadata.{get_fault, unless_fault, token_and_text, metadata_get}
-use Rattle.cfg_metadata.proofs.Given.{given_is, whole_part}
+use Rattle.cfg_metadata.proofs.Given.{given_is}
 use Rattle.cfg_metadata.proofs.Gets.{token_settles}
 
 -- no entry is a text that was got

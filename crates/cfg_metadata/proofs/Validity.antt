@@ -21,29 +21,29 @@ use Rattle.cfg_world.specs.Fits.{Pair}
 use Rattle.cfg_world.specs.Inquiry as low
 use Rattle.cfg_world.specs.Leaves.{moment_of}
 use Rattle.cfg_imds.specs.declared.endpoint.Endpoint.{Endpoint}
-use Rattle.cfg_imds.specs.Clients.{ClientRules, place_of, endpoint_fault, path_fault, why_unusable, settle, fetch}
+use Rattle.cfg_imds.specs.Clients.{ClientRules, place_of, endpoint_fault, why_unusable, settle, fetch}
 use Rattle.cfg_imds.specs.Fetches.{entry_fault, entry_text, unless_fault as unless_faulty, fetched}
-use Rattle.cfg_imds.specs.Paths.{is_path, IsPath}
+use Rattle.cfg_imds.specs.Paths.{is_path}
 use Rattle.cfg_imds.specs.Requests.{Service, token_request, get_request}
 use Rattle.cfg_imds.specs.SettledParts.{Renewed, SettledBy}
-use Rattle.cfg_imds.specs.Settles.{Given, Settled, is_good, kept_value, renewed, renewal}
+use Rattle.cfg_imds.specs.Settles.{Given, Settled, is_good, renewed, renewal}
 use Rattle.cfg_imds.specs.Tokens.{Token, read_token}
 use Rattle.cfg_imds.proofs.Pathing.{is_a_path}
 use Rattle.cfg_imds.proofs.Shapes.{settle_shape, fetch_shape}
 use Rattle.cfg_keeping.specs.declared.place.Place.{Place}
 use Rattle.cfg_keeping.specs.Kinds.{Value}
-use Rattle.cfg_keeping.specs.KeptInquiry.{Gives, Reads, lift, onwards, onwards_if_ok}
+use Rattle.cfg_keeping.specs.KeptInquiry.{Gives, Reads, lift, onwards_if_ok}
 use Rattle.cfg_keeping.specs.MetadataHoldings.{token_holding}
 use Rattle.cfg_keeping.specs.RoleDocuments.{RoleKeys, role_document}
 use Rattle.cfg_keeping.proofs.Splits.{split_onwards, lowered}
 use Rattle.cfg_providers.specs.CustomSources.{Answer}
 use Rattle.cfg_metadata.specs.Settings.{MetadataSetting}
 use Rattle.cfg_metadata.specs.Metadata.{get_fault, unless_fault, token_and_text, metadata_get, listing_path, role_path, listed, listing, path_of_role, documented, document, dated, retrieves_at, retrieves, unless_disabled, settled, metadata}
-use Rattle.cfg_metadata.specs.Causes.{first_text, why_nothing, retrieved_in, AnswersBy}
-use Rattle.cfg_metadata.specs.Valid.{GivesToken, IsOfUse, IsRepeated, AreOfUse, IsDocument, IsListing, GivesRole, IsValid}
+use Rattle.cfg_metadata.specs.Causes.{first_text, retrieved_in, AnswersBy}
+use Rattle.cfg_metadata.specs.Valid.{IsOfUse, IsRepeated, AreOfUse, IsDocument, IsListing, GivesRole, IsValid}
 use Rattle.cfg_metadata.proofs.Given.{given_is, whole_part}
 use Rattle.cfg_metadata.proofs.Gets.{token_settles}
-use Rattle.cfg_metadata.proofs.Reasons.{Shows, get_shows, Lists, listing_lists, dated_ok, settled_answers, has_cause, nothing_cause}
+use Rattle.cfg_metadata.proofs.Reasons.{Shows, get_shows, Lists, listing_lists, dated_ok, settled_answers}
 
 clash : {X : Type 0} → false ≡ true → X
 clash h = absurd (differ h)

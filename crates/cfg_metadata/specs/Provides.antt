@@ -1,5 +1,4 @@
 -- What a call of a provider leaves.
-use Rattle.std.specs.Prelude.{List}
 use Rattle.cfg_world.specs.declared.asking.Asking.{Ghosts}
 use Rattle.cfg_keeping.specs.Holds.{Holdings, HoldsEnds}
 use Rattle.cfg_providers.specs.CustomSources.{Answer}
