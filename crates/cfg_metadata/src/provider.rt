@@ -1,0 +1,118 @@
+//! The provider of metadata credentials.
+ghost use Rattle.std.specs.Prelude.{◌≡◌, IfOk, true, false};
+ghost use Rattle.cfg_keeping.specs.Clients.{client_rules};
+ghost use Rattle.cfg_keeping.specs.Holds.{HoldsFollows, HoldsBreaks};
+ghost use Rattle.cfg_providers.specs.Provides.{is_memory};
+ghost use Rattle.cfg_metadata.specs.Settings.{setting};
+ghost use Rattle.cfg_metadata.specs.Metadata.{metadata};
+ghost use Rattle.cfg_metadata.specs.Provides.{ProvidesMetadata};
+
+use crate::builder::Builder;
+use crate::follow::follow_metadata;
+use cfg_imds::Client;
+use cfg_keeping::{Keeper, Place};
+use cfg_types::{Credentials, CredentialsError, OutOfMemory, Text};
+use cfg_world::{Asking, Devices, Stop, World};
+use std::alloc::Global;
+
+/// Credentials of the role of a machine of Amazon EC2, as its instance metadata service gives them. It
+/// asks by session tokens alone (IMDSv2). What it keeps between its calls is the keeper's.
+#[derive(Drop)]
+pub struct ImdsCredentialsProvider {
+    alloc: Global,
+    disabled: bool,
+    client: Client,
+    role: Option<Text>,
+    place: Place,
+}
+
+impl ImdsCredentialsProvider {
+    ghost use Rattle.cfg_metadata.specs.Setups.{setup_of, setting_of, default_metadata};
+
+    pub(crate) fn of(
+        alloc: Global,
+        disabled: bool,
+        client: Client,
+        role: Option<Text>,
+        place: Place,
+    ) -> ImdsCredentialsProvider
+        ensures { setting_of repeated result ≡ setting disabled (client_rules repeated client) role place }
+    {
+        ImdsCredentialsProvider {
+            alloc,
+            disabled,
+            client,
+            role,
+            place,
+        }
+    }
+
+    /// A builder with no variables and no profiles, of the role that the service lists, for the default
+    /// chain.
+    pub fn builder(alloc: Global) -> Result<Builder, OutOfMemory>
+        ensures { IfOk result (λ b. setup_of repeated b ≡ default_metadata) }
+    {
+        Builder::new(alloc)
+    }
+
+    /// The body of [`Self::provide_credentials`], over anything that can be asked. Where a question is
+    /// left open it stops there.
+    pub fn follow<P: Keeper, A: Asking>(
+        &self,
+        keeper: &mut P,
+        asking: &mut A,
+    ) -> Result<Result<Credentials, CredentialsError>, Stop>
+        ensures follows { HoldsFollows ⟦<A as Asking>⟧ (metadata (setting_of repeated self.now)) asking.old (P.holdings keeper.old) asking.new (P.holdings keeper.new) result }
+        ensures key { P.key_held keeper.new ≡ P.key_held keeper.old }
+    {
+        follow_metadata(
+            self.alloc,
+            self.disabled,
+            &self.client,
+            &self.role,
+            self.place,
+            keeper,
+            asking,
+        )
+    }
+
+    /// The credentials of the machine's role, by the provider's name `IMDSv2`.
+    ///
+    /// Where metadata is switched off by `AWS_EC2_METADATA_DISABLED` nothing is asked. Else the path
+    /// `/latest/meta-data/iam/security-credentials/` gives the role's name, unless one is set; the path
+    /// behind it gives the role's document; and the clock is read. Credentials that have ended by then
+    /// are good for 600 seconds more and a jitter of at most 300, which is asked for then alone. Each
+    /// get settles a session token on the one that is kept for the place. What is retrieved is kept for
+    /// the place, and after a refusal it is the answer. See [IAM roles for Amazon
+    /// EC2](https://docs.aws.amazon.com/AWSEC2/latest/UserGuide/iam-roles-for-amazon-ec2.html).
+    ///
+    /// # Errors
+    ///
+    /// Each of them but the last comes only where nothing retrieved is kept for the place.
+    ///
+    /// - `CredentialsNotLoaded(MetadataDisabled)`: metadata is switched off.
+    /// - `CredentialsNotLoaded(MetadataNoRole)`: the listing answers 404.
+    /// - `CredentialsNotLoaded(MetadataUnreachable)`: the listing's token request could not be sent.
+    /// - `ProviderError(Metadata)`: the listing or the document was not got for another reason. It has
+    ///   the client's error.
+    /// - `InvalidConfiguration(MetadataRole)`: the document is an error of the code
+    ///   `AssumeRoleUnauthorizedAccess`.
+    /// - `ProviderError(ErrorDocument)`: it is an error of another code.
+    /// - `Unhandled(NoDocument)`: it is no document of credentials.
+    /// - `OutOfMemory` where memory runs out. The journal then has gained the beginning of such a part,
+    ///   and each kept value is as the last finished holding left it.
+    pub fn provide_credentials<P: Keeper, D: Devices>(
+        &self,
+        keeper: &mut P,
+        world: &mut World<D>,
+    ) -> Result<Credentials, CredentialsError>
+        ensures provides { is_memory result ≡ false → ProvidesMetadata ⟦<World<D> as Asking>⟧ (setting_of repeated self.now) world.old (P.holdings keeper.old) world.new (P.holdings keeper.new) result }
+        ensures stays { is_memory result ≡ true → HoldsBreaks ⟦<World<D> as Asking>⟧ (metadata (setting_of repeated self.now)) world.old (P.holdings keeper.old) world.new (P.holdings keeper.new) }
+        ensures key { P.key_held keeper.new ≡ P.key_held keeper.old }
+    {
+        match self.follow(keeper, world) {
+            Ok(outcome) => outcome,
+            Err(_) => Err(CredentialsError::OutOfMemory),
+        }
+    }
+}
