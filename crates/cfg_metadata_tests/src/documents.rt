@@ -27,8 +27,7 @@ fn expiries(rt: HostRuntime) -> Result<(), Fail> {
         ("[2000000000,5]", "30", "2000000630.5", "; jitter"),
     ];
     for (clock, jitter, end, asked) in table {
-        let members =
-            format!(in rt.alloc(); r#""clock":[{clock}],"jitter":[{jitter}],"#)?;
+        let members = format!(in rt.alloc(); r#""clock":[{clock}],"jitter":[{jitter}],"#)?;
         let gets = format!(in rt.alloc(); r#"[[200,[],"role"],[200,[],{DOCUMENT}]]"#)?;
         let script = script_of(rt.alloc(), members.as_str(), gets.as_str())?;
         let words = words_of(rt.alloc(), script.as_str(), &[Call::Chain])?;
@@ -73,10 +72,7 @@ fn words_by(alloc: Global, document: &str) -> Result<String, OutOfMemory> {
 #[test]
 fn faults_of_documents(rt: HostRuntime) -> Result<(), Fail> {
     let table: &[(&str, &str)] = &[
-        (
-            r#""nope""#,
-            "Unhandled(NoDocument(JsonError(NotObject)))",
-        ),
+        (r#""nope""#, "Unhandled(NoDocument(JsonError(NotObject)))"),
         (r#""""#, "Unhandled(NoDocument(JsonError(NotObject)))"),
         (r#""{""#, "Unhandled(NoDocument(JsonError(Syntax)))"),
         (

@@ -1,14 +1,14 @@
 // What is kept from one call to the next.
 use crate::setup::{Call, DOCUMENT, LISTING, ROLE, script_of, words_of};
-use std::alloc::AllocError;
-use std::alloc::Global;
+use std::alloc::{AllocError, Global};
 use std::test::Fail;
 
 const READ: &str =
     "MUA... /7PC5om.... Some(\"AQoDY....=\") 1456380211.0 None IMDSv2 [CredentialsImds]";
+
 const KEPT: &str = "MUA... /7PC5om.... Some(\"AQoDY....=\") 1456380211.0 None IMDSv2 []";
-const LISTED_AGAIN: &str =
-    "; get /latest/meta-data/iam/security-credentials/ [116, 111, 107]";
+
+const LISTED_AGAIN: &str = "; get /latest/meta-data/iam/security-credentials/ [116, 111, 107]";
 
 // Two calls: the second has the session token that is kept, its listing fails four times, and what was
 // retrieved is answered, without a feature.
@@ -44,8 +44,7 @@ fn refusals_after_a_success(rt: HostRuntime) -> Result<(), Fail> {
     let token = r#",[200,[["x-aws-ec2-metadata-token-ttl-seconds","0"]],"tok"]"#;
     let tokens =
         r#",[200,[["x-aws-ec2-metadata-token-ttl-seconds","0"]],"tok"],[200,[["x-aws-ec2-metadata-token-ttl-seconds","0"]],"tok"]"#;
-    let refused =
-        r#",[200,[["x-aws-ec2-metadata-token-ttl-seconds","0"]],"tok"],[403,[],""]"#;
+    let refused = r#",[200,[["x-aws-ec2-metadata-token-ttl-seconds","0"]],"tok"],[403,[],""]"#;
     let asked = format!(in rt.alloc(); "{LISTING}{TOKEN_AND_ROLE}")?;
     let again = format!(in rt.alloc(); "{LISTING}; now; token 21600; now")?;
     let table: &[(&str, &str, &str)] = &[
@@ -58,7 +57,11 @@ fn refusals_after_a_success(rt: HostRuntime) -> Result<(), Fail> {
         (refused, r#",[200,[],"role"]"#, again.as_str()),
         (tokens, r#",[200,[],"role"],[404,[],""]"#, asked.as_str()),
         (tokens, r#",[200,[],"role"],"broken""#, asked.as_str()),
-        (tokens, r#",[200,[],"role"],[200,[],"nope"]"#, asked.as_str()),
+        (
+            tokens,
+            r#",[200,[],"role"],[200,[],"nope"]"#,
+            asked.as_str(),
+        ),
         (
             tokens,
             r#",[200,[],"role"],[200,[],"{\"Code\":\"X\"}"]"#,
@@ -73,9 +76,7 @@ fn refusals_after_a_success(rt: HostRuntime) -> Result<(), Fail> {
     for (tokens, gets, asked) in table {
         let script = script_behind(rt.alloc(), tokens, gets)?;
         let words = words_of(rt.alloc(), script.as_str(), &[Call::Chain, Call::Chain])?;
-        let want = format!(in rt.alloc();
-            "{READ}{LISTING}{TOKEN_AND_ROLE}; now\n{KEPT}{asked}\n"
-        )?;
+        let want = format!(in rt.alloc(); "{READ}{LISTING}{TOKEN_AND_ROLE}; now\n{KEPT}{asked}\n")?;
         assert_eq!(rt; words.as_str(), want.as_str(), "{tokens} {gets}");
     }
     Ok(())

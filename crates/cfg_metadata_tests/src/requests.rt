@@ -57,16 +57,12 @@ fn session_tokens_that_fail(rt: HostRuntime) -> Result<(), Fail> {
     Ok(())
 }
 
-const LISTED_AGAIN: &str =
-    "; get /latest/meta-data/iam/security-credentials/ [116, 111, 107]";
+const LISTED_AGAIN: &str = "; get /latest/meta-data/iam/security-credentials/ [116, 111, 107]";
 
 #[test]
 fn listings_that_fail(rt: HostRuntime) -> Result<(), Fail> {
     let table: &[(&str, &str)] = &[
-        (
-            r#"[[404,[],"no"]]"#,
-            "CredentialsNotLoaded(MetadataNoRole)",
-        ),
+        (r#"[[404,[],"no"]]"#, "CredentialsNotLoaded(MetadataNoRole)"),
         (
             r#"[[403,[],""]]"#,
             "ProviderError(Metadata(ErrorResponse(ErrorResponse { reply: HttpReply { status: 403, secrets: \"** redacted **\" } })))",
