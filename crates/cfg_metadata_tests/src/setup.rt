@@ -64,20 +64,6 @@ fn switched_off(alloc: Global) -> Result<ProviderConfig, OutOfMemory> {
     Ok(ProviderConfig::empty(alloc)?.with_env(Env::new(alloc, variables)?))
 }
 
-fn provider(
-    alloc: Global,
-    config: &ProviderConfig,
-    call: &Call<'_>,
-) -> Result<ImdsCredentialsProvider, OutOfMemory> {
-    let builder = ImdsCredentialsProvider::builder(alloc)?;
-    match call {
-        Call::Chain => builder.configure(config)?.build(),
-        Call::Named => builder.configure(config)?.place(Place::Named).build(),
-        Call::Role(role) => builder.configure(config)?.profile(role)?.build(),
-        Call::Off => builder.configure(&switched_off(alloc)?)?.build(),
-    }
-}
-
 fn expiry_words(alloc: Global, expiry: Option<Instant>) -> Result<String, AllocError> {
     match expiry {
         Some(end) => {
@@ -98,6 +84,26 @@ impl Drop for Outcome {
     fn drop(self) {
         let Outcome { answer: _ } = self;
     }
+}
+
+// What a call answers, on what is kept.
+fn outcome_of(
+    alloc: Global,
+    config: &ProviderConfig,
+    call: &Call<'_>,
+    kept: &mut Kept,
+    world: &mut World<ScriptDevices>,
+) -> Result<Outcome, OutOfMemory> {
+    let builder = ImdsCredentialsProvider::builder(alloc)?;
+    let provider = match call {
+        Call::Chain => builder.configure(config)?.build()?,
+        Call::Named => builder.configure(config)?.place(Place::Named).build()?,
+        Call::Role(role) => builder.configure(config)?.profile(role)?.build()?,
+        Call::Off => builder.configure(&switched_off(alloc)?)?.build()?,
+    };
+    Ok(Outcome {
+        answer: provider.provide_credentials(kept, world),
+    })
 }
 
 fn answer_words(alloc: Global, outcome: &Outcome) -> Result<String, AllocError> {
@@ -151,10 +157,7 @@ fn call_words(
     world: &mut World<ScriptDevices>,
 ) -> Result<String, OutOfMemory> {
     world.clear_journal();
-    let provider = provider(alloc, config, call)?;
-    let outcome = Outcome {
-        answer: provider.provide_credentials(kept, world),
-    };
+    let outcome = outcome_of(alloc, config, call, kept, world)?;
     let words = answer_words(alloc, &outcome)?;
     let asked = questions(alloc, world.journal())?;
     Ok(format!(in alloc; "{words}{asked}\n")?)
