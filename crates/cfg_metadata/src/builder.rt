@@ -1,8 +1,7 @@
 //! What a provider of metadata credentials is set up with.
-ghost use Rattle.std.specs.Prelude.{◌≡◌, IfOk, Some as some, option_map};
+ghost use Rattle.std.specs.Prelude.{◌≡◌, IfOk, Some as some};
 ghost use Rattle.cfg_values.specs.Text.{characters};
 ghost use Rattle.cfg_keeping.specs.Clients.{client_rules};
-ghost use Rattle.cfg_metadata.specs.Setups.{IsClientOf};
 
 use crate::provider::ImdsCredentialsProvider;
 use cfg_imds::{Client, is_disabled};
@@ -17,44 +16,29 @@ pub struct Builder {
     alloc: Global,
     config: ProviderConfig,
     role: Option<Text>,
-    client: Option<Client>,
+    client: Client,
     place: Place,
 }
 
-// The client that was given, or one that this configuration sets up.
-fn client_of(
-    alloc: Global,
-    given: Option<Client>,
-    config: &ProviderConfig,
-) -> Result<Client, OutOfMemory>
-    ensures { IfOk result (λ client. IsClientOf (option_map (client_rules repeated) given) config.now (client_rules repeated client)) }
-{
-    match given {
-        Some(client) => Ok(client),
-        None => Client::builder(alloc)?.configure(config)?.build(),
-    }
-}
-
 impl Builder {
-    ghost use Rattle.cfg_metadata.specs.Setups.{setup_of, setting_of, default_metadata, IsProvider};
+    ghost use Rattle.cfg_metadata.specs.Setups.{setup_of, setting_of, default_metadata, provider_of};
 
-    /// A builder with no variables and no profiles, of the role that the service lists, for the default
-    /// chain.
-    pub fn new(alloc: Global) -> Result<Builder, OutOfMemory>
-        ensures { IfOk result (λ b. setup_of repeated b ≡ default_metadata) }
+    /// A builder with this client, with no variables and no profiles, of the role that the service lists,
+    /// for the default chain.
+    pub fn new(alloc: Global, client: Client) -> Result<Builder, OutOfMemory>
+        ensures { IfOk result (λ b. setup_of repeated b ≡ default_metadata (client_rules repeated client)) }
     {
         Ok(Builder {
             alloc,
             config: ProviderConfig::without_region(alloc)?,
             role: None,
-            client: None,
+            client,
             place: Place::Chain,
         })
     }
 
     /// With a copy of this configuration, in place of the one that it had. Its variables may switch
-    /// metadata off, and where no client is given they and its selected profile may say where the
-    /// service is asked.
+    /// metadata off.
     pub fn configure(mut self, config: &ProviderConfig) -> Result<Builder, OutOfMemory>
         ensures { IfOk result (λ b. setup_of repeated b ≡ record (setup_of repeated self) { configuration = config.now }) }
     {
@@ -71,11 +55,11 @@ impl Builder {
         Ok(self)
     }
 
-    /// With this client, whatever the configuration says of one.
+    /// With this client, in place of the one that it had.
     pub fn imds_client(mut self, client: Client) -> Builder
-        ensures { setup_of repeated result ≡ record (setup_of repeated self) { client = some (client_rules repeated client) } }
+        ensures { setup_of repeated result ≡ record (setup_of repeated self) { client = client_rules repeated client } }
     {
-        self.client = Some(client);
+        self.client = client;
         self
     }
 
@@ -89,11 +73,10 @@ impl Builder {
 
     /// The provider. Whether metadata is switched off is read from the configuration now, and nothing
     /// is asked for it.
-    pub fn build(self) -> Result<ImdsCredentialsProvider, OutOfMemory>
-        ensures { IfOk result (λ p. IsProvider (setup_of repeated self) (setting_of repeated p)) }
+    pub fn build(self) -> ImdsCredentialsProvider
+        ensures { setting_of repeated result ≡ provider_of (setup_of repeated self) }
     {
         let disabled = is_disabled(self.config.env());
-        let client = client_of(self.alloc, self.client, &self.config)?;
-        Ok(ImdsCredentialsProvider::of(self.alloc, disabled, client, self.role, self.place))
+        ImdsCredentialsProvider::of(self.alloc, disabled, self.client, self.role, self.place)
     }
 }

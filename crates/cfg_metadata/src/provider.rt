@@ -47,12 +47,12 @@ impl ImdsCredentialsProvider {
         }
     }
 
-    /// A builder with no variables and no profiles, of the role that the service lists, for the default
-    /// chain.
-    pub fn builder(alloc: Global) -> Result<Builder, OutOfMemory>
-        ensures { IfOk result (λ b. setup_of repeated b ≡ default_metadata) }
+    /// A builder with this client, with no variables and no profiles, of the role that the service lists,
+    /// for the default chain.
+    pub fn builder(alloc: Global, client: Client) -> Result<Builder, OutOfMemory>
+        ensures { IfOk result (λ b. setup_of repeated b ≡ default_metadata (client_rules repeated client)) }
     {
-        Builder::new(alloc)
+        Builder::new(alloc, client)
     }
 
     /// The body of [`Self::provide_credentials`], over anything that can be asked. Where a question is

@@ -3,6 +3,7 @@ ghost use Rattle.cfg_world.specs.Script.{AllFit};
 ghost use Rattle.cfg_script.specs.Script.{plain};
 ghost use Rattle.cfg_script.specs.Devices.{lists_of};
 
+use cfg_imds::Client;
 use cfg_keeping::{Kept, Place};
 use cfg_metadata::ImdsCredentialsProvider;
 use cfg_profile::ProviderConfig;
@@ -94,12 +95,13 @@ fn outcome_of(
     kept: &mut Kept,
     world: &mut World<ScriptDevices>,
 ) -> Result<Outcome, OutOfMemory> {
-    let builder = ImdsCredentialsProvider::builder(alloc)?;
+    let client = Client::builder(alloc)?.configure(config)?.build()?;
+    let builder = ImdsCredentialsProvider::builder(alloc, client)?;
     let provider = match call {
-        Call::Chain => builder.configure(config)?.build()?,
-        Call::Named => builder.configure(config)?.place(Place::Named).build()?,
-        Call::Role(role) => builder.configure(config)?.profile(role)?.build()?,
-        Call::Off => builder.configure(&switched_off(alloc)?)?.build()?,
+        Call::Chain => builder.configure(config)?.build(),
+        Call::Named => builder.configure(config)?.place(Place::Named).build(),
+        Call::Role(role) => builder.configure(config)?.profile(role)?.build(),
+        Call::Off => builder.configure(&switched_off(alloc)?)?.build(),
     };
     Ok(Outcome {
         answer: provider.provide_credentials(kept, world),
