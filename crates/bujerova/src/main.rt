@@ -10,7 +10,7 @@ mod keeping;
 use cfg_program::run::run;
 use cfg_program::{LIMIT, Status, USAGE};
 use cfg_providers::CustomSource;
-use cfg_script::{find_fault, find_unbuilt};
+use cfg_script::find_fault;
 use cfg_types::{EnvText, OutOfMemory, Text};
 use cfg_world::{Devices, LocalDevices, ReaderSource, Sink, Source, World, WriterSink};
 use fixed::Fixed;
@@ -90,10 +90,7 @@ fn reason_of(
             Some(fault) => format!(in alloc; "{fault}")?,
             None => return Ok(None),
         },
-        Status::NotBuilt => match find_unbuilt(alloc, bytes)? {
-            Some(fault) => format!(in alloc; "{fault}")?,
-            None => String::from_str(alloc, "the plan of the profiles is not built yet")?,
-        },
+        Status::NotBuilt => String::from_str(alloc, "the plan of the profiles is not built yet")?,
         Status::TooLong => format!(in alloc; "more than {LIMIT} bytes")?,
         _ => return Ok(None),
     };

@@ -14,8 +14,9 @@ use Rattle.cfg_world.specs.declared.leaves.NotGranted.TheVariants.{Failed, Refus
 use Rattle.cfg_world.specs.Fits.{Pair}
 use Rattle.cfg_world.specs.Leaves.{granted_of}
 use Rattle.cfg_keeping.specs.Kinds.{Value, States}
-use Rattle.cfg_providers.specs.CustomSources.{Answer, NamedAnswer}
+use Rattle.cfg_providers.specs.CustomSources.{Answer}
 use Rattle.cfg_providers.specs.Sts.{into_credentials}
+use Rattle.cfg_chain.specs.Settings.{Lent}
 use Rattle.cfg_assume_role.specs.declared.call.RoleCall.{RoleCall}
 use Rattle.cfg_assume_role.specs.Roles.{request as request_of, refused, of_base}
 use Rattle.cfg_assume_role.specs.Bases.{Base, IsBaseCall}
@@ -34,10 +35,10 @@ IsBehind call (Ok signer) part out = (given : Given) × (part ≡ (question.Send
 
 -- The part of a call is that of its base, and then that of the exchange. The answer is an error exactly
 -- where the base gives one, or else the exchange gives nothing, and tells of that.
-pub record RoleCause (call : RoleCall) (base : Base) (sources : List NamedAnswer) (old new : States) (found : List Value) (part : List Pair) (out : Answer) : Type 0 where
+pub record RoleCause (call : RoleCall) (base : Base) (lent : Lent) (old new : States) (found : List Value) (part : List Pair) (out : Answer) : Type 0 where
   pub base_part : List Pair
   pub role_part : List Pair
   pub parts : part ≡ base_part ++ role_part
   pub given : Answer
-  pub base_call : IsBaseCall base sources old new found base_part given
+  pub base_call : IsBaseCall base lent old new found base_part given
   pub behind : IsBehind call given role_part out

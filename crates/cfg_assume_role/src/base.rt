@@ -1,11 +1,16 @@
 //! Where the credentials come from that sign a role's exchange.
-ghost use Rattle.std.specs.Prelude.{◌≡◌};
+ghost use Rattle.std.specs.Option.{option_copied};
+ghost use Rattle.std.specs.Prelude.{◌≡◌, option_map};
 ghost use Rattle.cfg_providers.specs.Provides.{is_memory as is_memory_of};
+ghost use Rattle.cfg_keeping.specs.Clients.{client_rules};
+ghost use Rattle.cfg_sso.specs.Tokens.{HasKey};
+ghost use Rattle.cfg_chain.specs.Settings.{lends};
 ghost use Rattle.cfg_chain.specs.Sources.{named_sources};
-ghost use Rattle.cfg_assume_role.specs.Bases.{base_of, FollowsBase};
+ghost use Rattle.cfg_assume_role.specs.Bases.{base_of, base_key, FollowsBase};
 
 use cfg_chain::DefaultCredentialsChain;
-use cfg_keeping::Keeper;
+use cfg_imds::Client;
+use cfg_keeping::{Keeper, TokenKey};
 use cfg_providers::{CustomSource, EnvironmentVariableCredentialsProvider};
 use cfg_types::{Credentials, CredentialsError, TryCopy};
 use cfg_world::{Asking, Stop};
@@ -35,20 +40,32 @@ impl Drop for RoleBase {
 }
 
 impl RoleBase {
+    /// Whose token the base needs: that of a default chain.
+    pub fn token_key(&self) -> Option<&TokenKey>
+        ensures { option_copied result ≡ base_key (base_of value self.now) }
+    {
+        match self {
+            RoleBase::Default(chain) => chain.token_key(),
+            _ => None,
+        }
+    }
+
     /// What the base answers, over anything that can be asked.
     #[tactic(auto, using(cfg_keeping::proofs::HoldingSteps::holding_steps))]
     pub fn follow<P: Keeper, A: Asking>(
         &self,
         alloc: Global,
         sources: &[CustomSource],
+        imds_client: Option<&Client>,
         keeper: &mut P,
         asking: &mut A,
     ) -> Result<Result<Credentials, CredentialsError>, Stop>
-        ensures follows { FollowsBase ⟦<A as Asking>⟧ (base_of value self.now) (named_sources value sources.now) asking.old (P.holdings keeper.old) asking.new (P.holdings keeper.new) result }
+        requires { HasKey (base_key (base_of value self.now)) (P.key_held keeper.old) }
+        ensures follows { FollowsBase ⟦<A as Asking>⟧ (base_of value self.now) (lends (named_sources value sources.now) (option_map (λ c. client_rules repeated c.now) imds_client.entry)) asking.old (P.holdings keeper.old) asking.new (P.holdings keeper.new) result }
         ensures key { P.key_held keeper.new ≡ P.key_held keeper.old }
     {
         match self {
-            RoleBase::Default(chain) => chain.follow(sources, keeper, asking),
+            RoleBase::Default(chain) => chain.follow(sources, imds_client, keeper, asking),
             RoleBase::Environment(provider) => {
                 let outcome = provider.follow(asking)?;
                 Ok(outcome)

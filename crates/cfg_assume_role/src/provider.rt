@@ -1,11 +1,15 @@
 //! The provider of a role's credentials.
-ghost use Rattle.std.specs.Prelude.{◌≡◌, IfOk, None, true, false};
+ghost use Rattle.std.specs.Option.{option_copied};
+ghost use Rattle.std.specs.Prelude.{◌≡◌, IfOk, true, false, option_map};
 ghost use Rattle.cfg_values.specs.Text.{characters};
 ghost use Rattle.cfg_keeping.specs.Kinds.{no_states};
 ghost use Rattle.cfg_keeping.specs.KeptStates.{kept_holdings, kept_key, states_of};
 ghost use Rattle.cfg_providers.specs.Provides.{is_memory};
+ghost use Rattle.cfg_keeping.specs.Clients.{client_rules};
+ghost use Rattle.cfg_sso.specs.Tokens.{HasKey};
+ghost use Rattle.cfg_chain.specs.Settings.{lends};
 ghost use Rattle.cfg_chain.specs.Sources.{named_sources};
-ghost use Rattle.cfg_assume_role.specs.Bases.{base_of, FollowsRole};
+ghost use Rattle.cfg_assume_role.specs.Bases.{base_of, base_key, FollowsRole};
 ghost use Rattle.cfg_assume_role.specs.Provides.{Provides, Interrupted};
 ghost use Rattle.cfg_assume_role.specs.Setups.{for_role};
 
@@ -13,9 +17,10 @@ use crate::base::RoleBase;
 use crate::builder::AssumeRoleProviderBuilder;
 use crate::call::RoleCall;
 use crate::exchange::behind_base;
-use cfg_keeping::{Keeper, Kept};
+use cfg_imds::Client;
+use cfg_keeping::{Keeper, Kept, TokenKey};
 use cfg_providers::CustomSource;
-use cfg_types::{Credentials, CredentialsError, OutOfMemory};
+use cfg_types::{Credentials, CredentialsError, OutOfMemory, TryCopy};
 use cfg_world::{Asking, Devices, Stop, World};
 use std::alloc::Global;
 
@@ -44,12 +49,23 @@ impl AssumeRoleProvider {
         AssumeRoleProviderBuilder::new(alloc, role)
     }
 
-    /// What the provider keeps between calls, with nothing kept.
-    pub fn new_kept(&self) -> Kept
-        ensures nothing { states_of result ≡ no_states }
-        ensures key { kept_key result ≡ None }
+    /// Whose token the provider needs: that of its base.
+    pub fn token_key(&self) -> Option<&TokenKey>
+        ensures { option_copied result ≡ base_key (base_of value self.now.base) }
     {
-        Kept::new(self.alloc, None)
+        self.base.token_key()
+    }
+
+    /// What the provider keeps between calls, with nothing kept.
+    pub fn new_kept(&self) -> Result<Kept, OutOfMemory>
+        ensures nothing { IfOk result (λ kept. states_of kept ≡ no_states) }
+        ensures key { IfOk result (λ kept. kept_key kept ≡ base_key (base_of value self.now.base)) }
+    {
+        let key = match self.token_key() {
+            None => None,
+            Some(key) => Some(key.copy(self.alloc)?),
+        };
+        Ok(Kept::new(self.alloc, key))
     }
 
     /// The body of [`Self::provide_credentials`], over anything that can be asked. Where a question is
@@ -57,20 +73,26 @@ impl AssumeRoleProvider {
     pub fn follow<P: Keeper, A: Asking>(
         &self,
         sources: &[CustomSource],
+        imds_client: Option<&Client>,
         keeper: &mut P,
         asking: &mut A,
     ) -> Result<Result<Credentials, CredentialsError>, Stop>
-        ensures follows { FollowsRole ⟦<A as Asking>⟧ self.now.call (base_of value self.now.base) (named_sources value sources.now) asking.old (P.holdings keeper.old) asking.new (P.holdings keeper.new) result }
+        requires { HasKey (base_key (base_of value self.now.base)) (P.key_held keeper.old) }
+        ensures follows { FollowsRole ⟦<A as Asking>⟧ self.now.call (base_of value self.now.base) (lends (named_sources value sources.now) (option_map (λ c. client_rules repeated c.now) imds_client.entry)) asking.old (P.holdings keeper.old) asking.new (P.holdings keeper.new) result }
         ensures key { P.key_held keeper.new ≡ P.key_held keeper.old }
     {
-        match self.base.follow(self.alloc, sources, keeper, asking) {
+        match self
+            .base
+            .follow(self.alloc, sources, imds_client, keeper, asking)
+        {
             Ok(given) => behind_base(self.alloc, &self.call, given, asking),
             Err(stop) => Err(stop),
         }
     }
 
     /// Asks the base, and then AWS STS for the role, by one `AssumeRole` that the base's credentials
-    /// sign. The sources are the caller's own, for a base that is a default chain.
+    /// sign. The sources and the metadata client are the caller's own, for a base that is a default chain.
+    /// What is kept is that of a provider with this key, as [`Self::new_kept`] makes it.
     ///
     /// The world's journal gains the base's part and the exchange, and nothing else. The list of the
     /// values that were found is that of this call alone.
@@ -89,15 +111,17 @@ impl AssumeRoleProvider {
     pub fn provide_credentials<D: Devices>(
         &self,
         sources: &[CustomSource],
+        imds_client: Option<&Client>,
         kept: &mut Kept,
         world: &mut World<D>,
     ) -> Result<Credentials, CredentialsError>
-        ensures provides { is_memory result ≡ false → Provides ⟦<D as Devices>⟧ self.now.call (base_of value self.now.base) (named_sources value sources.now) (states_of kept.old) (states_of kept.new) (kept_holdings kept.new).found world.old world.new result }
-        ensures stays { is_memory result ≡ true → Interrupted ⟦<D as Devices>⟧ self.now.call (base_of value self.now.base) (named_sources value sources.now) (states_of kept.old) (states_of kept.new) (kept_holdings kept.new).found world.old world.new }
+        requires { kept_key kept.old ≡ base_key (base_of value self.now.base) }
+        ensures provides { is_memory result ≡ false → Provides ⟦<D as Devices>⟧ self.now.call (base_of value self.now.base) (lends (named_sources value sources.now) (option_map (λ c. client_rules repeated c.now) imds_client.entry)) (states_of kept.old) (states_of kept.new) (kept_holdings kept.new).found world.old world.new result }
+        ensures stays { is_memory result ≡ true → Interrupted ⟦<D as Devices>⟧ self.now.call (base_of value self.now.base) (lends (named_sources value sources.now) (option_map (λ c. client_rules repeated c.now) imds_client.entry)) (states_of kept.old) (states_of kept.new) (kept_holdings kept.new).found world.old world.new }
         ensures key { kept_key kept.new ≡ kept_key kept.old }
     {
         kept.clear_found();
-        match self.follow(sources, kept, world) {
+        match self.follow(sources, imds_client, kept, world) {
             Ok(outcome) => outcome,
             Err(_) => Err(CredentialsError::OutOfMemory),
         }

@@ -106,9 +106,9 @@ fn answered(
     provider: &AssumeRoleProvider,
     world: &mut World<ScriptDevices>,
 ) -> Result<String, OutOfMemory> {
-    let mut kept = Kept::new(alloc, None);
+    let mut kept = provider.new_kept()?;
     let outcome = Outcome {
-        answer: provider.provide_credentials(&[], &mut kept, world),
+        answer: provider.provide_credentials(&[], None, &mut kept, world),
     };
     let answer = answer_words(alloc, &outcome)?;
     let questions = journal_words(alloc, world.journal())?;

@@ -1,10 +1,12 @@
 pub mod ChainSteps
 pub mod OnePlan
+pub mod ProfileSteps
 pub mod Parts
 pub mod RoleCauses
 pub mod ProfileCauses
 pub mod MemberCauses
 pub mod PassedByTable
+pub mod Stretches
 pub mod UsableEntries
 pub mod UsableReplies
 pub mod UsableContainer
@@ -12,5 +14,6 @@ pub mod UsableIdentities
 pub mod UsableEnvironment
 pub mod UsableProfile
 pub mod PassingErrors
+pub mod UnsetContainer
 pub mod Validity
 pub mod Calls

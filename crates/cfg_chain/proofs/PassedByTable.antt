@@ -29,6 +29,8 @@ use Rattle.cfg_world.specs.Leaves.{granted_of}
 use Rattle.cfg_keeping.specs.Kinds.{Value}
 use Rattle.cfg_keeping.specs.KeptInquiry as kept
 use Rattle.cfg_keeping.proofs.Splits.{lowered}
+use Rattle.cfg_metadata.proofs.Given.{given_is}
+use Rattle.cfg_metadata.proofs.Passing.{by_its_line}
 use Rattle.cfg_exchange.specs.Containers.{IsContainerUri}
 use Rattle.cfg_exchange.proofs.Unset.{passed_over, unset_passed}
 use Rattle.cfg_providers.specs.declared.web_identity_token.WebIdentity.{WebIdentity}
@@ -40,9 +42,9 @@ use Rattle.cfg_providers.specs.WebIdentities.{set_or_not, readable, identity_in,
 use Rattle.cfg_providers.proofs.EnvironmentFailures.{environment_not_loaded}
 use Rattle.cfg_providers.proofs.WebIdentityCauses.{assumed_cause}
 use Rattle.cfg_chain.specs.declared.member.Member.{Member}
-use Rattle.cfg_chain.specs.declared.member.Member.TheVariants.{Environment, Profile, WebIdentityToken, EcsContainer}
-use Rattle.cfg_chain.specs.Settings.{Setting, names_of, container_settings}
-use Rattle.cfg_chain.specs.Members.{member_inquiry, member_tree}
+use Rattle.cfg_chain.specs.declared.member.Member.TheVariants.{Environment, Profile, WebIdentityToken, EcsContainer, Ec2InstanceMetadata}
+use Rattle.cfg_chain.specs.Settings.{Setting, names_of, container_settings, chain_metadata}
+use Rattle.cfg_chain.specs.Members.{member_tree}
 use Rattle.cfg_chain.specs.PassedOver.{plan_is_passed_over, is_error, IsPassedOver, PassesByTable}
 use Rattle.cfg_chain.specs.profile.Bases.{by_container}
 use Rattle.cfg_chain.specs.profile.Plans.{Planned, plan}
@@ -66,9 +68,9 @@ clash h = absurd cc
 table : (out : Answer) (part : List Pair) (passed : Bool) → is_not_loaded_answer out ≡ passed → (passed ≡ true → part ≡ []) → PassesByTable out ((part ≡ []) × (passed ≡ true))
 table out part passed is empty = (λ loaded. (empty (sym is ∙ loaded), sym is ∙ loaded), λ line. is ∙ line.1)
 
-environment_table : (s : Setting) (part : List Pair) (out : Answer) → Reads (by_environment s.configuration.environment) part out → PassesByTable out (IsPassedOver s Environment part)
-environment_table s [] out h = table out [] (environment_is_passed_over s.configuration.environment) (ap is_not_loaded_answer (sym h) ∙ environment_not_loaded s.configuration.environment) (λ _. refl)
-environment_table s (e ∷ part) out h = absurd h
+environment_table : (s : Setting) (found : List Value) (part : List Pair) (out : Answer) → Reads (by_environment s.configuration.environment) part out → PassesByTable out (IsPassedOver s Environment found part)
+environment_table s found [] out h = table out [] (environment_is_passed_over s.configuration.environment) (ap is_not_loaded_answer (sym h) ∙ environment_not_loaded s.configuration.environment) (λ _. refl)
+environment_table s found (e ∷ part) out h = absurd h
 
 -- ---- the profile
 
@@ -95,21 +97,19 @@ plan_loaded (Some e) role = refl
 plan_loaded None (Some e) = refl
 plan_loaded None None = refl
 
-planned_line : (s : Setting) (p : Planned) (part : List Pair) (out : Answer) → Reads (follows_plan s p) part out → is_not_loaded_answer out ≡ plan_is_passed_over p
-planned_line s (Ok p) part out h = let c = plan_fails s p part out h in by_cause out ∙ ap is_unset c.cause ∙ plan_loaded (result_err c.given) (first_failure c.role_part)
-planned_line s (Err e) [] out h = ap is_not_loaded_answer (sym h) ∙ refusal_line e
-planned_line s (Err e) (x ∷ part) out h = absurd h
+planned_line : (s : Setting) (p : Planned) (found : List Value) (part : List Pair) (out : Answer) → kept.Reads (follows_plan s p) found part out → is_not_loaded_answer out ≡ plan_is_passed_over p
+planned_line s (Ok p) found part out h = let c = plan_fails s p found part out h in by_cause out ∙ ap is_unset c.cause ∙ plan_loaded (result_err c.given) (first_failure c.role_part)
+planned_line s (Err e) found part out h = ap is_not_loaded_answer (sym (given_is (Err (refusal e)) out found part h).2) ∙ refusal_line e
 
-planned_empty : (s : Setting) (p : Planned) (part : List Pair) (out : Answer) → Reads (follows_plan s p) part out → plan_is_passed_over p ≡ true → part ≡ []
-planned_empty s (Ok p) part out h passed = absurd (clash passed)
-planned_empty s (Err e) [] out h passed = refl
-planned_empty s (Err e) (x ∷ part) out h passed = absurd h
+planned_empty : (s : Setting) (p : Planned) (found : List Value) (part : List Pair) (out : Answer) → kept.Reads (follows_plan s p) found part out → plan_is_passed_over p ≡ true → part ≡ []
+planned_empty s (Ok p) found part out h passed = absurd (clash passed)
+planned_empty s (Err e) found part out h passed = (given_is (Err (refusal e)) out found part h).1
 
-profile_table : (s : Setting) (part : List Pair) (out : Answer) → Reads (profile s) part out → PassesByTable out (IsPassedOver s Profile part)
+profile_table : (s : Setting) (found : List Value) (part : List Pair) (out : Answer) → kept.Reads (profile s) found part out → PassesByTable out (IsPassedOver s Profile found part)
 unfolding profile
-profile_table s part out h =
+profile_table s found part out h =
     let p = plan s.configuration (names_of s.sources) in
-    table out part (plan_is_passed_over p) (planned_line s p part out h) (planned_empty s p part out h)
+    table out part (plan_is_passed_over p) (planned_line s p found part out h) (planned_empty s p found part out h)
 
 -- ---- web identity
 
@@ -178,25 +178,22 @@ identity_empty s (Ok identity) part out h passed = absurd (clash passed)
 identity_empty s (Err e) [] out h passed = refl
 identity_empty s (Err e) (x ∷ part) out h passed = absurd h
 
-identity_table : (s : Setting) (part : List Pair) (out : Answer) → Reads (web_identity s.configuration None no_policies) part out → PassesByTable out (IsPassedOver s WebIdentityToken part)
+identity_table : (s : Setting) (found : List Value) (part : List Pair) (out : Answer) → Reads (web_identity s.configuration None no_policies) part out → PassesByTable out (IsPassedOver s WebIdentityToken found part)
 unfolding web_identity
-identity_table s part out h =
+identity_table s found part out h =
     let i = identity_in s.configuration.environment in
     table out part (is_error i) (identity_line s i part out refl h) (identity_empty s i part out h)
 
 -- ---- all members
 
-container_table : (s : Setting) (part : List Pair) (out : Answer) → IsContainerUri s.configuration.environment s.container → Reads (by_container s.configuration s.container) part out → PassesByTable out (IsPassedOver s EcsContainer part)
-container_table s part out names h =
+container_table : (s : Setting) (found : List Value) (part : List Pair) (out : Answer) → IsContainerUri s.configuration.environment s.container → Reads (by_container s.configuration s.container) part out → PassesByTable out (IsPassedOver s EcsContainer found part)
+container_table s found part out names h =
     (passed_over s.configuration.environment (container_settings s.configuration) s.container part out names h, unset_passed s.configuration.environment (container_settings s.configuration) s.container part out names h)
 
-inquiry_table : (s : Setting) (member : Member) (part : List Pair) (out : Answer) → IsContainerUri s.configuration.environment s.container → Reads (member_inquiry s member) part out → PassesByTable out (IsPassedOver s member part)
-unfolding member_inquiry
-inquiry_table s Environment part out names h = environment_table s part out h
-inquiry_table s Profile part out names h = profile_table s part out h
-inquiry_table s WebIdentityToken part out names h = identity_table s part out h
-inquiry_table s EcsContainer part out names h = container_table s part out names h
-
-pub by_table : (s : Setting) (member : Member) (found : List Value) (part : List Pair) (out : Answer) → IsContainerUri s.configuration.environment s.container → kept.Reads (member_tree s member) found part out → PassesByTable out (IsPassedOver s member part)
+pub by_table : (s : Setting) (member : Member) (found : List Value) (part : List Pair) (out : Answer) → IsContainerUri s.configuration.environment s.container → kept.Reads (member_tree s member) found part out → PassesByTable out (IsPassedOver s member found part)
 unfolding member_tree
-by_table s member found part out names h = inquiry_table s member part out names (lowered (member_inquiry s member) found part out h).1
+by_table s Environment found part out names h = environment_table s found part out (lowered (by_environment s.configuration.environment) found part out h).1
+by_table s Profile found part out names h = profile_table s found part out h
+by_table s WebIdentityToken found part out names h = identity_table s found part out (lowered (web_identity s.configuration None no_policies) found part out h).1
+by_table s EcsContainer found part out names h = container_table s found part out names (lowered (by_container s.configuration s.container) found part out h).1
+by_table s Ec2InstanceMetadata found part out names h = by_its_line (chain_metadata s) found part out h

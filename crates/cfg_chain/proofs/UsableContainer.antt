@@ -44,7 +44,7 @@ held_fine : (env : Variables) (path : List ℕ) (held : Result (List ℕ) FailKi
 held_fine env path (Ok bytes) is h = checked_fine bytes (h.1 is)
 held_fine env path (Err kind) is h = absurd h
 
-token_succeeds : (env : Variables) (file text : Option (List ℕ)) → token_file env ≡ file → HasToken file text → Succeeds env (token_by file text)
+pub token_succeeds : (env : Variables) (file text : Option (List ℕ)) → token_file env ≡ file → HasToken file text → Succeeds env (token_by file text)
 unfolding reading_file
 token_succeeds env (Some path) text is h = ask_succeeds env (question.Read path) (λ a. token_of_file path (contents_of a)) (λ a u. held_fine env path (contents_of a) is u)
 token_succeeds env None (Some text) is h = done_succeeds env (checked_token (encode_utf8_all text)) (checked_fine (encode_utf8_all text) h)

@@ -1,49 +1,108 @@
 -- A profile whose base has something to give gives credentials over answers of use.
-use Rattle.std.proofs.Common.{◌≡◌, ℕ, List, Bool, true, false, Option, Some, None, Ok, refl}
-use Rattle.std.specs.Prelude.{is_ok, codes, if◌then◌else◌}
+use Rattle.std.proofs.Common.{◌≡◌, ℕ, List, ◌++◌, Bool, true, false, Option, Some, None, Result, Ok, Err, inl, inr, refl, sym, ap, subst}
+use Rattle.std.specs.Prelude.{is_ok, IsSome, codes, if◌then◌else◌}
+use Rattle.cfg_types.specs.Environment.{Variables}
 use Rattle.cfg_types.specs.Keys.{Keys}
-use Rattle.cfg_world.specs.Inquiry.{Done}
+use Rattle.cfg_types.specs.declared.errors.CredentialsError.{CredentialsError}
+use Rattle.cfg_world.specs.Fits.{Pair}
+use Rattle.cfg_world.specs.Inquiry.{Inquiry}
+use Rattle.cfg_keeping.specs.Kinds.{Value}
+use Rattle.cfg_keeping.specs.KeptInquiry.{KeptInquiry, Gives, Reads, lift, onwards_if_ok}
+use Rattle.cfg_keeping.proofs.Splits.{lowered, split_onwards}
+use Rattle.cfg_metadata.specs.Settings.{MetadataSetting}
+use Rattle.cfg_metadata.specs.Metadata.{metadata, or_found}
+use Rattle.cfg_metadata.specs.Causes.{retrieved_in, why_nothing, AnswersBy}
+use Rattle.cfg_metadata.proofs.Given.{given_is, whole_part}
+use Rattle.cfg_metadata.proofs.Reasons.{has_cause as metadata_cause}
+use Rattle.cfg_metadata.proofs.Validity.{valid_gives}
+use Rattle.cfg_sso.proofs.SsoCauses.{given_then, sso_cause}
+use Rattle.cfg_sso.proofs.InTime.{nothing_in_the_way}
 use Rattle.cfg_profile.specs.declared.chain.BaseProvider.{BaseProvider}
 use Rattle.cfg_profile.specs.declared.chain.BaseProvider.TheVariants as base
 use Rattle.cfg_profile.specs.declared.chain.ProfileChain.{ProfileChain}
 use Rattle.cfg_profile.specs.NamedSources.{is_alike}
+use Rattle.cfg_providers.specs.declared.web_identity_token.WebIdentity.{WebIdentity}
 use Rattle.cfg_providers.specs.AssumeRole.{assumes_roles}
 use Rattle.cfg_providers.specs.CustomSources.{Answer, last_named}
 use Rattle.cfg_providers.specs.EnvironmentKeys.{environment, by_environment}
-use Rattle.cfg_providers.specs.WebIdentities.{no_policies}
-use Rattle.cfg_chain.specs.Settings.{Setting}
-use Rattle.cfg_chain.specs.profile.Bases.{by_container, base_not_built, built_in_source, source_or, named_source, profile_session, base_inquiry, in_base, based}
+use Rattle.cfg_providers.specs.Processes.{credential_process}
+use Rattle.cfg_providers.specs.WebIdentities.{no_policies, assumes_by_web_identity}
+use Rattle.cfg_chain.specs.Settings.{Setting, named_metadata}
+use Rattle.cfg_chain.specs.profile.Bases.{by_container, base_not_built, built_in_source, source_or, named_source, profile_session, signed_on, base_tree, in_base, based}
+use Rattle.cfg_chain.specs.profile.Causes.{of_base}
 use Rattle.cfg_chain.specs.profile.Profiles.{marked, derived, follows_planned}
-use Rattle.cfg_chain.specs.Valid.{IsBuiltInBy, IsBuiltIn, IsSource, IsBase}
-use Rattle.cfg_chain.proofs.UsableEntries.{Succeeds, done_succeeds, then_succeeds, read_succeeds}
+use Rattle.cfg_chain.specs.Valid.{AreOfUse, IsStretch, GivesMetadata, IsBuiltInBy, IsSource, IsBase}
+use Rattle.cfg_chain.proofs.UsableEntries.{Succeeds, done_succeeds, read_succeeds, rest_of_use, no_success}
 use Rattle.cfg_chain.proofs.UsableContainer.{container_succeeds}
 use Rattle.cfg_chain.proofs.UsableEnvironment.{keys_given}
 use Rattle.cfg_chain.proofs.UsableIdentities.{identity_succeeds, process_succeeds, roles_succeed}
+use Rattle.cfg_chain.proofs.Stretches.{first_stretch}
+
+-- over answers of use the tree comes to a success, where nothing else stands in its way
+abbrev pub KeptSucceeds : {E : Type 0} → Variables → KeptInquiry (Result Keys E) → (List Value → List Pair → Type 0) → Type 0
+KeptSucceeds {E} env p Fine = (found whole : List Value) (part journal : List Pair) (out : Result Keys E) → IsStretch found whole → IsStretch part journal → Reads p found part out → AreOfUse env part → Fine whole journal → is_ok out ≡ true
 
 module _ (s : Setting) where
-  choose : (b d : Bool) → IsBuiltInBy s b d →
-      Succeeds s.configuration.environment (if b then by_environment s.configuration.environment else (if d then by_container s.configuration s.container else Done base_not_built))
-  choose true d h = done_succeeds s.configuration.environment (environment s.configuration.environment) (keys_given s.configuration.environment h)
-  choose false true h = container_succeeds s h
-  choose false false h = absurd h
+  abbrev env : Variables
+  env = s.configuration.environment
 
-  built_in_succeeds : (name : List ℕ) → IsBuiltIn s name → Succeeds s.configuration.environment (built_in_source s.configuration s.container name)
+  quiet_succeeds : (given : Answer) (found : List Value) (part : List Pair) (out : Answer) → is_ok given ≡ true → Reads (Gives given) found part out → is_ok out ≡ true
+  quiet_succeeds given found part out fine h = subst (λ x. is_ok x ≡ true) (given_is given out found part h).2 fine
+
+  lifted_succeeds : (p : Inquiry Answer) (found : List Value) (part : List Pair) (out : Answer) → Succeeds env p → Reads (lift p) found part out → AreOfUse env part → is_ok out ≡ true
+  lifted_succeeds p found part out fine h uses = fine part out (lowered p found part out h).1 uses
+
+  -- ---- instance metadata
+
+  -- retrieved credentials that were found are answered, at the worst
+  found_answers : (why : Option CredentialsError) (kept : Option Keys) (out : Answer) → IsSome kept → AnswersBy why kept out → is_ok out ≡ true
+  unfolding or_found
+  found_answers None kept out there h = h
+  found_answers (Some e) (Some keys) out there h = ap is_ok (sym h)
+  found_answers (Some e) None out there h = no_success there
+
+  pub metadata_succeeds : (m : MetadataSetting) → KeptSucceeds env (metadata m) (GivesMetadata m)
+  metadata_succeeds m found whole part journal out mine stretch h uses gives = elim (gives found part out mine stretch h) [
+    | inl kept ↦ found_answers (why_nothing m part) (retrieved_in found) out kept (metadata_cause m found part out h)
+    | inr valid ↦ valid_gives m found part out h valid
+  ]
+
+  -- ---- the sources
+
+  choose : (b d m : Bool) (found whole : List Value) (part journal : List Pair) (out : Answer) → IsStretch found whole → IsStretch part journal →
+      Reads (if b then lift (by_environment env) else (if d then lift (by_container s.configuration s.container) else (if m then metadata (named_metadata s) else Gives base_not_built))) found part out →
+      AreOfUse env part → IsBuiltInBy s b d m whole journal → is_ok out ≡ true
+  choose true d m found whole part journal out mine stretch h uses fine =
+      lifted_succeeds (by_environment env) found part out (done_succeeds env (environment env) (keys_given env fine)) h uses
+  choose false true m found whole part journal out mine stretch h uses fine = lifted_succeeds (by_container s.configuration s.container) found part out (container_succeeds s fine) h uses
+  choose false false true found whole part journal out mine stretch h uses fine = metadata_succeeds (named_metadata s) found whole part journal out mine stretch h uses fine
+  choose false false false found whole part journal out mine stretch h uses fine = absurd fine
+
+  source_succeeds : (name : List ℕ) (own : Option Answer) → KeptSucceeds env (source_or (built_in_source s.configuration s.container (named_metadata s) name) own) (IsSource s name own)
   unfolding built_in_source
-  built_in_succeeds name h = choose (is_alike name (codes "Environment")) (is_alike name (codes "EcsContainer")) h
+  source_succeeds name (Some given) found whole part journal out mine stretch h uses fine = quiet_succeeds given found part out fine h
+  source_succeeds name None found whole part journal out mine stretch h uses fine =
+      choose (is_alike name (codes "Environment")) (is_alike name (codes "EcsContainer")) (is_alike name (codes "Ec2InstanceMetadata")) found whole part journal out mine stretch h uses fine
 
-  source_succeeds : (name : List ℕ) (own : Option Answer) → IsSource s name own → Succeeds s.configuration.environment (source_or (built_in_source s.configuration s.container name) own)
-  source_succeeds name (Some given) h = done_succeeds s.configuration.environment given h
-  source_succeeds name None h = built_in_succeeds name h
+  -- ---- the bases
 
-  base_succeeds : (b : BaseProvider) → IsBase s b → Succeeds s.configuration.environment (base_inquiry s b)
-  unfolding base_inquiry named_source
-  base_succeeds (base.AccessKey keys) h = done_succeeds s.configuration.environment (Ok keys) refl
-  base_succeeds (base.NamedSource name) h = source_succeeds name (last_named name s.sources) h
-  base_succeeds (base.WebIdentityTokenRole arn file session) h =
-      identity_succeeds s.configuration s.configuration.environment (record { web_identity_token_file = file; role_arn = arn; session_name = session }) no_policies profile_session
-  base_succeeds (base.CredentialProcess command account) h = process_succeeds s.configuration.environment command account
-  base_succeeds (base.Sso session region url account role) h = absurd h
-  base_succeeds (base.LoginSession arn) h = absurd h
+  base_succeeds : (b : BaseProvider) → KeptSucceeds env (base_tree s b) (IsBase s b)
+  unfolding base_tree named_source
+  base_succeeds (base.AccessKey keys) found whole part journal out mine stretch h uses fine = quiet_succeeds (Ok keys) found part out refl h
+  base_succeeds (base.NamedSource name) found whole part journal out mine stretch h uses fine = source_succeeds name (last_named name s.sources) found whole part journal out mine stretch h uses fine
+  base_succeeds (base.WebIdentityTokenRole arn file session) found whole part journal out mine stretch h uses fine =
+      let identity : WebIdentity = record { web_identity_token_file = file; role_arn = arn; session_name = session } in
+      lifted_succeeds (assumes_by_web_identity s.configuration profile_session identity no_policies) found part out (identity_succeeds s.configuration env identity no_policies profile_session) h uses
+  base_succeeds (base.CredentialProcess command account) found whole part journal out mine stretch h uses fine =
+      lifted_succeeds (credential_process command account) found part out (process_succeeds env command account) h uses
+  base_succeeds (base.Sso session region url (Some account) (Some role)) found whole part journal out mine stretch h uses fine =
+      let sso = signed_on session region url account role in
+      let cause = sso_cause s.configuration sso found part out h in
+      nothing_in_the_way s.configuration sso found part out cause (fine found part out mine stretch cause)
+  base_succeeds (base.Sso session region url (Some account) None) found whole part journal out mine stretch h uses fine = absurd fine
+  base_succeeds (base.Sso session region url None (Some role)) found whole part journal out mine stretch h uses fine = absurd fine
+  base_succeeds (base.Sso session region url None None) found whole part journal out mine stretch h uses fine = absurd fine
+  base_succeeds (base.LoginSession arn) found whole part journal out mine stretch h uses fine = absurd fine
 
   in_base_fine : (keys : Keys) → is_ok (in_base (Ok keys)) ≡ true
   unfolding in_base
@@ -53,14 +112,25 @@ module _ (s : Setting) where
   unfolding marked
   marked_fine keys = refl
 
-  based_succeeds : (b : BaseProvider) → IsBase s b → Succeeds s.configuration.environment (based s b)
-  unfolding based
-  based_succeeds b h = read_succeeds s.configuration.environment (base_inquiry s b) in_base (base_succeeds b h) in_base_fine
-
   derived_succeeds : (p : ProfileChain) (keys : Keys) → Succeeds s.configuration.environment (derived s.configuration p.roles keys)
   unfolding derived
   derived_succeeds p keys = read_succeeds s.configuration.environment (assumes_roles s.configuration p.roles keys) marked (roles_succeed s.configuration s.configuration.environment p.roles keys) marked_fine
 
-  pub plan_succeeds : (p : ProfileChain) → IsBase s p.base → Succeeds s.configuration.environment (follows_planned s p)
-  unfolding follows_planned
-  plan_succeeds p h = then_succeeds s.configuration.environment (based s p.base) (derived s.configuration p.roles) (based_succeeds p.base h) (derived_succeeds p)
+  by_given : (p : ProfileChain) (given out : Answer) (found first_found then_found whole : List Value) (part first rest journal : List Pair) → found ≡ first_found ++ then_found → part ≡ first ++ rest →
+      IsStretch found whole → IsStretch part journal → Reads (base_tree s p.base) first_found first given → Reads (onwards_if_ok (λ keys. lift (derived s.configuration p.roles keys)) (in_base given)) then_found rest out →
+      AreOfUse env part → IsBase s p.base whole journal → is_ok out ≡ true
+  unfolding in_base
+  by_given p (Ok keys) out found first_found then_found whole part first rest journal finds parts mine stretch reads behind uses fine =
+      lifted_succeeds (derived s.configuration p.roles keys) then_found rest out (derived_succeeds p keys) behind (rest_of_use env first rest (subst (AreOfUse env) parts uses))
+  by_given p (Err e) out found first_found then_found whole part first rest journal finds parts mine stretch reads behind uses fine =
+      let alone = whole_part part first rest parts (given_is (Err (of_base e)) out then_found rest behind).1 in
+      no_success (base_succeeds p.base first_found whole first journal (Err e) (first_stretch found first_found then_found whole finds mine) (first_stretch part first rest journal parts stretch) reads
+      (subst (AreOfUse env) alone uses) fine)
+
+  pub plan_succeeds : (p : ProfileChain) → KeptSucceeds env (follows_planned s p) (IsBase s p.base)
+  unfolding follows_planned based
+  plan_succeeds p found whole part journal out mine stretch h uses fine =
+      let r = split_onwards (based s p.base) (onwards_if_ok (λ keys. lift (derived s.configuration p.roles keys))) found part out h in
+      let b = given_then (base_tree s p.base) in_base r.found_first r.part r.middle r.first in
+      by_given p b.0 out found r.found_first r.found_then whole part r.part r.rest journal r.finds r.parts mine stretch b.1
+      (subst (λ m. Reads (onwards_if_ok (λ keys. lift (derived s.configuration p.roles keys)) m) r.found_then r.rest out) b.2 r.then) uses fine

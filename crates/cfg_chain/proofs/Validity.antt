@@ -1,5 +1,5 @@
 -- Where nothing stands in the way, a call gives credentials.
-use Rattle.std.proofs.Common.{◌≡◌, ◌⊎◌, inl, inr, List, [], ◌∷◌, ◌++◌, true, false, None, Result, Ok, Err, refl, sym, ap, ◌∙◌, subst, append-nil}
+use Rattle.std.proofs.Common.{◌≡◌, ◌⊎◌, inl, inr, ℕ, List, [], ◌∷◌, ◌++◌, true, false, Option, Some, None, Result, Ok, Err, refl, sym, ap, ◌∙◌, subst, append-nil}
 use Rattle.std.specs.Prelude.{IsOk, is_ok, codes}
 use Rattle.std.specs.List.{last_or}
 use Rattle.std.specs.Result.{result_err}
@@ -10,64 +10,118 @@ use Rattle.cfg_world.specs.Fits.{Pair}
 use Rattle.cfg_world.specs.Inquiry as low
 use Rattle.cfg_world.specs.Inquiry.{Done}
 use Rattle.cfg_keeping.specs.Kinds.{Value}
+use Rattle.cfg_keeping.specs.KeptInquiry.{Reads}
 use Rattle.cfg_keeping.proofs.Splits.{lowered}
+use Rattle.cfg_exchange.specs.declared.container.ContainerUri.TheVariants as uri
+use Rattle.cfg_exchange.specs.declared.container.ContainerUri.{ContainerUri}
+use Rattle.cfg_exchange.specs.Containers.{readable, token_file, token_text, IsUriBy, IsContainerUri}
+use Rattle.cfg_metadata.proofs.Given.{given_is}
 use Rattle.cfg_providers.specs.declared.web_identity_token.WebIdentity.{WebIdentity}
 use Rattle.cfg_providers.specs.CustomSources.{Answer}
-use Rattle.cfg_providers.specs.EnvironmentKeys.{environment}
-use Rattle.cfg_providers.specs.EnvironmentCauses.{missing_variable}
+use Rattle.cfg_providers.specs.EnvironmentKeys.{environment, by_environment}
+use Rattle.cfg_providers.specs.EnvironmentCauses.{missing_variable, is_not_loaded_answer}
 use Rattle.cfg_providers.specs.WebIdentities.{no_policies, identity_in, by_identity, web_identity, why_identity}
 use Rattle.cfg_chain.specs.declared.member.Member.{Member}
-use Rattle.cfg_chain.specs.declared.member.Member.TheVariants.{Environment, Profile, WebIdentityToken, EcsContainer}
-use Rattle.cfg_chain.specs.Settings.{Setting, names_of}
+use Rattle.cfg_chain.specs.declared.member.Member.TheVariants.{Environment, Profile, WebIdentityToken, EcsContainer, Ec2InstanceMetadata}
+use Rattle.cfg_chain.specs.Settings.{Setting, names_of, chain_metadata}
 use Rattle.cfg_chain.specs.Chains.{attempt}
 use Rattle.cfg_chain.specs.ChainParts.{AreParts}
-use Rattle.cfg_chain.specs.Members.{member_inquiry, member_tree, credentials_chain}
+use Rattle.cfg_chain.specs.Members.{member_tree, credentials_chain}
 use Rattle.cfg_chain.specs.profile.Causes.{first_failure, PlannedCause}
 use Rattle.cfg_chain.specs.profile.Plans.{Planned, plan}
 use Rattle.cfg_chain.specs.profile.Profiles.{refusal, follows_plan, profile}
 use Rattle.cfg_chain.specs.Resolves.{IsPart, Resolves}
-use Rattle.cfg_chain.specs.Valid.{AreOfUse, HasTexts, HoldsKeys, IsContainer, GivesBehindEnvironment, IsValid}
+use Rattle.cfg_chain.specs.Valid.{AreOfUse, IsAddress, HasTexts, HoldsKeys, IsStretch, HasToken, IsContainer, GivesMetadata, GivesBehindProfile, GivesBehindEnvironment, IsValid}
 use Rattle.cfg_chain.proofs.UsableEntries.{no_success, rest_of_use}
 use Rattle.cfg_chain.proofs.UsableContainer.{container_succeeds}
 use Rattle.cfg_chain.proofs.UsableEnvironment.{no_error, texts_cause, keys_given}
 use Rattle.cfg_chain.proofs.UsableIdentities.{identity_succeeds}
-use Rattle.cfg_chain.proofs.UsableProfile.{plan_succeeds}
+use Rattle.cfg_chain.proofs.UsableProfile.{metadata_succeeds, plan_succeeds}
+use Rattle.cfg_chain.proofs.Stretches.{all_of_it, rest_stretch}
+use Rattle.cfg_chain.proofs.UnsetContainer.{unset_passes}
+use Rattle.cfg_chain.specs.profile.Bases.{by_container}
+use Rattle.cfg_chain.proofs.PassedByTable.{by_table}
 use Rattle.cfg_chain.proofs.PassingErrors.{passes, at_odds, decides, goes_on, success_decides, nothing_missing, refusal_passes, plan_stays, entry_stays, no_identity_passes}
 
 told : (given : Answer) (part : List Pair) (out : Answer) → low.Reads (Done given) part out → given ≡ out
 told given [] out h = h
 told given (e ∷ part) out h = absurd h
 
--- the variables name a web identity, or a container can be asked
-abbrev IsBehindProfile : Setting → Type 0
-IsBehindProfile s = IsOk (identity_in s.configuration.environment) ⊎ IsContainer s
+-- the variables name no container
+not_set : (relative full : Option (List ℕ)) (named : ContainerUri) → relative ≡ None → full ≡ None → IsUriBy relative full named → named ≡ uri.NotSet
+not_set None None named none nothing h = h
+not_set None (Some text) named none nothing h = cc
+not_set (Some text) full named none nothing h = cc
 
-module _ (s : Setting) where
+passing_answer : (out : Answer) → passes (result_err out) ≡ true → is_not_loaded_answer out ≡ true
+passing_answer (Ok keys) h = h
+passing_answer (Err e) h = h
+
+module _ (s : Setting) (names : IsContainerUri s.configuration.environment s.container) where
   abbrev env : Variables
   env = s.configuration.environment
+
+  abbrev the_plan : Planned
+  the_plan = plan s.configuration (names_of s.sources)
 
   abbrev Parts : List Member → List (ProviderAttempt CredentialsError) → List Value → List Pair → Answer → Type 0
   Parts members attempts found journal out = AreParts (credentials_chain s) (IsPart s) members attempts found journal out
 
-  reads_low : (member : Member) (found : List Value) (part : List Pair) (out : Answer) → IsPart s member found part out → low.Reads (member_inquiry s member) part out
-  unfolding member_tree
-  reads_low member found part out p = (lowered (member_inquiry s member) found part out p.reads).1
-
   rest_used : (journal part rest : List Pair) → journal ≡ part ++ rest → AreOfUse env journal → AreOfUse env rest
   rest_used journal part rest parts uses = rest_of_use env part rest (subst (AreOfUse env) parts uses)
 
+  -- the part of one member and what is left: from here on the found values and the journal are stretches of
+  -- those of the whole call
+
+  -- ---- instance metadata
+
+  metadata_answers : (found whole : List Value) (part journal : List Pair) (out : Answer) → GivesMetadata (chain_metadata s) whole journal → IsStretch found whole → IsStretch part journal →
+      AreOfUse env part → IsPart s Ec2InstanceMetadata found part out → is_ok out ≡ true
+  unfolding member_tree
+  metadata_answers found whole part journal out gives mine stretch uses p = metadata_succeeds s (chain_metadata s) found whole part journal out mine stretch p.reads uses gives
+
+  from_metadata : (attempts : List (ProviderAttempt CredentialsError)) (found whole : List Value) (part journal : List Pair) (out : Answer) → GivesMetadata (chain_metadata s) whole journal → IsStretch found whole → IsStretch part journal →
+      AreOfUse env part → Parts (Ec2InstanceMetadata ∷ []) attempts found part out → is_ok out ≡ true
+  from_metadata attempts found whole part journal out gives mine stretch uses (inl h) =
+      let all = h.7 ∙ ap (λ r. h.2 ++ r) h.10.1 ∙ append-nil h.2 in
+      let all_found = h.6 ∙ ap (λ r. h.0 ++ r) h.10.0 ∙ append-nil h.0 in
+      success_decides h.4
+      (metadata_answers h.0 whole h.2 journal h.4 gives (subst (λ f. IsStretch f whole) all_found mine) (subst (λ p. IsStretch p journal) all stretch) (subst (AreOfUse env) all uses) h.8) (goes_on s h.4 h.5 h.9)
+  from_metadata attempts found whole part journal out gives mine stretch uses (inr h) = metadata_answers found whole part journal out gives mine stretch uses h.0
+
   -- ---- a container
 
-  container_answers : (found : List Value) (part : List Pair) (out : Answer) → IsContainer s → AreOfUse env part → IsPart s EcsContainer found part out → is_ok out ≡ true
-  unfolding member_inquiry
-  container_answers found part out can uses p = container_succeeds s can part out (reads_low EcsContainer found part out p) uses
+  -- a container can be asked; or there is none, and there is instance metadata
+  abbrev IsBehindIdentity : List Value → List Pair → Type 0
+  IsBehindIdentity whole journal = IsContainer s ⊎ ((s.container ≡ uri.NotSet) × HasToken (token_file env) (token_text env) × GivesMetadata (chain_metadata s) whole journal)
 
-  from_container : (attempts : List (ProviderAttempt CredentialsError)) (found : List Value) (journal : List Pair) (out : Answer) → IsContainer s → AreOfUse env journal →
-      Parts (EcsContainer ∷ []) attempts found journal out → is_ok out ≡ true
-  from_container attempts found journal out can uses (inl h) =
-      let all = h.7 ∙ ap (λ r. h.2 ++ r) h.10.1 ∙ append-nil h.2 in
-      success_decides h.4 (container_answers h.0 h.2 h.4 can (subst (AreOfUse env) all uses) h.8) (goes_on s h.4 h.5 h.9)
-  from_container attempts found journal out can uses (inr h) = container_answers found journal out can uses h.0
+  container_low : (found : List Value) (part : List Pair) (out : Answer) → IsPart s EcsContainer found part out → low.Reads (by_container s.configuration s.container) part out
+  unfolding member_tree
+  container_low found part out p = (lowered (by_container s.configuration s.container) found part out p.reads).1
+
+  container_answers : (found : List Value) (part : List Pair) (out : Answer) → IsContainer s → AreOfUse env part → IsPart s EcsContainer found part out → is_ok out ≡ true
+  container_answers found part out can uses p = container_succeeds s can part out (container_low found part out p) uses
+
+  -- a container that can be asked is not passed over
+  container_passed : (found whole : List Value) (part journal : List Pair) (given : Answer) → IsBehindIdentity whole journal → IsPart s EcsContainer found part given → passes (result_err given) ≡ true →
+      GivesMetadata (chain_metadata s) whole journal
+  container_passed found whole part journal given (inl can) p passing =
+      let unset = (by_table s EcsContainer found part given names p.reads).0 (passing_answer given passing) in
+      let none = not_set (readable env (codes "AWS_CONTAINER_CREDENTIALS_RELATIVE_URI")) (readable env (codes "AWS_CONTAINER_CREDENTIALS_FULL_URI")) s.container unset.relative unset.full names in
+      absurd (subst IsAddress none can.address)
+  container_passed found whole part journal given (inr none) p passing = none.2
+
+  -- and one that there is none of is
+  container_decides : (found whole : List Value) (part journal : List Pair) (out : Answer) → IsBehindIdentity whole journal → AreOfUse env part → IsPart s EcsContainer found part out → passes (result_err out) ≡ false → is_ok out ≡ true
+  container_decides found whole part journal out (inl can) uses p stays = container_answers found part out can uses p
+  container_decides found whole part journal out (inr none) uses p stays = at_odds (passes (result_err out)) (unset_passes s none.0 none.1 part out (container_low found part out p) uses) stays
+
+  from_container : (attempts : List (ProviderAttempt CredentialsError)) (found whole : List Value) (part journal : List Pair) (out : Answer) → IsBehindIdentity whole journal → IsStretch found whole → IsStretch part journal → AreOfUse env part →
+      Parts (EcsContainer ∷ Ec2InstanceMetadata ∷ []) attempts found part out → is_ok out ≡ true
+  from_container attempts found whole part journal out behind mine stretch uses (inl h) =
+      from_metadata _ h.1 whole h.3 journal out (container_passed h.0 whole h.2 journal h.4 behind h.8 (goes_on s h.4 h.5 h.9))
+      (rest_stretch found h.0 h.1 whole h.6 mine) (rest_stretch part h.2 h.3 journal h.7 stretch) (rest_used part h.2 h.3 h.7 uses) h.10
+  from_container attempts found whole part journal out behind mine stretch uses (inr h) = container_decides found whole part journal out behind uses h.0 (decides s out h.1)
 
   -- ---- web identity
 
@@ -78,67 +132,70 @@ module _ (s : Setting) where
       at_odds (passes (result_err out)) (ap (λ o. passes (result_err o)) (sym (told (Err e) part out reads)) ∙ missing refl) stays
 
   -- it was passed over: a variable is missing
-  identity_passed : (r : Result WebIdentity CredentialsError) (part : List Pair) (given : Answer) → IsOk r ⊎ IsContainer s →
-      result_err given ≡ why_identity r part → passes (result_err given) ≡ true → IsContainer s
-  identity_passed (Ok identity) part given either cause passing = at_odds (passes (result_err given)) passing (ap passes cause ∙ entry_stays (last_or None part))
-  identity_passed (Err e) part given (inl fine) cause passing = no_success fine
-  identity_passed (Err e) part given (inr can) cause passing = can
+  identity_passed : (r : Result WebIdentity CredentialsError) (whole : List Value) (part journal : List Pair) (given : Answer) → IsOk r ⊎ IsBehindIdentity whole journal →
+      result_err given ≡ why_identity r part → passes (result_err given) ≡ true → IsBehindIdentity whole journal
+  identity_passed (Ok identity) whole part journal given either cause passing = at_odds (passes (result_err given)) passing (ap passes cause ∙ entry_stays (last_or None part))
+  identity_passed (Err e) whole part journal given (inl fine) cause passing = no_success fine
+  identity_passed (Err e) whole part journal given (inr behind) cause passing = behind
 
   identity_answers : (found : List Value) (part : List Pair) (out : Answer) → AreOfUse env part → IsPart s WebIdentityToken found part out → passes (result_err out) ≡ false → is_ok out ≡ true
-  unfolding member_inquiry web_identity
-  identity_answers found part out uses p stays = identity_decides (identity_in env) part out (no_identity_passes env) (reads_low WebIdentityToken found part out p) stays uses
+  unfolding member_tree web_identity
+  identity_answers found part out uses p stays = identity_decides (identity_in env) part out (no_identity_passes env) (lowered (web_identity s.configuration None no_policies) found part out p.reads).1 stays uses
 
-  from_identity : (attempts : List (ProviderAttempt CredentialsError)) (found : List Value) (journal : List Pair) (out : Answer) → IsBehindProfile s → AreOfUse env journal →
-      Parts (WebIdentityToken ∷ EcsContainer ∷ []) attempts found journal out → is_ok out ≡ true
-  from_identity attempts found journal out given uses (inl h) =
-      from_container _ h.1 h.3 out (identity_passed (identity_in env) h.2 h.4 given h.8.cause (goes_on s h.4 h.5 h.9)) (rest_used journal h.2 h.3 h.7 uses) h.10
-  from_identity attempts found journal out given uses (inr h) = identity_answers found journal out uses h.0 (decides s out h.1)
+  from_identity : (attempts : List (ProviderAttempt CredentialsError)) (found whole : List Value) (part journal : List Pair) (out : Answer) → GivesBehindProfile s whole journal → IsStretch found whole → IsStretch part journal → AreOfUse env part →
+      Parts (WebIdentityToken ∷ EcsContainer ∷ Ec2InstanceMetadata ∷ []) attempts found part out → is_ok out ≡ true
+  from_identity attempts found whole part journal out given mine stretch uses (inl h) =
+      from_container _ h.1 whole h.3 journal out (identity_passed (identity_in env) whole h.2 journal h.4 given h.8.cause (goes_on s h.4 h.5 h.9))
+      (rest_stretch found h.0 h.1 whole h.6 mine) (rest_stretch part h.2 h.3 journal h.7 stretch) (rest_used part h.2 h.3 h.7 uses) h.10
+  from_identity attempts found whole part journal out given mine stretch uses (inr h) = identity_answers found part out uses h.0 (decides s out h.1)
 
   -- ---- the profile
 
-  plan_decides : (p : Planned) (part : List Pair) (out : Answer) → GivesBehindEnvironment s p →
-      low.Reads (follows_plan s p) part out → passes (result_err out) ≡ false → AreOfUse env part → is_ok out ≡ true
-  plan_decides (Ok p) part out given reads stays uses = plan_succeeds s p given part out reads uses
-  plan_decides (Err e) part out given reads stays uses =
-      at_odds (passes (result_err out)) (ap (λ o. passes (result_err o)) (sym (told (Err (refusal e)) part out reads)) ∙ refusal_passes e given.0) stays
+  plan_decides : (p : Planned) (found whole : List Value) (part journal : List Pair) (out : Answer) → GivesBehindEnvironment s p whole journal → IsStretch found whole → IsStretch part journal →
+      Reads (follows_plan s p) found part out → passes (result_err out) ≡ false → AreOfUse env part → is_ok out ≡ true
+  plan_decides (Ok p) found whole part journal out given mine stretch reads stays uses = plan_succeeds s p found whole part journal out mine stretch reads uses given
+  plan_decides (Err e) found whole part journal out given mine stretch reads stays uses =
+      at_odds (passes (result_err out)) (ap (λ o. passes (result_err o)) (sym (given_is (Err (refusal e)) out found part reads).2) ∙ refusal_passes e given.0) stays
 
   -- it was passed over: there is no plan
-  plan_passed : (p : Planned) (part : List Pair) (out : Answer) → GivesBehindEnvironment s p → PlannedCause s p part out → passes (result_err out) ≡ true → IsBehindProfile s
-  plan_passed (Ok p) part out given cause passing = at_odds (passes (result_err out)) passing (ap passes cause.cause ∙ plan_stays (result_err cause.given) (first_failure cause.role_part))
-  plan_passed (Err e) part out given cause passing = given.1
+  plan_passed : (p : Planned) (found whole : List Value) (part journal : List Pair) (out : Answer) → GivesBehindEnvironment s p whole journal → PlannedCause s p found part out → passes (result_err out) ≡ true → GivesBehindProfile s whole journal
+  plan_passed (Ok p) found whole part journal out given cause passing = at_odds (passes (result_err out)) passing (ap passes cause.cause ∙ plan_stays (result_err cause.given) (first_failure cause.role_part))
+  plan_passed (Err e) found whole part journal out given cause passing = given.1
 
-  profile_answers : (found : List Value) (part : List Pair) (out : Answer) → GivesBehindEnvironment s (plan s.configuration (names_of s.sources)) → AreOfUse env part →
+  profile_answers : (found whole : List Value) (part journal : List Pair) (out : Answer) → GivesBehindEnvironment s the_plan whole journal → IsStretch found whole → IsStretch part journal → AreOfUse env part →
       IsPart s Profile found part out → passes (result_err out) ≡ false → is_ok out ≡ true
-  unfolding member_inquiry profile
-  profile_answers found part out given uses p stays = plan_decides (plan s.configuration (names_of s.sources)) part out given (reads_low Profile found part out p) stays uses
+  unfolding member_tree profile
+  profile_answers found whole part journal out given mine stretch uses p stays = plan_decides the_plan found whole part journal out given mine stretch p.reads stays uses
 
-  from_profile : (attempts : List (ProviderAttempt CredentialsError)) (found : List Value) (journal : List Pair) (out : Answer) → GivesBehindEnvironment s (plan s.configuration (names_of s.sources)) →
-      AreOfUse env journal → Parts (Profile ∷ WebIdentityToken ∷ EcsContainer ∷ []) attempts found journal out → is_ok out ≡ true
-  from_profile attempts found journal out given uses (inl h) =
-      from_identity _ h.1 h.3 out (plan_passed (plan s.configuration (names_of s.sources)) h.2 h.4 given h.8.cause (goes_on s h.4 h.5 h.9)) (rest_used journal h.2 h.3 h.7 uses) h.10
-  from_profile attempts found journal out given uses (inr h) = profile_answers found journal out given uses h.0 (decides s out h.1)
+  from_profile : (attempts : List (ProviderAttempt CredentialsError)) (found whole : List Value) (part journal : List Pair) (out : Answer) → GivesBehindEnvironment s the_plan whole journal → IsStretch found whole → IsStretch part journal →
+      AreOfUse env part → Parts (Profile ∷ WebIdentityToken ∷ EcsContainer ∷ Ec2InstanceMetadata ∷ []) attempts found part out → is_ok out ≡ true
+  from_profile attempts found whole part journal out given mine stretch uses (inl h) =
+      from_identity _ h.1 whole h.3 journal out (plan_passed the_plan h.0 whole h.2 journal h.4 given h.8.cause (goes_on s h.4 h.5 h.9))
+      (rest_stretch found h.0 h.1 whole h.6 mine) (rest_stretch part h.2 h.3 journal h.7 stretch) (rest_used part h.2 h.3 h.7 uses) h.10
+  from_profile attempts found whole part journal out given mine stretch uses (inr h) = profile_answers found whole part journal out given mine stretch uses h.0 (decides s out h.1)
 
   -- ---- the environment
 
   environment_told : (found : List Value) (part : List Pair) (out : Answer) → IsPart s Environment found part out → environment env ≡ out
-  unfolding member_inquiry
-  environment_told found part out p = told (environment env) part out (reads_low Environment found part out p)
+  unfolding member_tree
+  environment_told found part out p = told (environment env) part out (lowered (by_environment env) found part out p.reads).1
 
   environment_answers : (out : Answer) → HasTexts env → environment env ≡ out → passes (result_err out) ≡ false → is_ok out ≡ true
   environment_answers out texts is stays =
       let cause = ap result_err (sym is) ∙ texts_cause env texts in
       no_error out (cause ∙ nothing_missing (missing_variable env) (ap passes (sym cause) ∙ stays))
 
-  environment_passed : (given : Answer) → HoldsKeys env ⊎ GivesBehindEnvironment s (plan s.configuration (names_of s.sources)) → environment env ≡ given → passes (result_err given) ≡ true →
-      GivesBehindEnvironment s (plan s.configuration (names_of s.sources))
-  environment_passed given (inl keys) is passing = success_decides given (ap is_ok (sym is) ∙ keys_given env keys) passing
-  environment_passed given (inr behind) is passing = behind
+  environment_passed : (found : List Value) (journal : List Pair) (given : Answer) → HoldsKeys env ⊎ GivesBehindEnvironment s the_plan found journal → environment env ≡ given → passes (result_err given) ≡ true →
+      GivesBehindEnvironment s the_plan found journal
+  environment_passed found journal given (inl keys) is passing = success_decides given (ap is_ok (sym is) ∙ keys_given env keys) passing
+  environment_passed found journal given (inr behind) is passing = behind
 
-  from_environment : (found : List Value) (journal : List Pair) (out : Answer) → IsValid s journal →
-      Parts (Environment ∷ Profile ∷ WebIdentityToken ∷ EcsContainer ∷ []) [] found journal out → is_ok out ≡ true
+  from_environment : (found : List Value) (journal : List Pair) (out : Answer) → IsValid s found journal →
+      Parts (Environment ∷ Profile ∷ WebIdentityToken ∷ EcsContainer ∷ Ec2InstanceMetadata ∷ []) [] found journal out → is_ok out ≡ true
   from_environment found journal out valid (inl h) =
-      from_profile (attempt (credentials_chain s) Environment h.5 ∷ []) h.1 h.3 out (environment_passed h.4 valid.given (environment_told h.0 h.2 h.4 h.8) (goes_on s h.4 h.5 h.9)) (rest_used journal h.2 h.3 h.7 valid.answers) h.10
+      from_profile (attempt (credentials_chain s) Environment h.5 ∷ []) h.1 found h.3 journal out (environment_passed found journal h.4 valid.given (environment_told h.0 h.2 h.4 h.8) (goes_on s h.4 h.5 h.9))
+      (rest_stretch found h.0 h.1 found h.6 (all_of_it found)) (rest_stretch journal h.2 h.3 journal h.7 (all_of_it journal)) (rest_used journal h.2 h.3 h.7 valid.answers) h.10
   from_environment found journal out valid (inr h) = environment_answers out valid.texts (environment_told found journal out h.0) (decides s out h.1)
 
-pub valid_loaded : (s : Setting) (found : List Value) (journal : List Pair) (out : Answer) → Resolves s found journal out → IsValid s journal → is_ok out ≡ true
-valid_loaded s found journal out resolves valid = from_environment s found journal out valid resolves
+pub valid_loaded : (s : Setting) (found : List Value) (journal : List Pair) (out : Answer) → IsContainerUri s.configuration.environment s.container → Resolves s found journal out → IsValid s found journal → is_ok out ≡ true
+valid_loaded s found journal out names resolves valid = from_environment s names found journal out valid resolves

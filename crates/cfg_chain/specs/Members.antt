@@ -7,14 +7,14 @@ use Rattle.cfg_types.specs.declared.errors.CredentialsError.{CredentialsError}
 use Rattle.cfg_types.specs.declared.errors.CredentialsError.TheVariants as error
 use Rattle.cfg_types.specs.declared.errors.NotLoadedCause.TheVariants as cause
 use Rattle.cfg_types.specs.declared.errors.ProviderAttempt.{ProviderAttempt}
-use Rattle.cfg_world.specs.Inquiry.{Inquiry}
 use Rattle.cfg_keeping.specs.KeptInquiry.{KeptInquiry, lift}
+use Rattle.cfg_metadata.specs.Metadata.{metadata}
 use Rattle.cfg_providers.specs.CustomSources.{Answer}
 use Rattle.cfg_providers.specs.EnvironmentKeys.{by_environment}
 use Rattle.cfg_providers.specs.WebIdentities.{no_policies, web_identity}
 use Rattle.cfg_chain.specs.declared.member.Member.{Member}
-use Rattle.cfg_chain.specs.declared.member.Member.TheVariants.{Environment, Profile, WebIdentityToken, EcsContainer}
-use Rattle.cfg_chain.specs.Settings.{Setting}
+use Rattle.cfg_chain.specs.declared.member.Member.TheVariants.{Environment, Profile, WebIdentityToken, EcsContainer, Ec2InstanceMetadata}
+use Rattle.cfg_chain.specs.Settings.{Setting, chain_metadata}
 use Rattle.cfg_chain.specs.Chains.{Chain, chain}
 use Rattle.cfg_chain.specs.profile.Bases.{by_container}
 use Rattle.cfg_chain.specs.profile.Profiles.{profile}
@@ -25,17 +25,15 @@ name_of Environment = codes "Environment"
 name_of Profile = codes "Profile"
 name_of WebIdentityToken = codes "WebIdentityToken"
 name_of EcsContainer = codes "EcsContainer"
+name_of Ec2InstanceMetadata = codes "Ec2InstanceMetadata"
 
--- A member's questions and, over their answers, its outcome.
-unfoldable pub member_inquiry : Setting → Member → Inquiry Answer
-member_inquiry s Environment = by_environment s.configuration.environment
-member_inquiry s Profile = profile s
-member_inquiry s WebIdentityToken = web_identity s.configuration None no_policies
-member_inquiry s EcsContainer = by_container s.configuration s.container
-
--- The same as a tree. No member finds or leaves a kept value yet.
+-- What a member asks, finds and leaves and, over the answers and the found values, its outcome.
 unfoldable pub member_tree : Setting → Member → KeptInquiry Answer
-member_tree s member = lift (member_inquiry s member)
+member_tree s Environment = lift (by_environment s.configuration.environment)
+member_tree s Profile = profile s
+member_tree s WebIdentityToken = lift (web_identity s.configuration None no_policies)
+member_tree s EcsContainer = lift (by_container s.configuration s.container)
+member_tree s Ec2InstanceMetadata = metadata (chain_metadata s)
 
 -- the answer of a provider that was not loaded
 abbrev pub is_not_loaded : CredentialsError → Bool
@@ -51,7 +49,7 @@ credentials_chain s = record { name_of = name_of; tree = member_tree s; is_not_l
 
 -- the members of the default chain, in its order
 abbrev pub default_members : List Member
-default_members = Environment ∷ Profile ∷ WebIdentityToken ∷ EcsContainer ∷ []
+default_members = Environment ∷ Profile ∷ WebIdentityToken ∷ EcsContainer ∷ Ec2InstanceMetadata ∷ []
 
 -- the default chain
 abbrev pub default_chain : Setting → KeptInquiry Answer

@@ -10,49 +10,47 @@ use Rattle.cfg_world.specs.Grows.{Grows, Stays}
 use Rattle.cfg_keeping.specs.Kinds.{Value, States}
 use Rattle.cfg_keeping.specs.KeptInquiry.{Begins, found_by, kept_after}
 use Rattle.cfg_keeping.specs.Holds.{Holdings, HoldsFollows}
-use Rattle.cfg_exchange.specs.declared.container.ContainerUri.{ContainerUri}
-use Rattle.cfg_exchange.specs.Containers.{IsContainerUri}
 use Rattle.cfg_profile.specs.Configuration.{Configuration}
-use Rattle.cfg_providers.specs.CustomSources.{Answer, NamedAnswer}
-use Rattle.cfg_chain.specs.Settings.{setting}
+use Rattle.cfg_providers.specs.CustomSources.{Answer}
+use Rattle.cfg_chain.specs.Settings.{Lent, Services, AreServices, setting}
 use Rattle.cfg_chain.specs.Members.{default_chain}
 use Rattle.cfg_chain.specs.Resolves.{Resolves}
 use Rattle.cfg_chain.specs.Valid.{IsValid}
 
--- A call of the default chain found these values, has this journal, and came to this outcome, with the
--- address of a container that the variables name: there is one. Where nothing stands in the way, the
--- outcome is credentials.
-pub record IsCall (conf : Configuration) (sources : List NamedAnswer) (old new : States) (found : List Value) (part : List Pair) (out : Answer) : Type 0 where
-  pub container : ContainerUri
-  pub names : IsContainerUri conf.environment container
-  pub finds : found ≡ found_by (default_chain (setting conf sources container)) old part
-  pub resolves : Resolves (setting conf sources container) found part out
-  pub keeps : new ≡ kept_after (default_chain (setting conf sources container)) old part
-  pub valid : IsValid (setting conf sources container) part → is_ok out ≡ true
+-- A call of the default chain, with what the caller lent, found these values, has this journal, and came
+-- to this outcome, over the services that the configuration names: there is one answer which. Where
+-- nothing stands in the way, the outcome is credentials.
+pub record IsCall (conf : Configuration) (lent : Lent) (old new : States) (found : List Value) (part : List Pair) (out : Answer) : Type 0 where
+  pub services : Services
+  pub names : AreServices conf lent.client services
+  pub finds : found ≡ found_by (default_chain (setting conf lent.sources services)) old part
+  pub resolves : Resolves (setting conf lent.sources services) found part out
+  pub keeps : new ≡ kept_after (default_chain (setting conf lent.sources services)) old part
+  pub valid : IsValid (setting conf lent.sources services) found part → is_ok out ≡ true
 
 -- The journal grew by exactly the part of such a call.
-pub record Provides {D : Type 0} (d : Ghosts D) (conf : Configuration) (sources : List NamedAnswer) (old new : States) (found : List Value) (before later : Held D) (out : Answer) : Type 0 where
+pub record Provides {D : Type 0} (d : Ghosts D) (conf : Configuration) (lent : Lent) (old new : States) (found : List Value) (before later : Held D) (out : Answer) : Type 0 where
   pub part : List Pair
   pub grows : Grows d part before later
-  pub call : IsCall conf sources old new found part out
+  pub call : IsCall conf lent old new found part out
 
 -- It grew by the beginning of such a part. Each kept value is as the last finished holding left it.
-pub record ProvidesBeginning {D : Type 0} (d : Ghosts D) (conf : Configuration) (sources : List NamedAnswer) (old new : States) (found : List Value) (before later : Held D) : Type 0 where
-  pub container : ContainerUri
-  pub names : IsContainerUri conf.environment container
+pub record ProvidesBeginning {D : Type 0} (d : Ghosts D) (conf : Configuration) (lent : Lent) (old new : States) (found : List Value) (before later : Held D) : Type 0 where
+  pub services : Services
+  pub names : AreServices conf lent.client services
   pub part : List Pair
   pub stays : Stays d part before later
-  pub begins : Begins (default_chain (setting conf sources container)) (Some old) found part (Some new)
+  pub begins : Begins (default_chain (setting conf lent.sources services)) (Some old) found part (Some new)
 
--- Memory ran out: before it was known what address the variables name, and nothing was asked; or over
--- the beginning of a part.
-abbrev pub Interrupted : {D : Type 0} → Ghosts D → Configuration → List NamedAnswer → States → States → List Value → Held D → Held D → Type 0
-Interrupted d conf sources old new found before later =
-    ((later ≡ before) × (new ≡ old)) ⊎ ProvidesBeginning d conf sources old new found before later
+-- Memory ran out: before it was known what services the configuration names, and nothing was asked; or
+-- over the beginning of a part.
+abbrev pub Interrupted : {D : Type 0} → Ghosts D → Configuration → Lent → States → States → List Value → Held D → Held D → Type 0
+Interrupted d conf lent old new found before later =
+    ((later ≡ before) × (new ≡ old)) ⊎ ProvidesBeginning d conf lent old new found before later
 
 -- A call over anything that can be asked follows the default chain; or memory ran out before it was
--- known what address the variables name, and nothing was asked.
-abbrev pub FollowsDefault : {A : Type 0} → AskingGhosts A → Configuration → List NamedAnswer → A → Holdings → A → Holdings → Result Answer Stop → Type 0
-FollowsDefault a conf sources old before new later out =
+-- known what services the configuration names, and nothing was asked.
+abbrev pub FollowsDefault : {A : Type 0} → AskingGhosts A → Configuration → Lent → A → Holdings → A → Holdings → Result Answer Stop → Type 0
+FollowsDefault a conf lent old before new later out =
     ((out ≡ Err OutOfMemory) × (new ≡ old) × (later ≡ before))
-    ⊎ ((container : ContainerUri) × IsContainerUri conf.environment container × HoldsFollows a (default_chain (setting conf sources container)) old before new later out)
+    ⊎ ((services : Services) × AreServices conf lent.client services × HoldsFollows a (default_chain (setting conf lent.sources services)) old before new later out)

@@ -14,7 +14,7 @@ use Rattle.cfg_chain.specs.Causes.{Cause}
 -- The part of a member: over it the member answers so, and the answer has its cause.
 pub record IsPart (s : Setting) (member : Member) (found : List Value) (part : List Pair) (out : Answer) : Type 0 where
   pub reads : Reads (member_tree s member) found part out
-  pub cause : Cause s member part out
+  pub cause : Cause s member found part out
 
 -- A call of the default chain found these values kept, has this journal, and came to this outcome.
 abbrev pub Resolves : Setting → List Value → List Pair → Answer → Type 0

@@ -1,6 +1,6 @@
 -- Which calls of the default chain give credentials, said of the variables, of the selected profile
 -- and of the journal's entries.
-use Rattle.std.specs.Prelude.{◌≡◌, ◌≢◌, ◌⊎◌, ◌≤◌, ℕ, suc, pos, List, [], ◌∷◌, ◌==◌, Bool, true, false, Option, Some, None, IsSome, IsNone, IfSome, IsOk, Result, Ok, Err, codes, if◌then◌else◌}
+use Rattle.std.specs.Prelude.{◌≡◌, ◌≢◌, ◌⊎◌, ◌≤◌, ℕ, suc, pos, List, [], ◌∷◌, ◌++◌, ◌==◌, Bool, true, false, Option, Some, None, IsSome, IsNone, IfSome, IsOk, Result, Ok, Err, codes, if◌then◌else◌}
 use Rattle.std.specs.List.{All}
 use Rattle.std.specs.Str.{encode_utf8_all, is_utf8}
 use Rattle.cfg_values.specs.declared.address.Address.{Address}
@@ -26,6 +26,16 @@ use Rattle.cfg_exchange.specs.declared.full_uri.FullUri.TheVariants.{Secure, AtA
 use Rattle.cfg_exchange.specs.Addresses.{is_allowed}
 use Rattle.cfg_exchange.specs.Containers.{token_file, token_text, answer_keys}
 use Rattle.cfg_exchange.specs.HeaderValues.{is_header_value}
+use Rattle.cfg_keeping.specs.Kinds.{Value}
+use Rattle.cfg_keeping.specs.KeptInquiry.{Reads}
+use Rattle.cfg_metadata.specs.Settings.{MetadataSetting}
+use Rattle.cfg_metadata.specs.Metadata.{metadata}
+use Rattle.cfg_metadata.specs.Causes.{retrieved_in}
+use Rattle.cfg_metadata.specs.Valid as usable
+use Rattle.cfg_sso.specs.declared.config.SsoProviderConfig.{SsoProviderConfig}
+use Rattle.cfg_sso.specs.SsoCauses.{SsoCause}
+use Rattle.cfg_sso.specs.InNoWay.{NothingInTheWay}
+use Rattle.cfg_profile.specs.Configuration.{Configuration}
 use Rattle.cfg_profile.specs.declared.chain.BaseProvider.{BaseProvider}
 use Rattle.cfg_profile.specs.declared.chain.BaseProvider.TheVariants as base
 use Rattle.cfg_profile.specs.NamedSources.{is_alike}
@@ -33,7 +43,8 @@ use Rattle.cfg_providers.specs.CustomSources.{Answer, last_named}
 use Rattle.cfg_providers.specs.EnvironmentKeys.{usable}
 use Rattle.cfg_providers.specs.ProcessDocuments.{process_document}
 use Rattle.cfg_providers.specs.WebIdentities.{identity_in}
-use Rattle.cfg_chain.specs.Settings.{Setting, names_of}
+use Rattle.cfg_chain.specs.Settings.{Setting, names_of, chain_metadata, named_metadata}
+use Rattle.cfg_chain.specs.profile.Bases.{signed_on}
 use Rattle.cfg_chain.specs.profile.Plans.{Planned, plan}
 use Rattle.cfg_chain.specs.profile.Profiles.{is_not_loaded_error}
 
@@ -60,7 +71,7 @@ IsUsable (Ok given) = HoldsCredentials given
 IsUsable (Err reason) = ⊥
 
 -- A request for a role was granted, and a container's reply is a document of credentials. No other
--- request is sent.
+-- request is looked at here.
 abbrev pub IsGranted : Request → Given → Type 0
 IsGranted (request.AssumeRole call) given = IsUsable (granted_of sts_in given)
 IsGranted (request.AssumeRoleWithWebIdentity call) given = IsUsable (granted_of sts_in given)
@@ -141,36 +152,57 @@ pub record IsContainer (s : Setting) : Type 0 where
   pub address : IsAddress s.container
   pub token : HasToken (token_file s.configuration.environment) (token_text s.configuration.environment)
 
-abbrev pub IsBuiltInBy : Setting → Bool → Bool → Type 0
-IsBuiltInBy s true is_container = HoldsKeys s.configuration.environment
-IsBuiltInBy s false true = IsContainer s
-IsBuiltInBy s false false = ⊥
+-- A stretch of a list.
+abbrev pub IsStretch : {A : Type 0} → List A → List A → Type 0
+IsStretch {A} stretch whole = (before : List A) × (behind : List A) × (whole ≡ before ++ (stretch ++ behind))
 
--- The environment has keys, or a container can be asked.
-abbrev pub IsBuiltIn : Setting → List ℕ → Type 0
-IsBuiltIn s name = IsBuiltInBy s (is_alike name (codes "Environment")) (is_alike name (codes "EcsContainer"))
+-- Over the stretch of the journal in which the instance metadata service is asked, nothing stands in the
+-- way, or retrieved credentials are found there.
+abbrev pub GivesMetadata : MetadataSetting → List Value → List Pair → Type 0
+GivesMetadata m found journal = (mine : List Value) (part : List Pair) (given : Answer) → IsStretch mine found → IsStretch part journal → Reads (metadata m) mine part given →
+    IsSome (retrieved_in mine) ⊎ usable.IsValid m part
 
-abbrev pub IsSource : Setting → List ℕ → Option Answer → Type 0
-IsSource s name (Some given) = IsOk given
-IsSource s name None = IsBuiltIn s name
+-- Over the stretch in which IAM Identity Center is asked, nothing stands in the way.
+abbrev pub GivesSignOn : Configuration → SsoProviderConfig → List Value → List Pair → Type 0
+GivesSignOn conf sso found journal = (mine : List Value) (part : List Pair) (given : Answer) → IsStretch mine found → IsStretch part journal → (cause : SsoCause conf sso mine part given) →
+    NothingInTheWay conf sso cause.token_part cause.role_part
+
+-- by whether the name is that of the environment, of a container, of instance metadata
+abbrev pub IsBuiltInBy : Setting → Bool → Bool → Bool → List Value → List Pair → Type 0
+IsBuiltInBy s true container metadata found journal = HoldsKeys s.configuration.environment
+IsBuiltInBy s false true metadata found journal = IsContainer s
+IsBuiltInBy s false false true found journal = GivesMetadata (named_metadata s) found journal
+IsBuiltInBy s false false false found journal = ⊥
+
+-- A caller's own source answers, or one that is always there has something to give.
+abbrev pub IsSource : Setting → List ℕ → Option Answer → List Value → List Pair → Type 0
+IsSource s name (Some given) found journal = IsOk given
+IsSource s name None found journal =
+    IsBuiltInBy s (is_alike name (codes "Environment")) (is_alike name (codes "EcsContainer")) (is_alike name (codes "Ec2InstanceMetadata")) found journal
 
 -- A base has something to give: a named source answers, and any other base stands in the profile.
-abbrev pub IsBase : Setting → BaseProvider → Type 0
-IsBase s (base.AccessKey keys) = Unit {0}
-IsBase s (base.NamedSource name) = IsSource s name (last_named name s.sources)
-IsBase s (base.WebIdentityTokenRole arn file session) = Unit {0}
-IsBase s (base.CredentialProcess command account) = Unit {0}
-IsBase s _ = ⊥
+abbrev pub IsBase : Setting → BaseProvider → List Value → List Pair → Type 0
+IsBase s (base.AccessKey keys) found journal = Unit {0}
+IsBase s (base.NamedSource name) found journal = IsSource s name (last_named name s.sources) found journal
+IsBase s (base.WebIdentityTokenRole arn file session) found journal = Unit {0}
+IsBase s (base.CredentialProcess command account) found journal = Unit {0}
+IsBase s (base.Sso session region url (Some account) (Some role)) found journal = GivesSignOn s.configuration (signed_on session region url account role) found journal
+IsBase s _ found journal = ⊥
 
--- The selected profile has a base with something to give; or it is passed over, and the variables name
--- a web identity, or a container that can be asked.
-abbrev pub GivesBehindEnvironment : Setting → Planned → Type 0
-GivesBehindEnvironment s (Ok p) = IsBase s p.base
-GivesBehindEnvironment s (Err e) = (is_not_loaded_error e ≡ true) × (IsOk (identity_in s.configuration.environment) ⊎ IsContainer s)
+-- The variables name a web identity, or a container that can be asked; or no container, and the instance
+-- metadata service gives something.
+abbrev pub GivesBehindProfile : Setting → List Value → List Pair → Type 0
+GivesBehindProfile s found journal = IsOk (identity_in s.configuration.environment) ⊎ (IsContainer s ⊎ ((s.container ≡ uri.NotSet) × HasToken (token_file s.configuration.environment) (token_text s.configuration.environment) × GivesMetadata (chain_metadata s) found journal))
+
+-- The selected profile has a base with something to give; or it is passed over, and a member behind it
+-- has.
+abbrev pub GivesBehindEnvironment : Setting → Planned → List Value → List Pair → Type 0
+GivesBehindEnvironment s (Ok p) found journal = IsBase s p.base found journal
+GivesBehindEnvironment s (Err e) found journal = (is_not_loaded_error e ≡ true) × GivesBehindProfile s found journal
 
 -- Nothing stands in the way of credentials: the variables are texts; the environment has something to
 -- give, or a member behind it; and each answer in the journal's part is of use.
-pub record IsValid (s : Setting) (part : List Pair) : Type 0 where
+pub record IsValid (s : Setting) (found : List Value) (part : List Pair) : Type 0 where
   pub texts : HasTexts s.configuration.environment
-  pub given : HoldsKeys s.configuration.environment ⊎ GivesBehindEnvironment s (plan s.configuration (names_of s.sources))
+  pub given : HoldsKeys s.configuration.environment ⊎ GivesBehindEnvironment s (plan s.configuration (names_of s.sources)) found part
   pub answers : AreOfUse s.configuration.environment part

@@ -1,12 +1,14 @@
 ghost use Rattle.std.specs.Prelude.{◌≡◌, [], ◌∷◌, ◌++◌, OnOk};
 ghost use Rattle.cfg_keeping.specs.Holds.{HoldsFollows};
 ghost use Rattle.cfg_chain.specs.Settings.{setting};
-ghost use Rattle.cfg_chain.specs.Sources.{named_sources};
+ghost use Rattle.cfg_chain.specs.Sources.{named_sources, services_in};
+ghost use Rattle.cfg_chain.specs.profile.Plans.{key_of};
+ghost use Rattle.cfg_sso.specs.Tokens.{HasKey};
 ghost use Rattle.cfg_chain.specs.Chains.{chain};
 ghost use Rattle.cfg_chain.specs.Members.{name_of, credentials_chain};
 
 use crate::member::{Member, Turn, follow_member, turn_of};
-use cfg_exchange::ContainerUri;
+use crate::services::Services;
 use cfg_keeping::Keeper;
 use cfg_profile::ProviderConfig;
 use cfg_providers::CustomSource;
@@ -23,17 +25,18 @@ pub fn follow_chain<P: Keeper, A: Asking>(
     alloc: Global,
     config: &ProviderConfig,
     sources: &[CustomSource],
-    container: &ContainerUri,
+    services: &Services,
     members: &[Member],
     keeper: &mut P,
     asking: &mut A,
 ) -> Result<Result<Credentials, CredentialsError>, Stop>
-    ensures follows { HoldsFollows ⟦<A as Asking>⟧ (chain (credentials_chain (setting config.now (named_sources value sources.now) container.now)) members.now []) asking.old (P.holdings keeper.old) asking.new (P.holdings keeper.new) result }
+    requires { HasKey (key_of config.now) (P.key_held keeper.old) }
+    ensures follows { HoldsFollows ⟦<A as Asking>⟧ (chain (credentials_chain (setting config.now (named_sources value sources.now) (services_in repeated services.now))) members.now []) asking.old (P.holdings keeper.old) asking.new (P.holdings keeper.new) result }
     ensures key { P.key_held keeper.new ≡ P.key_held keeper.old }
 {
     let mut attempts = Vec::new(alloc);
     for member in members {
-        let outcome = follow_member(alloc, config, sources, container, *member, keeper, asking)?;
+        let outcome = follow_member(alloc, config, sources, services, *member, keeper, asking)?;
         match turn_of(outcome) {
             Turn::Answers(answer) => return Ok(answer),
             Turn::PassedOver(error) => {

@@ -9,9 +9,9 @@ ghost use Rattle.cfg_keeping.specs.KeptInquiry.{Reads, Begins};
 ghost use Rattle.cfg_profile.specs.Configuration.{Configuration};
 ghost use Rattle.cfg_profile.specs.NamedSources.{IsPlan};
 ghost use Rattle.cfg_profile.specs.SectionSets.{SectionSets};
-ghost use Rattle.cfg_providers.specs.CustomSources.{Answer, NamedAnswer};
+ghost use Rattle.cfg_providers.specs.CustomSources.{Answer};
 ghost use Rattle.cfg_chain.specs.declared.member.Member.{Member as Asked};
-ghost use Rattle.cfg_chain.specs.Settings.{Setting};
+ghost use Rattle.cfg_chain.specs.Settings.{Setting, Lent};
 ghost use Rattle.cfg_chain.specs.Chains.{Chain, chain};
 ghost use Rattle.cfg_chain.specs.ChainParts.{MemberReads, AreParts, AreBegunParts};
 ghost use Rattle.cfg_chain.specs.Members.{member_tree};
@@ -21,7 +21,7 @@ ghost use Rattle.cfg_chain.specs.PassedOver.{IsPassedOver, PassesByTable};
 ghost use Rattle.cfg_chain.specs.Resolves.{Resolves};
 ghost use Rattle.cfg_chain.specs.Valid.{IsValid};
 ghost use Rattle.cfg_chain.specs.Provides.{IsCall};
-ghost use Rattle.cfg_chain.specs.profile.Plans.{Planned, profile_plan};
+ghost use Rattle.cfg_chain.specs.profile.Plans.{Planned, profile_plan, plan, key_of_plan, key_of};
 
 /// The journal of a chain is the parts of its members in order, and the other way round: whatever its
 /// members, values and errors are, the chain asks what its members ask.
@@ -40,28 +40,30 @@ pub fn an_interrupted_chain_is_its_members<M, V, E>()
 /// Each answer of a member has its cause over its part, by the rule of its provider.
 pub fn members_have_causes()
     ensures { (s : Setting) (member : Asked) (found : List Value) (part : List Pair) (out : Answer) →
-        Reads (member_tree s member) found part out → Cause s member part out }
+        Reads (member_tree s member) found part out → Cause s member found part out }
 {}
 
 /// A member is passed over by its line of the table, and by nothing else, where the address of a
 /// container is the one that the variables name.
 pub fn members_are_passed_over_by_the_table()
     ensures { (s : Setting) (member : Asked) (found : List Value) (part : List Pair) (out : Answer) →
-        IsContainerUri s.configuration.environment s.container → Reads (member_tree s member) found part out → PassesByTable out (IsPassedOver s member part) }
+        IsContainerUri s.configuration.environment s.container → Reads (member_tree s member) found part out → PassesByTable out (IsPassedOver s member found part) }
 {}
 
-/// Over one configuration, one list of sources, one kept state and one script of devices, from one
-/// place, the call of the default chain has one journal and one answer, finds the same values, and
-/// leaves the same.
+/// Over one configuration, what the caller lends being the same, one kept state and one script of devices,
+/// from one place, the call of the default chain has one journal and one answer, finds the same values,
+/// and leaves the same.
 pub fn one_script_one_call()
-    ensures { (conf : Configuration) (sources : List NamedAnswer) (lists : Lists) (place : Place) (old new newer : States) (found more : List Value) (one other : List Pair) (x y : Answer) →
-        IsCall conf sources old new found one x → IsCall conf sources old newer more other y → Given lists place one → Given lists place other → (one ≡ other) × (found ≡ more) × (x ≡ y) × (new ≡ newer) }
+    ensures { (conf : Configuration) (lent : Lent) (lists : Lists) (place : Place) (old new newer : States) (found more : List Value) (one other : List Pair) (x y : Answer) →
+        IsCall conf lent old new found one x → IsCall conf lent old newer more other y → Given lists place one → Given lists place other → (one ≡ other) × (found ≡ more) × (x ≡ y) × (new ≡ newer) }
 {}
 
-/// Where nothing stands in the way, said of the variables, of the selected profile and of the journal's
-/// entries, the call gives credentials.
+/// Where nothing stands in the way, said of the variables, of the selected profile, of the found values
+/// and of the journal's entries, the call gives credentials, where the address of a container is the one
+/// that the variables name.
 pub fn nothing_in_the_way_gives_credentials()
-    ensures { (s : Setting) (found : List Value) (journal : List Pair) (out : Answer) → Resolves s found journal out → IsValid s journal → is_ok out ≡ true }
+    ensures { (s : Setting) (found : List Value) (journal : List Pair) (out : Answer) →
+        IsContainerUri s.configuration.environment s.container → Resolves s found journal out → IsValid s found journal → is_ok out ≡ true }
 {}
 
 /// The plan of a profile is what its path gives, where the caller has sources of these names. There is
@@ -69,4 +71,9 @@ pub fn nothing_in_the_way_gives_credentials()
 pub fn the_plan_is_that_of_the_path()
     ensures path { (sets : SectionSets) (name : List ℕ) (sources : List (List ℕ)) → IsPlan sets name sources (profile_plan sets name sources) }
     ensures only { (sets : SectionSets) (name : List ℕ) (sources : List (List ℕ)) (answer : Planned) → IsPlan sets name sources answer → profile_plan sets name sources ≡ answer }
+{}
+
+/// Whose token a configuration needs is the same whatever sources the caller has.
+pub fn a_configuration_has_one_key()
+    ensures { (conf : Configuration) (sources : List (List ℕ)) → key_of_plan (plan conf sources) ≡ key_of conf }
 {}

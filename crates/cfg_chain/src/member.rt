@@ -1,16 +1,17 @@
 ghost use Rattle.std.specs.Prelude.{◌≡◌};
 ghost use Rattle.cfg_values.specs.Text.{characters};
-ghost use Rattle.cfg_world.specs.Follows.{Follows};
 ghost use Rattle.cfg_keeping.specs.Holds.{HoldsFollows};
+ghost use Rattle.cfg_sso.specs.Tokens.{HasKey};
 ghost use Rattle.cfg_chain.specs.Settings.{setting};
-ghost use Rattle.cfg_chain.specs.Sources.{named_sources};
-ghost use Rattle.cfg_chain.specs.Members.{name_of, member_inquiry, member_tree};
+ghost use Rattle.cfg_chain.specs.Sources.{named_sources, services_in};
+ghost use Rattle.cfg_chain.specs.Members.{name_of, member_tree};
 ghost use Rattle.cfg_chain.specs.Turns.{IsTurn};
+ghost use Rattle.cfg_chain.specs.profile.Plans.{key_of};
 
-use crate::profile::base::ask_container;
+use crate::profile::base::{ask_container, ask_metadata};
 use crate::profile::provider::follow_profile;
-use cfg_exchange::ContainerUri;
-use cfg_keeping::Keeper;
+use crate::services::Services;
+use cfg_keeping::{Keeper, Place};
 use cfg_profile::ProviderConfig;
 use cfg_providers::{CustomSource, SessionPolicies, follow_environment, web_identity};
 use cfg_types::{Credentials, CredentialsError};
@@ -24,6 +25,7 @@ pub enum Member {
     Profile,
     WebIdentityToken,
     EcsContainer,
+    Ec2InstanceMetadata,
 }
 
 impl Member {
@@ -36,6 +38,7 @@ impl Member {
             Member::Profile => "Profile",
             Member::WebIdentityToken => "WebIdentityToken",
             Member::EcsContainer => "EcsContainer",
+            Member::Ec2InstanceMetadata => "Ec2InstanceMetadata",
         }
     }
 }
@@ -66,39 +69,33 @@ pub fn follow_member<P: Keeper, A: Asking>(
     alloc: Global,
     config: &ProviderConfig,
     sources: &[CustomSource],
-    container: &ContainerUri,
+    services: &Services,
     member: Member,
-    _keeper: &mut P,
+    keeper: &mut P,
     asking: &mut A,
 ) -> Result<Result<Credentials, CredentialsError>, Stop>
-    ensures follows { HoldsFollows ⟦<A as Asking>⟧ (member_tree (setting config.now (named_sources value sources.now) container.now) member) asking.old (P.holdings _keeper.old) asking.new (P.holdings _keeper.new) result }
-    ensures key { P.key_held _keeper.new ≡ P.key_held _keeper.old }
-{
-    let outcome = ask_member(alloc, config, sources, container, member, asking)?;
-    Ok(outcome)
-}
-
-#[tactic(auto, unfolding(crate::specs::Members::member_inquiry))]
-fn ask_member<A: Asking>(
-    alloc: Global,
-    config: &ProviderConfig,
-    sources: &[CustomSource],
-    container: &ContainerUri,
-    member: Member,
-    asking: &mut A,
-) -> Result<Result<Credentials, CredentialsError>, Stop>
-    ensures { Follows ⟦<A as Asking>⟧ (member_inquiry (setting config.now (named_sources value sources.now) container.now) member) asking.old asking.new result }
+    requires { HasKey (key_of config.now) (P.key_held keeper.old) }
+    ensures follows { HoldsFollows ⟦<A as Asking>⟧ (member_tree (setting config.now (named_sources value sources.now) (services_in repeated services.now)) member) asking.old (P.holdings keeper.old) asking.new (P.holdings keeper.new) result }
+    ensures key { P.key_held keeper.new ≡ P.key_held keeper.old }
 {
     match member {
-        Member::Environment => follow_environment(alloc, config.env(), asking),
-        Member::Profile => follow_profile(alloc, config, sources, container, asking),
-        Member::WebIdentityToken => web_identity(
-            alloc,
-            config,
-            &None,
-            &SessionPolicies::none(),
-            asking,
-        ),
-        Member::EcsContainer => ask_container(alloc, config, container, asking),
+        Member::Environment => {
+            let outcome = follow_environment(alloc, config.env(), asking)?;
+            Ok(outcome)
+        }
+        Member::Profile => follow_profile(alloc, config, sources, services, keeper, asking),
+        Member::WebIdentityToken => {
+            let none = SessionPolicies::none();
+            let outcome = web_identity(alloc, config, &None, &none, asking)?;
+            Ok(outcome)
+        }
+        Member::EcsContainer => {
+            let outcome = ask_container(alloc, config, services.container, asking)?;
+            Ok(outcome)
+        }
+        Member::Ec2InstanceMetadata => {
+            let place = Place::Chain;
+            ask_metadata(alloc, config, services.client, place, keeper, asking)
+        }
     }
 }

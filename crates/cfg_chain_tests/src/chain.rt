@@ -90,8 +90,16 @@ fn errors_of_scripts(rt: HostRuntime) -> Result<(), Fail> {
             r#"InvalidConfiguration(Profile(FeatureNotEnabled { feature: "profile-providers", message: None }))"#,
         ),
         (
-            r#"{"profiles":[["default",[["role_arn","x"],["credential_source","Ec2InstanceMetadata"]]]]}"#,
+            r#"{"profiles":[["default",[["role_arn","x"],["source_profile","b"]]],["b",[["login_session","x"]]]]}"#,
             r#"InvalidConfiguration(Profile(FeatureNotEnabled { feature: "profile-providers", message: None }))"#,
+        ),
+        (
+            r#"{"profiles":[["default",[["sso_session","s"],["sso_account_id","1"],["sso_role_name","r"]]]]}"#,
+            r#"InvalidConfiguration(Profile(MissingSsoSession { profile: "default", sso_session: "s" }))"#,
+        ),
+        (
+            r#"{"profiles":[["default",[["sso_session","s"],["sso_account_id","1"]]]],"sessions":[["s",[["sso_region","e"],["sso_start_url","u"]]]]}"#,
+            r#"InvalidConfiguration(Profile(InvalidSsoConfig { profile: "default", message: "if `sso_account_id` is set, then `sso_role_name` must also be set" }))"#,
         ),
         (
             r#"{"profiles":[["default",[["role_arn","x"]]]]}"#,
@@ -117,54 +125,59 @@ fn errors_of_scripts(rt: HostRuntime) -> Result<(), Fail> {
     Ok(())
 }
 
-// The answer where no member is loaded: the variable and the profile that are missing.
+// The answer where no member is loaded: the variable and the profile that are missing, and metadata
+// that are switched off.
 fn nothing_loaded(alloc: Global, variable: &str, profile: &str) -> Result<String, AllocError> {
     format!(in alloc;
-        "CredentialsNotLoaded(Chain(ProviderChainError {{ attempts: [ProviderAttempt {{ name: \"Environment\", error: CredentialsNotLoaded(NotSet(\"{variable}\")) }}, ProviderAttempt {{ name: \"Profile\", error: CredentialsNotLoaded(Profile({profile})) }}, ProviderAttempt {{ name: \"WebIdentityToken\", error: CredentialsNotLoaded(NotSet(\"AWS_WEB_IDENTITY_TOKEN_FILE\")) }}, ProviderAttempt {{ name: \"EcsContainer\", error: CredentialsNotLoaded(NotConfigured) }}] }}))"
+        "CredentialsNotLoaded(Chain(ProviderChainError {{ attempts: [ProviderAttempt {{ name: \"Environment\", error: CredentialsNotLoaded(NotSet(\"{variable}\")) }}, ProviderAttempt {{ name: \"Profile\", error: CredentialsNotLoaded(Profile({profile})) }}, ProviderAttempt {{ name: \"WebIdentityToken\", error: CredentialsNotLoaded(NotSet(\"AWS_WEB_IDENTITY_TOKEN_FILE\")) }}, ProviderAttempt {{ name: \"EcsContainer\", error: CredentialsNotLoaded(NotConfigured) }}, ProviderAttempt {{ name: \"Ec2InstanceMetadata\", error: CredentialsNotLoaded(MetadataDisabled) }}] }}))"
     )
 }
 
 #[test]
 fn scripts_without_keys(rt: HostRuntime) -> Result<(), Fail> {
     let table: &[(&str, &str, &str)] = &[
-        ("{}", "AWS_ACCESS_KEY_ID", "NoProfilesDefined"),
         (
-            r#"{"variables":[["AWS_ACCESS_KEY_ID","\u3000"]]}"#,
+            r#"{"variables":[["AWS_EC2_METADATA_DISABLED","true"]]}"#,
             "AWS_ACCESS_KEY_ID",
             "NoProfilesDefined",
         ),
         (
-            r#"{"variables":[["AWS_ACCESS_KEY_ID","A"]],"profiles":[["Default",[]]]}"#,
+            r#"{"variables":[["AWS_EC2_METADATA_DISABLED","true"],["AWS_ACCESS_KEY_ID","\u3000"]]}"#,
+            "AWS_ACCESS_KEY_ID",
+            "NoProfilesDefined",
+        ),
+        (
+            r#"{"variables":[["AWS_EC2_METADATA_DISABLED","true"],["AWS_ACCESS_KEY_ID","A"]],"profiles":[["Default",[]]]}"#,
             "SECRET_ACCESS_KEY",
             "NoProfilesDefined",
         ),
         (
-            r#"{"profiles":[["default",[["region","r"]]]]}"#,
+            r#"{"variables":[["AWS_EC2_METADATA_DISABLED","true"]],"profiles":[["default",[["region","r"]]]]}"#,
             "AWS_ACCESS_KEY_ID",
             r#"ProfileDidNotContainCredentials { profile: "default" }"#,
         ),
         (
-            r#"{"variables":[["AWS_PROFILE","e"]],"profiles":[["other",[]]]}"#,
+            r#"{"variables":[["AWS_EC2_METADATA_DISABLED","true"],["AWS_PROFILE","e"]],"profiles":[["other",[]]]}"#,
             "AWS_ACCESS_KEY_ID",
             r#"MissingProfile { profile: "e", message: "could not find source profile e referenced from the root profile" }"#,
         ),
         (
-            r#"{"selected":"A","profiles":[["A",[["role_arn","x"],["source_profile","B"]]],["B",[["role_arn","y"],["source_profile","B"]]]]}"#,
+            r#"{"variables":[["AWS_EC2_METADATA_DISABLED","true"]],"selected":"A","profiles":[["A",[["role_arn","x"],["source_profile","B"]]],["B",[["role_arn","y"],["source_profile","B"]]]]}"#,
             "AWS_ACCESS_KEY_ID",
             r#"ProfileDidNotContainCredentials { profile: "B" }"#,
         ),
         (
-            r#"{"profiles":[["default",[["role_arn","x"],["source_profile","gone"]]]]}"#,
+            r#"{"variables":[["AWS_EC2_METADATA_DISABLED","true"]],"profiles":[["default",[["role_arn","x"],["source_profile","gone"]]]]}"#,
             "AWS_ACCESS_KEY_ID",
             r#"MissingProfile { profile: "gone", message: "could not find source profile gone referenced from default" }"#,
         ),
         (
-            r#"{"profiles":[["default",[["sso_account_id","1"],["sso_role_name","r"],["sso_start_url","u"]]]]}"#,
+            r#"{"variables":[["AWS_EC2_METADATA_DISABLED","true"]],"profiles":[["default",[["sso_account_id","1"],["sso_role_name","r"],["sso_start_url","u"]]]]}"#,
             "AWS_ACCESS_KEY_ID",
             r#"MissingProfile { profile: "default", message: "`sso_region` was missing" }"#,
         ),
         (
-            r#"{"selected":"c","variables":[["AWS_PROFILE","e"]],"profiles":[["other",[]]]}"#,
+            r#"{"selected":"c","variables":[["AWS_EC2_METADATA_DISABLED","true"],["AWS_PROFILE","e"]],"profiles":[["other",[]]]}"#,
             "AWS_ACCESS_KEY_ID",
             r#"MissingProfile { profile: "c", message: "could not find source profile c referenced from the root profile" }"#,
         ),
@@ -273,6 +286,22 @@ fn errors_of_a_base_behind_roles(rt: HostRuntime) -> Result<(), Fail> {
             r#"ProviderError(Base(CredentialsNotLoaded(NotSet("AWS_ACCESS_KEY_ID"))))"#,
         ),
         (
+            r#"{"profiles":[["default",[["role_arn","x"],["credential_source","Ec2InstanceMetadata"]]]]}"#,
+            "ProviderError(Base(CredentialsNotLoaded(MetadataUnreachable)))",
+        ),
+        (
+            r#"{"variables":[["AWS_EC2_METADATA_DISABLED","TRUE"]],"profiles":[["default",[["role_arn","x"],["source_profile","b"]]],["b",[["credential_source","EC2INSTANCEMETADATA"]]]]}"#,
+            "ProviderError(Base(CredentialsNotLoaded(MetadataDisabled)))",
+        ),
+        (
+            r#"{"profiles":[["default",[["role_arn","x"],["source_profile","b"]]],["b",[["sso_session","s"],["sso_account_id","1"],["sso_role_name","r"]]]],"sessions":[["s",[["sso_region","e"],["sso_start_url","u"]]]]}"#,
+            "ProviderError(Base(ProviderError(SsoToken(FailedToLoadToken(NoHomeDirectory)))))",
+        ),
+        (
+            r#"{"profiles":[["default",[["sso_account_id","1"],["sso_role_name","r"],["sso_region","e"],["sso_start_url","u"]]]]}"#,
+            "ProviderError(Base(ProviderError(SsoFile(NoHomeDirectory))))",
+        ),
+        (
             r#"{"profiles":[["default",[["role_arn","x"],["credential_source","unloaded"]]]]}"#,
             "ProviderError(Base(CredentialsNotLoaded(NotConfigured)))",
         ),
@@ -348,11 +377,15 @@ fn the_members_that_were_not_loaded_are_shown(rt: HostRuntime) -> Result<(), Fai
     let table: &[(&str, &str)] = &[
         (
             "{}",
-            "no credentials found in chain. Attempted:\n  Environment: not loaded: environment variable not set\n  Profile: not loaded: No profiles were defined\n  WebIdentityToken: not loaded: $AWS_WEB_IDENTITY_TOKEN_FILE was not set\n  EcsContainer: not loaded: ECS provider not configured",
+            "no credentials found in chain. Attempted:\n  Environment: not loaded: environment variable not set\n  Profile: not loaded: No profiles were defined\n  WebIdentityToken: not loaded: $AWS_WEB_IDENTITY_TOKEN_FILE was not set\n  EcsContainer: not loaded: ECS provider not configured\n  Ec2InstanceMetadata: not loaded: could not communicate with IMDS",
         ),
         (
-            r#"{"variables":[["AWS_WEB_IDENTITY_TOKEN_FILE","/j"]],"profiles":[["default",[]]]}"#,
-            "no credentials found in chain. Attempted:\n  Environment: not loaded: environment variable not set\n  Profile: not loaded: profile `default` did not contain credential information\n  WebIdentityToken: not loaded: AWS_ROLE_ARN environment variable must be set\n  EcsContainer: not loaded: ECS provider not configured",
+            r#"{"variables":[["AWS_WEB_IDENTITY_TOKEN_FILE","/j"],["AWS_EC2_METADATA_DISABLED","true"]],"profiles":[["default",[]]]}"#,
+            "no credentials found in chain. Attempted:\n  Environment: not loaded: environment variable not set\n  Profile: not loaded: profile `default` did not contain credential information\n  WebIdentityToken: not loaded: AWS_ROLE_ARN environment variable must be set\n  EcsContainer: not loaded: ECS provider not configured\n  Ec2InstanceMetadata: not loaded: IMDS disabled by AWS_EC2_METADATA_DISABLED env var set to `true`",
+        ),
+        (
+            r#"{"profiles":[["default",[["sso_session","s"]]]],"sessions":[["s",[["sso_region","e"],["sso_start_url","u"]]]],"replies":{"imds-token":[[200,[["x-aws-ec2-metadata-token-ttl-seconds","1"]],""]],"imds-get":[[404,[],""]]}}"#,
+            "no credentials found in chain. Attempted:\n  Environment: not loaded: environment variable not set\n  Profile: not loaded: selected profile will resolve an access token instead of credentials since it doesn't have `sso_account_id` and `sso_role_name` set. Specify both `sso_account_id` and `sso_role_name` to let this profile resolve credentials.\n  WebIdentityToken: not loaded: $AWS_WEB_IDENTITY_TOKEN_FILE was not set\n  EcsContainer: not loaded: ECS provider not configured\n  Ec2InstanceMetadata: not loaded: received 404 from IMDS",
         ),
     ];
     for (script, want) in table {

@@ -4,6 +4,8 @@
 #[cfg(test)]
 mod chain;
 #[cfg(test)]
+mod keeping;
+#[cfg(test)]
 mod own;
 #[cfg(test)]
 mod replay;

@@ -21,6 +21,14 @@ const IDENTITY: &str =
 const CONTAINER: &str =
     r#"{"variables":[["AWS_CONTAINER_CREDENTIALS_FULL_URI","http://n/c"],["AWS_CONTAINER_AUTHORIZATION_TOKEN_FILE","/t"]],"files":[["/t","tok"]],"lookups":[["127.0.0.1"]],"replies":{"http":[[500,[],""],[200,[],"no document"],[200,[],"{\"AccessKeyId\":\"MUA\",\"SecretAccessKey\":\"S\",\"Token\":\"T\",\"Expiration\":\"2016-02-25T06:03:31Z\"}"]]}}"#;
 
+// Metadata, with a session token that ends at once and a document that ended.
+const METADATA: &str =
+    r#"{"clock":[1456380211],"jitter":[7],"replies":{"imds-token":[[200,[["x-aws-ec2-metadata-token-ttl-seconds","0"]],"tok"],[200,[["x-aws-ec2-metadata-token-ttl-seconds","0"]],"tok"]],"imds-get":[[200,[],"role"],[200,[],"{\"AccessKeyId\":\"MUA\",\"SecretAccessKey\":\"S\",\"Token\":\"T\",\"Expiration\":\"2016-02-25T06:03:31Z\"}"]]}}"#;
+
+// A session of IAM Identity Center, whose token is refreshed.
+const SESSION: &str =
+    r#"{"variables":[["HOME","/home/u"]],"profiles":[["default",[["sso_session","abc"],["sso_account_id","1"],["sso_role_name","r"]]]],"sessions":[["abc",[["sso_region","us-east-1"],["sso_start_url","u"]]]],"files":[["/home/u/.aws/sso/cache/a9993e364706816aba3e25717850c26c9cd0d89d.json","{\"accessToken\":\"t\",\"expiresAt\":\"1970-01-01T00:15:00Z\",\"clientId\":\"i\",\"clientSecret\":\"s\",\"refreshToken\":\"r\",\"registrationExpiresAt\":\"1970-01-02T00:00:00Z\"}"]],"clock":[700],"replies":{"create-token":[{"access":"t2","expires_in":3600}],"role-credentials":[{"id":"R","secret":"S","token":"T","expires_ms":5000000}]}}"#;
+
 /// What a script's chain comes to where the call of the devices of this number fails.
 pub(crate) fn with_fault(alloc: Global, script: &str, at: u64) -> Result<String, OutOfMemory> {
     let Some(
@@ -189,6 +197,46 @@ fn each_call_of_the_devices_may_fail(rt: HostRuntime) -> Result<(), Fail> {
             6,
             r#"5 Credentials { provider_name: "EcsContainer", access_key_id: "MUA", secret_access_key: "** redacted **", expires_after: 1456380211 s 0 ns } S Some("T") [CredentialsHttp]"#,
         ),
+        (
+            METADATA,
+            2,
+            "4 ProviderError(Metadata(Unexpected(Dispatch)))",
+        ),
+        (
+            METADATA,
+            3,
+            "7 ProviderError(Metadata(FailedToLoadToken(Sent(Dispatch))))",
+        ),
+        (
+            METADATA,
+            4,
+            "8 ProviderError(Metadata(Unexpected(Dispatch)))",
+        ),
+        (
+            METADATA,
+            5,
+            r#"10 Credentials { provider_name: "IMDSv2", access_key_id: "MUA", secret_access_key: "** redacted **", expires_after: 1456380818 s 0 ns } S Some("T") [CredentialsImds]"#,
+        ),
+        (
+            SESSION,
+            1,
+            r#"2 ProviderError(Base(ProviderError(SsoToken(FailedToLoadToken(IoError { what: Read, path: "/home/u/.aws/sso/cache/a9993e364706816aba3e25717850c26c9cd0d89d.json" })))))"#,
+        ),
+        (
+            SESSION,
+            2,
+            r#"5 Credentials { provider_name: "SSO", access_key_id: "R", secret_access_key: "** redacted **", expires_after: 5000 s 0 ns, account_id: "1" } S Some("T") [CredentialsSso, CredentialsProfile]"#,
+        ),
+        (
+            SESSION,
+            3,
+            r#"5 ProviderError(Base(ProviderError(SsoToken(FailedToLoadToken(IoError { what: Write, path: "/home/u/.aws/sso/cache/a9993e364706816aba3e25717850c26c9cd0d89d.json" })))))"#,
+        ),
+        (
+            SESSION,
+            4,
+            "6 ProviderError(Base(ProviderError(Sent(Dispatch))))",
+        ),
     ];
     for (script, at, want) in table {
         let words = with_fault(rt.alloc(), script, *at)?;
@@ -199,7 +247,14 @@ fn each_call_of_the_devices_may_fail(rt: HostRuntime) -> Result<(), Fail> {
 
 #[test]
 fn the_question_behind_a_beginning_is_open(rt: HostRuntime) -> Result<(), Fail> {
-    for (script, questions) in [(ROLE, 2), (PROCESS, 4), (IDENTITY, 3), (CONTAINER, 5)] {
+    for (script, questions) in [
+        (ROLE, 2),
+        (PROCESS, 4),
+        (IDENTITY, 3),
+        (CONTAINER, 5),
+        (METADATA, 10),
+        (SESSION, 6),
+    ] {
         let words = beginnings(rt.alloc(), script)?;
         let want = "as the journal; ".repeat(rt.alloc(), questions + 1)?;
         assert_eq!(rt; words.as_str(), want.as_str(), "{script}");

@@ -5,8 +5,8 @@ ghost use Rattle.cfg_script.specs.Devices.{lists_of};
 
 use crate::own::own_sources;
 use cfg_chain::{
-    CustomSource, DefaultCredentialsChain, ProfileSet, ProfileSource, ProviderConfig, RegionSource,
-    Section,
+    Client, CustomSource, DefaultCredentialsChain, Kept, ProfileSet, ProfileSource, ProviderConfig,
+    RegionSource, Section,
 };
 use cfg_script::{Script, ScriptProfiles, read_script};
 use cfg_types::{Credentials, CredentialsError, Env, EnvText, OutOfMemory, Region, TryCopy};
@@ -103,6 +103,7 @@ fn set_up_by(alloc: Global, script: Script) -> Result<Setup, OutOfMemory>
         selected,
         region: _,
         sleep,
+        calls: _,
         devices,
     } = script;
     let config = config(alloc, variables, profiles, selected, sleep)?;
@@ -117,9 +118,9 @@ pub(crate) fn set_up(alloc: Global, script: &str) -> Result<Option<Setup>, OutOf
     }
 }
 
-// An answer that is let go by one call.
-struct Outcome {
-    answer: Result<Credentials, CredentialsError>,
+/// An answer that is let go by one call.
+pub(crate) struct Outcome {
+    pub(crate) answer: Result<Credentials, CredentialsError>,
 }
 
 impl Drop for Outcome {
@@ -151,7 +152,24 @@ fn provided(
 ) -> Result<Outcome, OutOfMemory> {
     let mut kept = chain.new_kept()?;
     Ok(Outcome {
-        answer: chain.provide_credentials(sources, &mut kept, world),
+        answer: chain.provide_credentials(sources, None, &mut kept, world),
+    })
+}
+
+/// What a call of the chain answers on what is kept, with this metadata client lent. None where what is
+/// kept is not that of a chain with its key.
+pub(crate) fn called(
+    chain: &DefaultCredentialsChain,
+    sources: &[CustomSource],
+    imds_client: Option<&Client>,
+    kept: &mut Kept,
+    world: &mut World<ScriptDevices>,
+) -> Option<Outcome> {
+    if !kept.fits(chain.token_key()) {
+        return None;
+    }
+    Some(Outcome {
+        answer: chain.provide_credentials(sources, imds_client, kept, world),
     })
 }
 
@@ -189,7 +207,7 @@ pub(crate) fn followed<A: Asking>(
     asking: &mut A,
 ) -> Result<String, OutOfMemory> {
     let mut kept = chain.new_kept()?;
-    match chain.follow(sources, &mut kept, asking) {
+    match chain.follow(sources, None, &mut kept, asking) {
         Ok(answer) => {
             let outcome = Outcome { answer };
             Ok(answer_words(alloc, &outcome.answer)?)

@@ -25,7 +25,8 @@ pub fn exchange<A: Asking, C: ClassifyRetry>(
     classifier: &C,
     asking: &mut A,
 ) -> Result<Receipt, Stop>
-    ensures { Follows ⟦<A as Asking>⟧ (attempts (limit - 1) (Question.Send request.now) (is_repeated_by kind (C.repeated classifier.now))) asking.old asking.new result }
+    ensures follows { Follows ⟦<A as Asking>⟧ (attempts (limit - 1) (Question.Send request.now) (is_repeated_by kind (C.repeated classifier.now))) asking.old asking.new result }
+    ensures asks { IfOk result (λ e. e.0 ≡ Question.Send request.now) }
 {
     let (receipt, _) = exchange_and_read(alloc, request, limit, kind, classifier, asking)?;
     Ok(receipt)
@@ -43,6 +44,7 @@ pub(crate) fn exchange_and_read<A: Asking, C: ClassifyRetry>(
     asking: &mut A,
 ) -> Result<(Receipt, Option<Said>), Stop>
     ensures follows { Follows ⟦<A as Asking>⟧ (attempts (limit - 1) (Question.Send request.now) (is_repeated_by kind (C.repeated classifier.now))) asking.old asking.new (outcome_of result) }
+    ensures asks { IfOk result (λ x. x.0.0 ≡ Question.Send request.now) }
     ensures said { IfOk result (λ x. IsReadOf x.0.1 x.1) }
 {
     let mut more = limit.saturating_sub(1);
@@ -62,7 +64,8 @@ pub(crate) fn exchange_and_read<A: Asking, C: ClassifyRetry>(
 // One attempt.
 #[tactic(auto, using(cfg_world::proofs::Inquiries::asking_steps), unfolding(crate::specs::Attempts::asked))]
 fn attempt<A: Asking>(alloc: Global, request: &Request, asking: &mut A) -> Result<Receipt, Stop>
-    ensures { Follows ⟦<A as Asking>⟧ (asked (Question.Send request.now)) asking.old asking.new result }
+    ensures follows { Follows ⟦<A as Asking>⟧ (asked (Question.Send request.now)) asking.old asking.new result }
+    ensures asks { IfOk result (λ e. e.0 ≡ Question.Send request.now) }
 {
     let request = request.copy(alloc)?;
     asking.put(Question::Send(request))

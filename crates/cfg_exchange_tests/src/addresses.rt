@@ -183,6 +183,7 @@ fn full_words_by(alloc: Global, script: &str, uri: &str, dns: bool) -> Result<St
                 selected: _,
                 region: _,
                 sleep: _,
+                calls: _,
                 devices,
             } = script;
             full_words(alloc, uri, dns, devices)

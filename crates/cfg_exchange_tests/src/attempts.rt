@@ -78,6 +78,7 @@ fn exchanged_by<C: ClassifyRetry>(
         selected: _,
         region: _,
         sleep: _,
+        calls: _,
         devices,
     } = script;
     exchanged(alloc, limit, classifier, devices)

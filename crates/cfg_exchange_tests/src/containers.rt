@@ -84,6 +84,7 @@ fn call_by(alloc: Global, script: Script) -> Result<String, OutOfMemory>
         selected: _,
         region: _,
         sleep,
+        calls: _,
         devices,
     } = script;
     let env = Env::new(alloc, variables)?;

@@ -1,5 +1,5 @@
 -- What stands at a path, or why it is not had.
-use Rattle.std.specs.Prelude.{ℕ, List, [], Option, Some, None, Result, Ok, Err, if◌then◌else◌}
+use Rattle.std.specs.Prelude.{ℕ, List, [], Bool, true, false, Option, Some, None, Result, Ok, Err, if◌then◌else◌}
 use Rattle.cfg_values.specs.Text.{characters}
 use Rattle.cfg_types.specs.declared.errors.imds.ImdsError.{ImdsError}
 use Rattle.cfg_types.specs.declared.errors.imds.ImdsError.TheVariants as imds
@@ -7,6 +7,9 @@ use Rattle.cfg_types.specs.declared.errors.imds.UnexpectedCause.TheVariants.{Not
 use Rattle.cfg_types.specs.declared.reply.FailKind.{FailKind}
 use Rattle.cfg_types.specs.declared.reply.FailKind.TheVariants as fail
 use Rattle.cfg_types.specs.declared.reply.http.HttpReply.{HttpReply}
+use Rattle.cfg_types.specs.declared.request.Request.TheVariants.{MetadataGet}
+use Rattle.cfg_world.specs.declared.ask.Question.{Question}
+use Rattle.cfg_world.specs.declared.ask.Question.TheVariants.{Send}
 use Rattle.cfg_world.specs.Fits.{Pair}
 use Rattle.cfg_world.specs.Inquiry.{Inquiry, Done, after}
 use Rattle.cfg_world.specs.Leaves.{http_of}
@@ -30,6 +33,11 @@ reply_fault reply = if is_success reply.status then text_fault (utf8 reply.body)
 abbrev pub sent_fault : Result HttpReply FailKind → Option ImdsError
 sent_fault (Ok reply) = reply_fault reply
 sent_fault (Err kind) = Some (send_error kind)
+
+-- a request for what stands at a path
+abbrev pub is_get : Question → Bool
+is_get (Send (MetadataGet call)) = true
+is_get _ = false
 
 -- what is wrong with the answer of an entry
 unfoldable pub entry_fault : Pair → Option ImdsError

@@ -45,6 +45,16 @@ default_setup = record {
   repeats = metadata_repeats (record { retry_connect_timeouts = false });
 }
 
+-- a builder that a configuration alone was given to
+abbrev pub configured : Configuration → ClientSetup
+configured conf = record {
+  configuration = conf;
+  endpoint = None;
+  mode = None;
+  settings = default_settings;
+  repeats = default_setup.repeats;
+}
+
 -- the settings of a setup changed alone
 abbrev pub with_settings : (ImdsSettings → ImdsSettings) → ClientSetup → ClientSetup
 with_settings change setup = record {

@@ -28,7 +28,7 @@ pub struct Builder {
     classifier: Classifier,
 }
 
-fn default_settings() -> ImdsSettings
+pub(crate) fn default_settings() -> ImdsSettings
     ensures { result ≡ default_settings_of }
 {
     ImdsSettings {
@@ -43,7 +43,7 @@ fn default_settings() -> ImdsSettings
     }
 }
 
-fn own_classifier() -> ImdsResponseRetryClassifier
+pub(crate) fn own_classifier() -> ImdsResponseRetryClassifier
     ensures { result ≡ record { retry_connect_timeouts = false } }
 {
     ImdsResponseRetryClassifier::default().with_retry_connect_timeouts(false)

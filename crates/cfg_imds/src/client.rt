@@ -6,9 +6,9 @@ ghost use Rattle.cfg_world.specs.Follows.{Follows};
 ghost use Rattle.cfg_imds.specs.Calls.{or_memory as or_memory_of};
 ghost use Rattle.cfg_imds.specs.Clients.{place_of, endpoint_fault as endpoint_fault_of, path_fault as path_fault_of, why_unusable};
 
-use crate::builder::Builder;
+use crate::builder::{Builder, default_settings, own_classifier};
 use crate::classifier::Classifier;
-use crate::endpoint::Endpoint;
+use crate::endpoint::{Endpoint, endpoint_of};
 use crate::fetch::{entry_text, fetch_at};
 use crate::path::is_path;
 use crate::requests::ImdsSettings;
@@ -16,6 +16,7 @@ use crate::settle::settle_at;
 use crate::state::ImdsTokenState;
 use crate::token::MetadataToken;
 use cfg_exchange::ClassifyRetry;
+use cfg_profile::ProviderConfig;
 use cfg_types::imds::{BuildError, ImdsError, InvalidEndpointMode, UnexpectedCause};
 use cfg_types::{Bytes, OutOfMemory, SensitiveString, Text, TryCopy};
 use cfg_world::{Asking, Devices, Receipt, Stop, World};
@@ -98,11 +99,11 @@ impl Client {
     ghost use Rattle.cfg_imds.specs.Calls.{is_memory, CallEnds, CallBreaks};
     ghost use Rattle.cfg_imds.specs.Left.{LeftBy};
     ghost use Rattle.cfg_imds.specs.Causes.{why_asked, last_fault, why_no_text, settled_error};
-    ghost use Rattle.cfg_imds.specs.Fetches.{entry_fault};
+    ghost use Rattle.cfg_imds.specs.Fetches.{is_get, entry_fault};
     ghost use Rattle.cfg_imds.specs.Clients.{rules_of, settle, fetch, fetch_text as fetch_text_of, get};
     ghost use Rattle.cfg_imds.specs.Classifiers.{repeated_by};
     ghost use Rattle.cfg_imds.specs.Requests.{service};
-    ghost use Rattle.cfg_imds.specs.Setups.{setup_of, default_setup};
+    ghost use Rattle.cfg_imds.specs.Setups.{setup_of, default_setup, configured, IsClient};
     ghost use Rattle.cfg_imds.specs.Settles.{with_kept};
     ghost use Rattle.cfg_imds.specs.Tokens.{bare_token};
 
@@ -127,6 +128,16 @@ impl Client {
         ensures { IfOk result (λ b. setup_of repeated b ≡ default_setup) }
     {
         Builder::new(alloc)
+    }
+
+    /// The client of a configuration, with nothing else set. Where it asks is read from the configuration
+    /// now, and nothing is asked for it.
+    pub fn configured(alloc: Global, config: &ProviderConfig) -> Result<Client, OutOfMemory>
+        ensures { IfOk result (λ client. IsClient (configured config.now) (rules_of repeated client)) }
+    {
+        let endpoint = endpoint_of(alloc, config, &None, None)?;
+        let classifier = Classifier::Own(own_classifier());
+        Ok(Client::of(alloc, endpoint, default_settings(), classifier))
     }
 
     /// The body of [`Self::settle`], over anything that can be asked. After a stop what is kept is as
@@ -157,6 +168,7 @@ impl Client {
         asking: &mut A,
     ) -> Result<Result<Receipt, ImdsError>, Stop>
         ensures follows { Follows ⟦<A as Asking>⟧ (fetch (rules_of repeated self.now) path.now token.now) asking.old asking.new result }
+        ensures get { IfOk result (λ r. IfOk r (λ e. is_get e.0 ≡ true)) }
         ensures fine { IfOk result (λ r. IfOk r (λ e. entry_fault e ≡ none)) }
     {
         fetch_at(
@@ -276,6 +288,7 @@ impl Client {
         requires { why_unusable (rules_of repeated self.now).endpoint path.now ≡ none }
         ensures fetches { is_memory result ≡ false → CallEnds ⟦<D as Devices>⟧ (fetch (rules_of repeated self.now) path.now token.now) (λ r. result_err r) last_fault world.old world.new result }
         ensures memory { is_memory result ≡ true → CallBreaks ⟦<D as Devices>⟧ (fetch (rules_of repeated self.now) path.now token.now) world.old world.new }
+        ensures get { IfOk result (λ e. is_get e.0 ≡ true) }
         ensures fine { IfOk result (λ e. entry_fault e ≡ none) }
     {
         let outcome = self.follow_fetch(path, token, world);

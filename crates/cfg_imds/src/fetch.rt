@@ -1,10 +1,10 @@
 //! What stands at a path of the instance metadata service.
-ghost use Rattle.std.specs.Prelude.{◌≡◌, None as none, option_map, IfOk};
+ghost use Rattle.std.specs.Prelude.{◌≡◌, None as none, option_map, IfOk, true};
 ghost use Rattle.cfg_world.specs.Follows.{Follows};
 ghost use Rattle.cfg_world.specs.Leaves.{http_of};
 ghost use Rattle.cfg_imds.specs.Requests.{service};
 ghost use Rattle.cfg_imds.specs.Utf8.{utf8 as utf8_of};
-ghost use Rattle.cfg_imds.specs.Fetches.{send_error as send_error_of, reply_fault as reply_fault_of, sent_fault, entry_fault as entry_fault_of, fetched as fetched_of, fetch_at as fetch_at_of, entry_text as entry_text_of};
+ghost use Rattle.cfg_imds.specs.Fetches.{is_get, send_error as send_error_of, reply_fault as reply_fault_of, sent_fault, entry_fault as entry_fault_of, fetched as fetched_of, fetch_at as fetch_at_of, entry_text as entry_text_of};
 ghost use Rattle.cfg_values.specs.Text.{characters};
 
 use crate::requests::{ImdsSettings, ask_path};
@@ -73,6 +73,7 @@ fn entry_fault(alloc: Global, receipt: &Receipt) -> Result<Option<ImdsError>, Ou
 #[tactic(auto, unfolding(crate::specs::Fetches::fetched))]
 fn fetched(alloc: Global, receipt: Receipt) -> Result<Result<Receipt, ImdsError>, OutOfMemory>
     ensures fetched { IfOk result (λ r. fetched_of receipt ≡ r) }
+    ensures same { IfOk result (λ r. IfOk r (λ e. e ≡ receipt)) }
     ensures fine { IfOk result (λ r. IfOk r (λ e. entry_fault_of e ≡ none)) }
 {
     match entry_fault(alloc, &receipt)? {
@@ -93,6 +94,7 @@ pub fn fetch_at<A: Asking, C: ClassifyRetry>(
     asking: &mut A,
 ) -> Result<Result<Receipt, ImdsError>, Stop>
     ensures follows { Follows ⟦<A as Asking>⟧ (fetch_at_of (service settings.now (C.repeated classifier.now)) endpoint.now path.now token.now) asking.old asking.new result }
+    ensures get { IfOk result (λ r. IfOk r (λ e. is_get e.0 ≡ true)) }
     ensures fine { IfOk result (λ r. IfOk r (λ e. entry_fault_of e ≡ none)) }
 {
     let receipt = ask_path(alloc, settings, classifier, endpoint, path, token, asking)?;

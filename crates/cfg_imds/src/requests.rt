@@ -1,6 +1,8 @@
 //! What the instance metadata service is sent.
-ghost use Rattle.std.specs.Prelude.{◌≡◌, IfOk};
+ghost use Rattle.std.specs.Prelude.{◌≡◌, IfOk, true};
+ghost use Rattle.cfg_world.specs.declared.ask.Question.TheVariants.{Send};
 ghost use Rattle.cfg_world.specs.Follows.{Follows};
+ghost use Rattle.cfg_imds.specs.Fetches.{is_get};
 ghost use Rattle.cfg_imds.specs.Requests.{service, tries as tries_of, token_request, get_request, token_attempts, get_attempts};
 
 use cfg_exchange::{ClassifyRetry, ReplyKind, exchange};
@@ -67,7 +69,8 @@ fn tries<A: Asking, C: ClassifyRetry>(
     kind: ReplyKind,
     asking: &mut A,
 ) -> Result<Receipt, Stop>
-    ensures { Follows ⟦<A as Asking>⟧ (tries_of (service settings.now (C.repeated classifier.now)) kind request.now) asking.old asking.new result }
+    ensures follows { Follows ⟦<A as Asking>⟧ (tries_of (service settings.now (C.repeated classifier.now)) kind request.now) asking.old asking.new result }
+    ensures asks { IfOk result (λ e. e.0 ≡ Send request.now) }
 {
     exchange(
         alloc,
@@ -106,7 +109,8 @@ pub fn ask_path<A: Asking, C: ClassifyRetry>(
     token: &Bytes,
     asking: &mut A,
 ) -> Result<Receipt, Stop>
-    ensures { Follows ⟦<A as Asking>⟧ (get_attempts (service settings.now (C.repeated classifier.now)) endpoint.now path.now token.now) asking.old asking.new result }
+    ensures follows { Follows ⟦<A as Asking>⟧ (get_attempts (service settings.now (C.repeated classifier.now)) endpoint.now path.now token.now) asking.old asking.new result }
+    ensures get { IfOk result (λ e. is_get e.0 ≡ true) }
 {
     let request = make_get_request(alloc, settings, endpoint, path, token)?;
     let kind = ReplyKind::MetadataText;

@@ -72,6 +72,7 @@ fn set_up_by(alloc: Global, script: Script) -> Result<Setup, OutOfMemory>
         selected,
         region: _,
         sleep: _,
+        calls: _,
         devices: lists,
     } = script;
     let devices = devices(alloc, lists)?;

@@ -4,7 +4,7 @@ use Rattle.cfg_world.specs.declared.asking.Asking.{Ghosts}
 use Rattle.cfg_world.specs.Fits.{Pair, EachFits}
 use Rattle.cfg_world.specs.Inquiry.{Inquiry}
 use Rattle.cfg_world.specs.Follows.{Ends, Waits, Breaks}
-use Rattle.cfg_world.proofs.Counts.{Same-refl, Same-trans, Counted-none, Counted-then}
+use Rattle.cfg_world.proofs.Counts.{Same-refl, Same-trans, StandsOn-none, StandsOn-then, Counted-none, Counted-then}
 use Rattle.cfg_keeping.specs.KeptInquiry.{KeptInquiry, Gives, lift, onwards}
 use Rattle.cfg_keeping.specs.Holds.{Holdings, HoldsEnds, HoldsWaits, HoldsBreaks}
 use Rattle.cfg_keeping.proofs.Trees.{runs_then, open_then, open_first, begins_then, begins_first, begins_here, lift_runs, lift_open, lift_begins}
@@ -17,14 +17,14 @@ module _ {W : Type 0} {w : Ghosts W} where
   -- one call after another
   pub holds_ends_then : {A B : Type 0} {p : KeptInquiry A} (f : A → KeptInquiry B) {old mid new : W} {before between later : Holdings} {x : A} {out : B} →
       HoldsEnds w p old before mid between x → HoldsEnds w (f x) mid between new later out → HoldsEnds w (onwards p f) old before new later out
-  holds_ends_then {p = p} f {old = old} {before = before} {between = between} {later = later} {x = x} {out = out} a b = record {
+  holds_ends_then {p = p} f {old = old} {mid = mid} {new = new} {before = before} {between = between} {later = later} {x = x} {out = out} a b = record {
     part = a.part ++ b.part;
     grows = b.grows ∙ ap (λ t. t ++ b.part) a.grows ∙ append_assoc (w.journal old) a.part b.part;
     fits = fits_append a.part b.part a.fits b.fits;
     made = b.made ∙ a.made;
     same = Same-trans a.same b.same;
     counted = Counted-then a.counted b.counted;
-    stands = λ h. b.stands (a.stands h);
+    stands = StandsOn-then (w.stands old) (w.stands mid) (w.stands new) a.part b.part a.stands b.stands;
     found = a.found ++ b.found;
     finds = b.finds ∙ ap (λ t. t ++ b.found) a.finds ∙ append_assoc before.found a.found b.found;
     runs = runs_then p f before.kept between.kept later.kept a.found b.found a.part b.part x out a.runs b.runs;
@@ -32,14 +32,14 @@ module _ {W : Type 0} {w : Ghosts W} where
 
   pub holds_waits_then : {A B : Type 0} {p : KeptInquiry A} (f : A → KeptInquiry B) {old mid new : W} {before between later : Holdings} {x : A} →
       HoldsEnds w p old before mid between x → HoldsWaits w (f x) mid between new later → HoldsWaits w (onwards p f) old before new later
-  holds_waits_then {p = p} f {old = old} {new = new} {before = before} {between = between} {later = later} {x = x} a b = record {
+  holds_waits_then {p = p} f {old = old} {mid = mid} {new = new} {before = before} {between = between} {later = later} {x = x} a b = record {
     part = a.part ++ b.part;
     grows = b.grows ∙ ap (λ t. t ++ b.part) a.grows ∙ append_assoc (w.journal old) a.part b.part;
     fits = fits_append a.part b.part a.fits b.fits;
     made = b.made ∙ a.made;
     same = Same-trans a.same b.same;
     counted = Counted-then a.counted b.counted;
-    stands = λ h. b.stands (a.stands h);
+    stands = StandsOn-then (w.stands old) (w.stands mid) (w.stands new) a.part b.part a.stands b.stands;
     found = a.found ++ b.found;
     finds = b.finds ∙ ap (λ t. t ++ b.found) a.finds ∙ append_assoc before.found a.found b.found;
     asks = open_then p f before.kept between.kept later.kept a.found b.found a.part b.part x (w.open_question new) a.runs b.asks;
@@ -119,7 +119,7 @@ module _ {W : Type 0} {w : Ghosts W} where
     made = refl;
     same = Same-refl _;
     counted = Counted-none _;
-    stands = λ s. s;
+    stands = StandsOn-none (w.stands old);
     found = [];
     finds = sym (append-nil before.found);
     runs = (e, refl);

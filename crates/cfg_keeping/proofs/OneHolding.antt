@@ -8,7 +8,7 @@ use Rattle.cfg_world.specs.Fits.{Pair}
 use Rattle.cfg_world.specs.Inquiry as low
 use Rattle.cfg_world.specs.Inquiry.{Inquiry}
 use Rattle.cfg_world.specs.Follows.{Ends, Halts}
-use Rattle.cfg_world.proofs.Counts.{Same-refl, Counted-none}
+use Rattle.cfg_world.proofs.Counts.{Same-refl, StandsOn-none, Counted-none}
 use Rattle.cfg_keeping.specs.Kinds.{Spot, Value, States, spot_of, value_at, with_value}
 use Rattle.cfg_keeping.specs.KeptInquiry.{KeptInquiry, Gives, Finds, Leaves, Runs, Asks, Begins, StandsIn, leave, lift, onwards}
 use Rattle.cfg_keeping.specs.Holds.{Holdings, held, HoldsFound, leaves_in, HoldsEnds, HoldsBreaks, HoldsHalts, HoldsFollows, HoldsOne, left_by, holding}
@@ -139,7 +139,7 @@ module _ {W : Type 0} (w : Ghosts W) where
     made = refl;
     same = Same-refl _;
     counted = Counted-none _;
-    stands = λ s. s;
+    stands = StandsOn-none (w.stands old);
     found = [];
     finds = sym (append-nil before.found);
     runs = (is, refl);
@@ -154,7 +154,7 @@ module _ {W : Type 0} (w : Ghosts W) where
     made = refl;
     same = Same-refl _;
     counted = Counted-none _;
-    stands = λ s. s;
+    stands = StandsOn-none (w.stands old);
     found = v ∷ [];
     finds = found.finds;
     runs = (at, found.stands, (is, sym found.kept));

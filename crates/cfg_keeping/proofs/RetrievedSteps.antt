@@ -17,6 +17,7 @@ is_retrieved d reading jitter r document reads asks due keys receipts = record {
   reading = reading;
   jitter = jitter;
   receipts = receipts;
+  gets = document.gets;
   success = document.success;
   reads = reads;
   asks = asks;

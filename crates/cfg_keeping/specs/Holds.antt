@@ -5,7 +5,7 @@ use Rattle.cfg_world.specs.declared.asking.Stop.{Stop}
 use Rattle.cfg_world.specs.declared.asking.Stop.TheVariants.{OutOfMemory, Open}
 use Rattle.cfg_world.specs.Fits.{Pair, EachFits}
 use Rattle.cfg_world.specs.Faults.{Counted}
-use Rattle.cfg_world.specs.Asked.{Same}
+use Rattle.cfg_world.specs.Asked.{Same, StandsOn}
 use Rattle.cfg_world.specs.Inquiry.{Inquiry}
 use Rattle.cfg_keeping.specs.Kinds.{Spot, Value, States}
 use Rattle.cfg_keeping.specs.KeptInquiry.{KeptInquiry, Gives, Finds, Leaves, Runs, Asks, Begins, StandsIn, leave, lift, onwards}
@@ -26,7 +26,7 @@ pub record HoldsEnds {A R : Type 0} (a : Ghosts A) (tree : KeptInquiry R) (old :
   pub made : a.made_of new ≡ a.made_of old
   pub same : Same (a.allows old) (a.allows new)
   pub counted : Counted part (a.faults old) (a.faults new)
-  pub stands : a.stands old (a.journal old) → a.stands new (a.journal new)
+  pub stands : StandsOn (a.stands old) (a.stands new) part
   pub found : List Value
   pub finds : later.found ≡ before.found ++ found
   pub runs : Runs tree before.kept found part out later.kept
@@ -39,7 +39,7 @@ pub record HoldsWaits {A R : Type 0} (a : Ghosts A) (tree : KeptInquiry R) (old 
   pub made : a.made_of new ≡ a.made_of old
   pub same : Same (a.allows old) (a.allows new)
   pub counted : Counted part (a.faults old) (a.faults new)
-  pub stands : a.stands old (a.journal old) → a.stands new (a.journal new)
+  pub stands : StandsOn (a.stands old) (a.stands new) part
   pub found : List Value
   pub finds : later.found ≡ before.found ++ found
   pub asks : IfSome (a.open_question new) (λ q. Asks tree before.kept found part q later.kept)

@@ -1,6 +1,6 @@
 -- Credentials that were retrieved from the instance metadata service, and the rule by which three
 -- receipts give them.
-use Rattle.std.specs.Prelude.{◌≡◌, ℕ, ◌+◌, pos, List, [], ◌∷◌, Bool, false, not, nat_lt, int_lt, Option, Some, None, IfSome, is_some, unwrap_or, Result, Ok, Err, codes, if◌then◌else◌}
+use Rattle.std.specs.Prelude.{◌≡◌, ℕ, ◌+◌, pos, List, [], ◌∷◌, Bool, true, false, not, nat_lt, int_lt, Option, Some, None, IfSome, is_some, unwrap_or, Result, Ok, Err, codes, if◌then◌else◌}
 use Rattle.std.specs.Option.{option_to_list}
 use Rattle.cfg_values.specs.Instant.{number}
 use Rattle.cfg_values.specs.Moment.{Moment}
@@ -9,7 +9,7 @@ use Rattle.cfg_types.specs.declared.errors.CredentialsError.{CredentialsError}
 use Rattle.cfg_world.specs.declared.ask.Question.TheVariants.{Now, Jitter}
 use Rattle.cfg_world.specs.Fits.{Pair}
 use Rattle.cfg_world.specs.Leaves.{moment_of, jitter_of}
-use Rattle.cfg_imds.specs.Fetches.{entry_fault}
+use Rattle.cfg_imds.specs.Fetches.{is_get, entry_fault}
 use Rattle.cfg_imds.specs.Tokens.{later, in_ok}
 use Rattle.cfg_keeping.specs.RoleDocuments.{RoleKeys, role_document}
 
@@ -71,7 +71,7 @@ abbrev pub needs_jitter : Result RoleKeys CredentialsError → Moment → Bool
 needs_jitter (Ok role) now = is_due role.expiry now
 needs_jitter (Err e) now = false
 
--- The receipts are those of a get with which nothing is wrong, of a reading of the clock and, exactly
+-- The receipts are those of a get of a path with which nothing is wrong, of a reading of the clock and, exactly
 -- where the document's expiry is not after it, of a jitter; and the keys are what the rule reads from
 -- them.
 pub record IsRetrieved (r : ReceiptedKeys) : Type 0 where
@@ -79,6 +79,7 @@ pub record IsRetrieved (r : ReceiptedKeys) : Type 0 where
   pub reading : Pair
   pub jitter : Option Pair
   pub receipts : r.receipts ≡ get ∷ reading ∷ option_to_list jitter
+  pub gets : is_get get.0 ≡ true
   pub success : entry_fault get ≡ None
   pub reads : reading.0 ≡ Now
   pub asks : IfSome jitter (λ e. e.0 ≡ Jitter)

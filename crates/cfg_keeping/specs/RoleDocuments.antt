@@ -1,5 +1,5 @@
 -- The document of a role's credentials that the instance metadata service gives.
-use Rattle.std.specs.Prelude.{◌≡◌, ℕ, List, None, Result, Ok, Err, codes, if◌then◌else◌}
+use Rattle.std.specs.Prelude.{◌≡◌, ℕ, List, true, None, Result, Ok, Err, codes, if◌then◌else◌}
 use Rattle.std.specs.Str.{encode_utf8_all, bytes_eq}
 use Rattle.cfg_values.specs.Moment.{Moment}
 use Rattle.cfg_types.specs.declared.errors.CredentialsError.{CredentialsError}
@@ -12,7 +12,7 @@ use Rattle.cfg_json.specs.declared.credentials.JsonCredentials.TheVariants as sa
 use Rattle.cfg_json.specs.Documents.{Read}
 use Rattle.cfg_world.specs.Fits.{Pair}
 use Rattle.cfg_exchange.specs.Documents.{document}
-use Rattle.cfg_imds.specs.Fetches.{entry_fault, entry_text}
+use Rattle.cfg_imds.specs.Fetches.{is_get, entry_fault, entry_text}
 
 -- the keys of such a document, and when it says that they end
 pub record RoleKeys : Type 0 where
@@ -52,7 +52,8 @@ get_document get = document (encode_utf8_all (entry_text get))
 unfoldable pub role_document : Pair → Result RoleKeys CredentialsError
 role_document get = said_role (get_document get)
 
--- Nothing is wrong with the get, and its document has these keys.
+-- The get asked for a path, nothing is wrong with it, and its document has these keys.
 pub record IsRoleDocument (d : ReceiptedRole) : Type 0 where
+  pub gets : is_get d.get.0 ≡ true
   pub success : entry_fault d.get ≡ None
   pub reads : role_document d.get ≡ Ok (bare_role d)

@@ -1,9 +1,10 @@
 //! What is kept from one call to the next, lent to one call at a time.
-ghost use Rattle.std.specs.Prelude.{◌≡◌, ◌↔◌, [], IsTrue, is_some};
+ghost use Rattle.std.specs.Prelude.{◌≡◌, ◌↔◌, [], IsTrue, is_some, option_map};
 ghost use Rattle.std.specs.Option.{option_copied};
-ghost use Rattle.cfg_keeping.specs.Kinds.{no_states};
+ghost use Rattle.cfg_keeping.specs.Kinds.{no_states, place_states};
 ghost use Rattle.cfg_keeping.specs.KeyedStates.{is_sso_key};
 ghost use Rattle.cfg_keeping.specs.KeptStates.{states_of, kept_key};
+ghost use Rattle.cfg_keeping.specs.Retrieved.{keys_of_retrieved};
 
 use crate::found::Found;
 use crate::keeper::Keeper;
@@ -73,6 +74,16 @@ impl Kept {
         ensures there { is_some (option_copied result) ≡ is_sso_key (kept_key self.now) }
     {
         self.token.sso_state()
+    }
+
+    /// The credentials that were retrieved for the place, if any were. No holding.
+    pub fn retrieved_for(&self, place: Place) -> Option<&Retrieved>
+        ensures { option_map keys_of_retrieved (option_copied result) ≡ (place_states (states_of self.now) place).retrieved }
+    {
+        match place {
+            Place::Chain => self.chain.retrieved.as_ref(),
+            Place::Named => self.named.retrieved.as_ref(),
+        }
     }
 
     /// The values that were found are given up. What is kept stays.

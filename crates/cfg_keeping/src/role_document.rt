@@ -1,8 +1,8 @@
 //! The document of a role's credentials that the instance metadata service gives.
-ghost use Rattle.std.specs.Prelude.{◌≡◌, None as none, IfOk};
+ghost use Rattle.std.specs.Prelude.{◌≡◌, None as none, IfOk, true};
 ghost use Rattle.cfg_world.specs.Leaves.{moment_of};
 ghost use Rattle.cfg_exchange.specs.Documents.{is_memory as is_memory_of};
-ghost use Rattle.cfg_imds.specs.Fetches.{entry_fault};
+ghost use Rattle.cfg_imds.specs.Fetches.{is_get, entry_fault};
 ghost use Rattle.cfg_imds.specs.Tokens.{in_ok};
 ghost use Rattle.cfg_keeping.specs.RoleDocuments.{bare_role, refused_role as refused_role_of, said_role as said_role_of, get_document as get_document_of, role_document as role_document_of, IsRoleDocument};
 ghost use Rattle.cfg_keeping.specs.Retrieved.{is_due as is_due_of};
@@ -157,7 +157,8 @@ impl RoleDocument {
         alloc: Global,
         get: Receipt,
     ) -> Result<Result<RoleDocument, CredentialsError>, OutOfMemory>
-        requires { entry_fault get ≡ none }
+        requires gets { is_get get.0 ≡ true }
+        requires success { entry_fault get ≡ none }
         ensures { IfOk result (λ r. in_ok bare_role r ≡ role_document_of get) }
     {
         match read_role(alloc, &get)? {

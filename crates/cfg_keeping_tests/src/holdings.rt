@@ -166,6 +166,7 @@ fn holdings_by(alloc: Global, script: Script) -> Result<String, OutOfMemory>
         selected: _,
         region: _,
         sleep: _,
+        calls: _,
         devices,
     } = script;
     let env = Env::new(alloc, variables)?;

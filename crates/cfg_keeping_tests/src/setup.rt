@@ -1,6 +1,6 @@
 //! What a script gives, and credentials that are retrieved over it.
 ghost use Rattle.std.specs.Prelude.{◌≡◌, None as none, true};
-ghost use Rattle.cfg_imds.specs.Fetches.{entry_fault};
+ghost use Rattle.cfg_imds.specs.Fetches.{is_get, entry_fault};
 ghost use Rattle.cfg_script.specs.Devices.{lists_of};
 ghost use Rattle.cfg_script.specs.Script.{plain};
 ghost use Rattle.cfg_world.specs.Script.{AllFit};
@@ -21,6 +21,7 @@ fn world_by(alloc: Global, script: Script) -> Result<World<ScriptDevices>, OutOf
         selected: _,
         region: _,
         sleep: _,
+        calls: _,
         devices,
     } = script;
     let devices = ScriptDevices::new(alloc, devices)?;
@@ -56,7 +57,8 @@ fn read_get(
     get: Receipt,
     world: &mut World<ScriptDevices>,
 ) -> Result<Result<Retrieved, String>, OutOfMemory>
-    requires { entry_fault get ≡ none }
+    requires gets { is_get get.0 ≡ true }
+    requires success { entry_fault get ≡ none }
 {
     match RoleDocument::read(alloc, get)? {
         Ok(document) => Ok(Ok(read_at(document, alloc, world)?)),

@@ -19,7 +19,7 @@ use Rattle.cfg_exchange.specs.Readings.{is_success, fine_if, text_reading}
 use Rattle.cfg_exchange.specs.declared.reading.Reading.TheVariants.{Refused}
 use Rattle.cfg_exchange.specs.declared.reading.ReplyKind.TheVariants as kind
 use Rattle.cfg_imds.specs.Clients.{ClientRules, place_of, settle, fetch}
-use Rattle.cfg_imds.specs.Fetches.{text_fault, reply_fault, entry_fault, unless_fault as unless_faulty, fetched}
+use Rattle.cfg_imds.specs.Fetches.{is_get, text_fault, reply_fault, entry_fault, unless_fault as unless_faulty, fetched}
 use Rattle.cfg_imds.specs.Requests.{Service, token_request, get_request}
 use Rattle.cfg_imds.specs.SettledParts.{SettledBy}
 use Rattle.cfg_imds.specs.Settles.{Given, Settled, is_good}
@@ -31,7 +31,7 @@ use Rattle.cfg_keeping.specs.Kinds.{Value}
 use Rattle.cfg_keeping.specs.KeptInquiry.{Reads, lift, onwards_if_ok}
 use Rattle.cfg_keeping.specs.MetadataHoldings.{token_holding}
 use Rattle.cfg_keeping.proofs.Splits.{split_onwards, lowered}
-use Rattle.cfg_metadata.specs.Causes.{is_get, is_text, first_text}
+use Rattle.cfg_metadata.specs.Causes.{is_text, first_text}
 use Rattle.cfg_metadata.specs.Metadata.{get_fault, unless_fault, token_and_text, metadata_get}
 use Rattle.cfg_metadata.proofs.Given.{given_is}
 use Rattle.cfg_metadata.proofs.Gets.{token_settles}

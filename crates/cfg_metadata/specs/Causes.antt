@@ -6,13 +6,10 @@ use Rattle.cfg_types.specs.Keys.{Keys}
 use Rattle.cfg_types.specs.declared.errors.CredentialsError.{CredentialsError}
 use Rattle.cfg_types.specs.declared.errors.CredentialsError.TheVariants.{CredentialsNotLoaded}
 use Rattle.cfg_types.specs.declared.errors.NotLoadedCause.TheVariants.{MetadataDisabled}
-use Rattle.cfg_types.specs.declared.request.Request.TheVariants.{MetadataGet}
-use Rattle.cfg_world.specs.declared.ask.Question.{Question}
-use Rattle.cfg_world.specs.declared.ask.Question.TheVariants.{Send}
 use Rattle.cfg_world.specs.Fits.{Pair}
 use Rattle.cfg_imds.specs.Causes.{why_no_text}
 use Rattle.cfg_imds.specs.Clients.{ClientRules}
-use Rattle.cfg_imds.specs.Fetches.{entry_fault, entry_text}
+use Rattle.cfg_imds.specs.Fetches.{is_get, entry_fault, entry_text}
 use Rattle.cfg_keeping.specs.Kinds.{Value, keys_in}
 use Rattle.cfg_keeping.specs.RoleDocuments.{role_document}
 use Rattle.cfg_providers.specs.CustomSources.{Answer}
@@ -20,10 +17,6 @@ use Rattle.cfg_metadata.specs.Settings.{MetadataSetting}
 use Rattle.cfg_metadata.specs.Metadata.{listing_path, role_path, get_error, listing_error, or_found}
 
 -- ---- the texts that were got
-
-abbrev pub is_get : Question → Bool
-is_get (Send (MetadataGet call)) = true
-is_get _ = false
 
 -- a get with whose answer nothing is wrong
 abbrev pub is_text : Pair → Bool

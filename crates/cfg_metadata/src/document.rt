@@ -5,7 +5,7 @@ ghost use Rattle.cfg_world.specs.Follows.{Follows};
 ghost use Rattle.cfg_world.specs.Leaves.{moment_of};
 ghost use Rattle.cfg_exchange.specs.Attempts.{asked};
 ghost use Rattle.cfg_keeping.specs.Clients.{client_rules};
-ghost use Rattle.cfg_imds.specs.Fetches.{entry_fault};
+ghost use Rattle.cfg_imds.specs.Fetches.{is_get, entry_fault};
 ghost use Rattle.cfg_imds.specs.Tokens.{in_ok};
 ghost use Rattle.cfg_keeping.specs.Holds.{HoldsFollows};
 ghost use Rattle.cfg_keeping.specs.Retrieved.{is_due, keys_of_retrieved};
@@ -27,7 +27,8 @@ fn read_document(
     alloc: Global,
     got: Result<Receipt, ImdsError>,
 ) -> Result<Result<RoleDocument, CredentialsError>, OutOfMemory>
-    requires { IfOk got (λ e. entry_fault e ≡ none) }
+    requires gets { IfOk got (λ e. is_get e.0 ≡ true) }
+    requires success { IfOk got (λ e. entry_fault e ≡ none) }
     ensures { IfOk result (λ r. documented got ≡ in_ok bare_role r) }
 {
     match got {

@@ -1,9 +1,9 @@
 //! What stands at a path of the instance metadata service, with the session token that is kept.
-ghost use Rattle.std.specs.Prelude.{◌≡◌, IfOk, None as none};
+ghost use Rattle.std.specs.Prelude.{◌≡◌, IfOk, true, None as none};
 ghost use Rattle.cfg_imds.specs.Calls.{is_memory as is_memory_of};
 ghost use Rattle.cfg_imds.specs.Clients.{endpoint_fault};
 ghost use Rattle.cfg_keeping.specs.Clients.{client_rules};
-ghost use Rattle.cfg_imds.specs.Fetches.{entry_fault};
+ghost use Rattle.cfg_imds.specs.Fetches.{is_get, entry_fault};
 ghost use Rattle.cfg_keeping.specs.Holds.{HoldsFollows};
 ghost use Rattle.cfg_metadata.specs.Metadata.{get_fault as get_fault_of, token_and_text as token_and_text_of, metadata_get as metadata_get_of};
 
@@ -47,6 +47,7 @@ fn token_and_text<P: Keeper, A: Asking>(
 ) -> Result<Result<Receipt, ImdsError>, Stop>
     requires { endpoint_fault (client_rules repeated client.now).endpoint ≡ none }
     ensures follows { HoldsFollows ⟦<A as Asking>⟧ (token_and_text_of (client_rules repeated client.now) place path.now) asking.old (P.holdings keeper.old) asking.new (P.holdings keeper.new) result }
+    ensures get { IfOk result (λ r. IfOk r (λ e. is_get e.0 ≡ true)) }
     ensures fine { IfOk result (λ r. IfOk r (λ e. entry_fault e ≡ none)) }
     ensures key { P.key_held keeper.new ≡ P.key_held keeper.old }
 {
@@ -69,6 +70,7 @@ pub fn metadata_get<P: Keeper, A: Asking>(
     asking: &mut A,
 ) -> Result<Result<Receipt, ImdsError>, Stop>
     ensures follows { HoldsFollows ⟦<A as Asking>⟧ (metadata_get_of (client_rules repeated client.now) place path.now) asking.old (P.holdings keeper.old) asking.new (P.holdings keeper.new) result }
+    ensures get { IfOk result (λ r. IfOk r (λ e. is_get e.0 ≡ true)) }
     ensures fine { IfOk result (λ r. IfOk r (λ e. entry_fault e ≡ none)) }
     ensures key { P.key_held keeper.new ≡ P.key_held keeper.old }
 {

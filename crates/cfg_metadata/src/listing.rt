@@ -87,8 +87,10 @@ fn list_role<P: Keeper, A: Asking>(
 {
     let path = "/latest/meta-data/iam/security-credentials/";
     let got = metadata_get(alloc, client, place, path, keeper, asking)?;
-    let outcome = read_listing(alloc, got)?;
-    Ok(outcome)
+    match read_listing(alloc, got) {
+        Ok(outcome) => Ok(outcome),
+        Err(_) => Err(Stop::OutOfMemory),
+    }
 }
 
 /// The path of the role that is set, and else of the one that the service lists.

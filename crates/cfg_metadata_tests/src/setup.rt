@@ -33,6 +33,7 @@ fn set_up_by(alloc: Global, script: Script) -> Result<Setup, OutOfMemory>
         selected: _,
         region: _,
         sleep: _,
+        calls: _,
         devices: lists,
     } = script;
     let devices = devices(alloc, lists)?;

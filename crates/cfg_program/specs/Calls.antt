@@ -1,13 +1,15 @@
--- What a call of a script answers.
-use Rattle.std.specs.Prelude.{◌≡◌, ℕ, List, [], Bool, Option, None, map, option_map, is_ok, codes}
+-- What the calls of a script answer.
+use Rattle.std.specs.Prelude.{◌≡◌, ℕ, List, [], ◌∷◌, ◌++◌, length, Bool, false, Option, None, map, option_map, is_ok, codes}
+use Rattle.std.specs.List.{flat_map}
 use Rattle.cfg_values.specs.Text.{characters}
 use Rattle.cfg_values.specs.Entries.{each_set}
 use Rattle.cfg_types.specs.declared.environment.EnvText.{EnvText}
 use Rattle.cfg_world.specs.declared.script.DeviceLists.{DeviceLists}
 use Rattle.cfg_world.specs.Fits.{Pair}
+use Rattle.cfg_world.specs.Asked.{Same, StandsOn}
 use Rattle.cfg_world.specs.Held.{Held}
 use Rattle.cfg_world.specs.Script as devices
-use Rattle.cfg_world.specs.Script.{Given, start, no_faults}
+use Rattle.cfg_world.specs.Script.{Given, start}
 use Rattle.cfg_profile.specs.declared.sections.ProfileSource.{ProfileSource}
 use Rattle.cfg_profile.specs.declared.sections.ProfileSource.TheVariants as source
 use Rattle.cfg_profile.specs.SectionParts.{SectionParts}
@@ -15,6 +17,7 @@ use Rattle.cfg_profile.specs.SectionSets.{sections_by_name}
 use Rattle.cfg_profile.specs.Configuration.{Configuration}
 use Rattle.cfg_keeping.specs.Kinds.{Value, States, no_states}
 use Rattle.cfg_providers.specs.CustomSources.{Answer, NamedAnswer}
+use Rattle.cfg_chain.specs.Settings.{lends}
 use Rattle.cfg_chain.specs.Provides.{IsCall}
 use Rattle.cfg_script.specs.Script.{Plain, PlainProfiles, Sections, RefusedSections, Section}
 use Rattle.cfg_script.specs.Devices.{lists_of}
@@ -63,19 +66,63 @@ pub record IsFresh (w : Held devices.Script) : Type 0 where
   pub journal : w.journal ≡ []
   pub place : w.devices.place ≡ start
 
--- There is a call of the default chain over this configuration and these sources of the caller's own,
--- which finds nothing kept, and to which the answers are those that the lists give; it has this outcome
--- and this line, in this form.
-pub record AnswersOver (conf : Configuration) (sources : List NamedAnswer) (lists : DeviceLists) (form : LineForm) (is_credentials : Bool) (line : List ℕ) : Type 0 where
-  pub kept : States
+-- A call that was made: the kept values that it found, its questions with their answers, what it came to,
+-- and what it left kept.
+pub record Made : Type 0 where
   pub found : List Value
   pub journal : List Pair
   pub out : Answer
-  pub call : IsCall conf sources no_states kept found journal out
-  pub agrees : Given lists start journal
-  pub credentials : is_credentials ≡ is_ok out
-  pub shows : line ≡ shown_as form out journal
+  pub kept : States
 
--- the call of a script, with these sources of the caller's own
+-- This call of the default chain was made over this configuration and these sources of the caller's own,
+-- on what was kept before it.
+abbrev pub IsMade : Configuration → List NamedAnswer → States → Made → Type 0
+IsMade conf sources before call = IsCall conf (lends sources None) before call.kept call.found call.journal call.out
+
+-- These calls were made one after another: the first one over what was kept before, each later one over
+-- what the call before it left, and this is kept behind the last.
+abbrev pub InTurn : Configuration → List NamedAnswer → States → List Made → States → Type 0
+InTurn conf sources before [] after = after ≡ before
+InTurn conf sources before (call ∷ later) after = IsMade conf sources before call × InTurn conf sources call.kept later after
+
+-- the questions of all calls with their answers, in order
+abbrev pub asked_by : List Made → List Pair
+asked_by calls = flat_map (λ call. call.journal) calls
+
+-- the lines of all calls in this form, in order
+abbrev pub lines_of : LineForm → List Made → List ℕ
+lines_of form calls = flat_map (λ call. shown_as form call.out call.journal) calls
+
+-- whether the last call gave credentials
+abbrev pub last_is_ok : List Made → Bool
+last_is_ok [] = false
+last_is_ok (call ∷ []) = is_ok call.out
+last_is_ok (call ∷ next ∷ later) = last_is_ok (next ∷ later)
+
+-- There are so many calls of the default chain over this configuration and these sources of the caller's
+-- own, one after another, and nothing is kept before the first. The answers to all of them, taken together,
+-- are those that the lists give. The last one has this outcome, and the calls have these lines, in this
+-- form.
+pub record AnswersOver (conf : Configuration) (sources : List NamedAnswer) (lists : DeviceLists) (count : ℕ) (form : LineForm) (is_credentials : Bool) (lines : List ℕ) : Type 0 where
+  pub calls : List Made
+  pub kept : States
+  pub counted : length calls ≡ count
+  pub made : InTurn conf sources no_states calls kept
+  pub agrees : Given lists start (asked_by calls)
+  pub credentials : is_credentials ≡ last_is_ok calls
+  pub shows : lines ≡ lines_of form calls
+
+-- One call more was made over these devices, on what was kept before it. Its journal is its own alone; its
+-- line stands behind the lines before it.
+pub record MakesCall (conf : Configuration) (sources : List NamedAnswer) (form : LineForm) (old new : States) (before later : devices.Script) (is_credentials : Bool) (lines lines_after : List ℕ) : Type 0 where
+  pub call : Made
+  pub made : IsMade conf sources old call
+  pub left : call.kept ≡ new
+  pub same : Same (devices.Allows before) (devices.Allows later)
+  pub stands : StandsOn (devices.Stands before) (devices.Stands later) call.journal
+  pub credentials : is_credentials ≡ is_ok call.out
+  pub shows : lines_after ≡ lines ++ shown_as form call.out call.journal
+
+-- the calls of a script, with these sources of the caller's own
 abbrev pub Answers : List NamedAnswer → Plain → Bool → List ℕ → Type 0
-Answers sources p is_credentials line = AnswersOver (configuration_of p) sources (lists_of p) Call is_credentials line
+Answers sources p is_credentials lines = AnswersOver (configuration_of p) sources (lists_of p) p.calls Call is_credentials lines

@@ -1,8 +1,7 @@
 -- Which statuses tell of the words and of the input, and what in the input causes a refusal.
-use Rattle.std.specs.Prelude.{◌≡◌, ℕ, ◌<◌, List, length, Bool, true, false, Err, IsSome, IfSome}
+use Rattle.std.specs.Prelude.{◌≡◌, ℕ, ◌<◌, List, length, Bool, true, false, None, IsSome, IfSome}
 use Rattle.std.specs.Io.KnownBytes.{Appends}
 use Rattle.cfg_providers.specs.CustomSources.{NamedAnswer}
-use Rattle.cfg_script.specs.Script.{NoScript}
 use Rattle.cfg_script.specs.Reading.{script_of}
 use Rattle.cfg_program.specs.declared.status.Status.{Status}
 use Rattle.cfg_program.specs.declared.status.Status.TheVariants as status
@@ -26,7 +25,7 @@ AppendTheSame one other = (bytes : List ℕ) × Appends one.written one.written_
 
 -- the bytes of the input call for this refusal, where the caller has these sources of its own
 abbrev pub CallsFor : Seen → List NamedAnswer → Status → Type 0
-CallsFor seen sources status.NoScript = (bytes : List ℕ) × IsInput seen bytes × (script_of bytes ≡ Err NoScript)
+CallsFor seen sources status.NoScript = (bytes : List ℕ) × IsInput seen bytes × (script_of bytes ≡ None)
 CallsFor seen sources status.TooLong = IfSome seen.left (λ b. LIMIT < length b)
 CallsFor seen sources status.NotBuilt = (bytes : List ℕ) × IsInput seen bytes × NeedsMore sources bytes
 CallsFor seen sources _ = ⊥

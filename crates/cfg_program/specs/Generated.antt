@@ -13,7 +13,7 @@ use Rattle.cfg_program.specs.declared.lines.LineForm.TheVariants.{Generated}
 use Rattle.cfg_program.specs.declared.status.Status.{Status}
 use Rattle.cfg_program.specs.declared.status.Status.TheVariants as status
 use Rattle.cfg_program.specs.Calls.{configured_by, AnswersOver}
-use Rattle.cfg_program.specs.Written.{LineWritten}
+use Rattle.cfg_program.specs.Written.{LinesWritten}
 
 -- the configuration of the set of n profiles, of which `p1` is selected
 abbrev pub generated_configuration : ℕ → Configuration
@@ -58,14 +58,14 @@ generated_lists n = record {
 
 -- the call over the set of n profiles, with no sources of the caller's own
 abbrev pub GeneratedAnswers : ℕ → Bool → List ℕ → Type 0
-GeneratedAnswers n is_credentials line = AnswersOver (generated_configuration n) [] (generated_lists n) (Generated n) is_credentials line
+GeneratedAnswers n is_credentials line = AnswersOver (generated_configuration n) [] (generated_lists n) 1 (Generated n) is_credentials line
 
 -- the line of that call was written, or a prefix of it, by the status that says how it ended
 pub record GeneratedLineWritten (before after : Option (List ℕ)) (faults faults_after n : ℕ) (ended : Status) : Type 0 where
   pub is_credentials : Bool
   pub line : List ℕ
   pub answers : GeneratedAnswers n is_credentials line
-  pub written : LineWritten before after faults faults_after is_credentials line ended
+  pub written : LinesWritten before after faults faults_after is_credentials line ended
 
 -- that line, or nothing where memory ran out before it
 abbrev pub GeneratedWritten : Option (List ℕ) → Option (List ℕ) → ℕ → ℕ → ℕ → Status → Type 0

@@ -1,9 +1,9 @@
 -- How a run ends: by its status, what was read, what was written, and why.
-use Rattle.std.specs.Prelude.{◌≡◌, ℕ, ◌≤◌, List, [], length, Bool, true, false, Option, Some, None, IfSome, Ok, Err, ◌⊎◌}
+use Rattle.std.specs.Prelude.{◌≡◌, ℕ, ◌≤◌, List, [], length, Bool, true, false, Option, Some, None, IfSome, ◌⊎◌}
 use Rattle.std.specs.Io.KnownBytes.{Appends}
 use Rattle.cfg_world.specs.Faults.{Rose}
 use Rattle.cfg_providers.specs.CustomSources.{NamedAnswer}
-use Rattle.cfg_script.specs.Script.{Plain, NoScript, NotBuilt}
+use Rattle.cfg_script.specs.Script.{Plain}
 use Rattle.cfg_script.specs.Reading.{script_of}
 use Rattle.cfg_program.specs.declared.status.Status.{Status}
 use Rattle.cfg_program.specs.declared.status.Status.TheVariants as status
@@ -48,12 +48,12 @@ pub record WasRead (seen : Seen) (bytes : List ℕ) : Type 0 where
 pub record IsScript (seen : Seen) (sources : List NamedAnswer) (p : Plain) : Type 0 where
   pub bytes : List ℕ
   pub read : WasRead seen bytes
-  pub script : script_of bytes ≡ Ok p
+  pub script : script_of bytes ≡ Some p
   pub built : plan_is_built sources p ≡ true
 
--- the bytes have a name that is not built, or they are a script whose plan is not built
+-- the bytes are a script whose plan is not built
 abbrev pub NeedsMore : List NamedAnswer → List ℕ → Type 0
-NeedsMore sources bytes = (script_of bytes ≡ Err NotBuilt) ⊎ ((p : Plain) × (script_of bytes ≡ Ok p) × (plan_is_built sources p ≡ false))
+NeedsMore sources bytes = (p : Plain) × (script_of bytes ≡ Some p) × (plan_is_built sources p ≡ false)
 
 -- the input was read, and needs what is not built
 pub record IsNotBuilt (seen : Seen) (sources : List NamedAnswer) : Type 0 where
@@ -61,22 +61,22 @@ pub record IsNotBuilt (seen : Seen) (sources : List NamedAnswer) : Type 0 where
   pub read : WasRead seen bytes
   pub cause : NeedsMore sources bytes
 
--- the line of the script's own call was written
-pub record WritesLine (seen : Seen) (sources : List NamedAnswer) (is_credentials : Bool) : Type 0 where
+-- the lines of the script's own calls were written
+pub record WritesLines (seen : Seen) (sources : List NamedAnswer) (is_credentials : Bool) : Type 0 where
   pub p : Plain
   pub input : IsScript seen sources p
-  pub line : List ℕ
-  pub answers : Answers sources p is_credentials line
-  pub written : Appends seen.written seen.written_after line
+  pub lines : List ℕ
+  pub answers : Answers sources p is_credentials lines
+  pub written : Appends seen.written seen.written_after lines
 
--- a prefix of that line was written
+-- a prefix of those lines was written
 pub record WritesPrefix (seen : Seen) (sources : List NamedAnswer) : Type 0 where
   pub p : Plain
   pub input : IsScript seen sources p
   pub is_credentials : Bool
-  pub line : List ℕ
-  pub answers : Answers sources p is_credentials line
-  pub written : GrowsByPrefix seen.written seen.written_after line
+  pub lines : List ℕ
+  pub answers : Answers sources p is_credentials lines
+  pub written : GrowsByPrefix seen.written seen.written_after lines
 
 -- how telling a text ends
 abbrev pub EndsTelling : Seen → List ℕ → Status → Type 0
@@ -84,10 +84,10 @@ EndsTelling seen text ended = TextWritten seen.written seen.written_after seen.s
 
 -- how resolving a script ends, with these sources of the caller's own
 abbrev pub EndsResolving : Seen → List NamedAnswer → Status → Type 0
-EndsResolving seen sources status.Done = WritesLine seen sources true
-EndsResolving seen sources status.Refused = WritesLine seen sources false
+EndsResolving seen sources status.Done = WritesLines seen sources true
+EndsResolving seen sources status.Refused = WritesLines seen sources false
 EndsResolving seen sources status.Words = ⊥
-EndsResolving seen sources status.NoScript = ((bytes : List ℕ) × WasRead seen bytes × (script_of bytes ≡ Err NoScript)) × WritesNothing seen
+EndsResolving seen sources status.NoScript = ((bytes : List ℕ) × WasRead seen bytes × (script_of bytes ≡ None)) × WritesNothing seen
 EndsResolving seen sources status.SourceFault = Rose seen.source_faults seen.source_faults_after × WritesNothing seen
 EndsResolving seen sources status.SinkFault = Rose seen.sink_faults seen.sink_faults_after × WritesPrefix seen sources
 EndsResolving seen sources status.OutOfMemory = WritesNothing seen ⊎ WritesPrefix seen sources

@@ -13,10 +13,10 @@ TextWritten before after faults faults_after text status.SinkFault = Rose faults
 TextWritten before after faults faults_after text status.OutOfMemory = GrowsByPrefix before after text
 TextWritten before after faults faults_after text _ = ⊥
 
--- the line of a call, with the status of what the call answered
-abbrev pub LineWritten : Option (List ℕ) → Option (List ℕ) → ℕ → ℕ → Bool → List ℕ → Status → Type 0
-LineWritten before after faults faults_after is_credentials line status.Done = (is_credentials ≡ true) × Appends before after line
-LineWritten before after faults faults_after is_credentials line status.Refused = (is_credentials ≡ false) × Appends before after line
-LineWritten before after faults faults_after is_credentials line status.SinkFault = Rose faults faults_after × GrowsByPrefix before after line
-LineWritten before after faults faults_after is_credentials line status.OutOfMemory = GrowsByPrefix before after line
-LineWritten before after faults faults_after is_credentials line _ = ⊥
+-- the lines of calls, with the status of what the last one answered
+abbrev pub LinesWritten : Option (List ℕ) → Option (List ℕ) → ℕ → ℕ → Bool → List ℕ → Status → Type 0
+LinesWritten before after faults faults_after is_credentials lines status.Done = (is_credentials ≡ true) × Appends before after lines
+LinesWritten before after faults faults_after is_credentials lines status.Refused = (is_credentials ≡ false) × Appends before after lines
+LinesWritten before after faults faults_after is_credentials lines status.SinkFault = Rose faults faults_after × GrowsByPrefix before after lines
+LinesWritten before after faults faults_after is_credentials lines status.OutOfMemory = GrowsByPrefix before after lines
+LinesWritten before after faults faults_after is_credentials lines _ = ⊥

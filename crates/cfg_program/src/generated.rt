@@ -16,7 +16,7 @@ use std::alloc::Global;
 /// devices that grant one exchange for each role. There are no sources of the caller's own.
 pub fn generate(alloc: Global, n: u64) -> Result<Answered, OutOfMemory>
     requires { n ≤ MOST_PROFILES }
-    ensures { IfOk result (λ a. GeneratedAnswers n a.is_ok a.line.items) }
+    ensures { IfOk result (λ a. GeneratedAnswers n a.is_ok a.lines.items) }
 {
     let set = generated_set(alloc, n)?;
     let selected = String::from_str(alloc, "p1")?;
@@ -28,7 +28,7 @@ pub fn generate(alloc: Global, n: u64) -> Result<Answered, OutOfMemory>
         true,
     )?;
     let lists = lists(alloc, n)?;
-    answer_over(alloc, config, &[], None, lists, LineForm::Generated(n))
+    answer_over(alloc, config, &[], None, lists, 1, LineForm::Generated(n))
 }
 
 // Devices that grant one exchange for each role of the set of n profiles.

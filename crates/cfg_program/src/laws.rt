@@ -13,17 +13,17 @@ ghost use Rattle.cfg_program.specs.Generated.{GeneratedAnswers};
 ghost use Rattle.cfg_program.specs.Run.{Seen, EndsRun};
 ghost use Rattle.cfg_program.specs.Exclusion.{BytesAreKnown, AppendTheSame, CallsFor, depends_on_input};
 
-/// A call over one configuration, the same sources of the caller's own and one script of devices has one
-/// line of a form, and one status.
-pub fn one_call_has_one_line()
-    ensures { (conf : Configuration) (sources : List NamedAnswer) (lists : Lists) (form : Form) (is_credentials is_other : Bool) (line other : List ℕ) →
-        AnswersOver conf sources lists form is_credentials line → AnswersOver conf sources lists form is_other other → (is_credentials ≡ is_other) × (line ≡ other) }
+/// So many calls over one configuration, the same sources of the caller's own and one script of devices
+/// have one list of lines in a form, and one status.
+pub fn calls_have_one_list_of_lines()
+    ensures { (conf : Configuration) (sources : List NamedAnswer) (lists : Lists) (count : ℕ) (form : Form) (is_credentials is_other : Bool) (lines other : List ℕ) →
+        AnswersOver conf sources lists count form is_credentials lines → AnswersOver conf sources lists count form is_other other → (is_credentials ≡ is_other) × (lines ≡ other) }
 {}
 
-/// A script has one line, and one status, where the caller's own sources are the same.
-pub fn one_script_has_one_line()
-    ensures { (sources : List NamedAnswer) (script : Plain) (is_credentials is_other : Bool) (line other : List ℕ) →
-        Answers sources script is_credentials line → Answers sources script is_other other → (is_credentials ≡ is_other) × (line ≡ other) }
+/// A script has one list of lines, and one status, where the caller's own sources are the same.
+pub fn one_script_has_one_list_of_lines()
+    ensures { (sources : List NamedAnswer) (script : Plain) (is_credentials is_other : Bool) (lines other : List ℕ) →
+        Answers sources script is_credentials lines → Answers sources script is_other other → (is_credentials ≡ is_other) × (lines ≡ other) }
 {}
 
 /// A number has one line, and one status.

@@ -1,4 +1,4 @@
-ghost use Rattle.std.specs.Prelude.{◌≡◌, ◌<◌, ◌++◌, OnOk, IfOk};
+ghost use Rattle.std.specs.Prelude.{◌≡◌, ◌<◌, ◌++◌, OnOk};
 ghost use Rattle.std.specs.List.{flat_map};
 ghost use Rattle.std.specs.Fmt.{decimal, signed_decimal};
 ghost use Rattle.cfg_program.specs.Lines.{shown_text, three_digits as three_digits_of, nine_digits as nine_digits_of, shown_expiry, name_of_question, name_of_request, kind as kind_of, later_kind, kinds as kinds_of, shown_credentials, shown_outcome, shown, is_assume_role as is_assume_role_of, exchanges as exchanges_of, shown_generated, shown_as};
@@ -6,7 +6,7 @@ ghost use Rattle.cfg_program.specs.Lines.{shown_text, three_digits as three_digi
 use cfg_types::{Credentials, CredentialsError, Instant, Request};
 use cfg_world::{Answer, Entry, Question};
 use percent_encoding::{AsciiSet, CONTROLS, ascii_set, percent_encode};
-use std::alloc::{AllocError, Global};
+use std::alloc::AllocError;
 use std::string::ToString;
 
 /// The bytes of a text that a line escapes: these, and those from 128.
@@ -21,61 +21,59 @@ pub enum LineForm {
     Generated(u64),
 }
 
-/// The line of a call's outcome and of the questions that it asked, in this form. An error has one
+/// Writes the line of a call's outcome and of the questions that it asked, in this form. An error has one
 /// form alone.
-pub fn line_of(
-    alloc: Global,
+pub fn write_call(
+    line: &mut Vec<u8>,
     form: LineForm,
     outcome: &Result<Credentials, CredentialsError>,
     journal: &[Entry],
-) -> Result<Vec<u8>, AllocError>
-    ensures { IfOk result (λ line. line.items ≡ shown_as form outcome.now journal.now) }
+) -> Result<(), AllocError>
+    ensures { OnOk result (line.new.items ≡ line.old.items ++ shown_as form outcome.now journal.now) }
 {
     match form {
-        LineForm::Call => call_line(alloc, outcome, journal),
+        LineForm::Call => write_asked(line, outcome, journal),
         LineForm::Generated(n) => match outcome {
-            Ok(credentials) => generated_line(alloc, n, credentials, journal),
-            Err(_) => call_line(alloc, outcome, journal),
+            Ok(credentials) => write_generated(line, n, credentials, journal),
+            Err(_) => write_asked(line, outcome, journal),
         },
     }
 }
 
 // The kind of outcome, what it tells, and the kinds of the questions, each with `!` where it failed.
 #[tactic(auto, using(std::proofs::lemmas::Grind::common_steps), unfolding(crate::specs::Lines::shown))]
-fn call_line(
-    alloc: Global,
+fn write_asked(
+    line: &mut Vec<u8>,
     outcome: &Result<Credentials, CredentialsError>,
     journal: &[Entry],
-) -> Result<Vec<u8>, AllocError>
-    ensures { IfOk result (λ line. line.items ≡ shown outcome.now journal.now) }
+) -> Result<(), AllocError>
+    ensures { OnOk result (line.new.items ≡ line.old.items ++ shown outcome.now journal.now) }
 {
-    let mut line = Vec::new(alloc);
-    write_outcome(&mut line, outcome)?;
+    write_outcome(line, outcome)?;
     line.push(b' ')?;
-    write_kinds(&mut line, journal)?;
+    write_kinds(line, journal)?;
     line.push(b'\n')?;
-    Ok(line)
+    Ok(())
 }
 
 // `generate`, the number, how many exchanges for roles there were, and the id of the last key.
 #[tactic(auto, using(std::proofs::lemmas::Grind::common_steps))]
-fn generated_line(
-    alloc: Global,
+fn write_generated(
+    line: &mut Vec<u8>,
     n: u64,
     credentials: &Credentials,
     journal: &[Entry],
-) -> Result<Vec<u8>, AllocError>
-    ensures { IfOk result (λ line. line.items ≡ shown_generated n credentials.now journal.now) }
+) -> Result<(), AllocError>
+    ensures { OnOk result (line.new.items ≡ line.old.items ++ shown_generated n credentials.now journal.now) }
 {
-    let mut line = Vec::new(alloc);
-    write_word(&mut line, b"generate ")?;
-    write_number(&mut line, n)?;
+    write_word(line, b"generate ")?;
+    write_number(line, n)?;
     line.push(b' ')?;
-    write_number(&mut line, exchanges(journal))?;
+    write_number(line, exchanges(journal))?;
     line.push(b' ')?;
-    write_text(&mut line, credentials.access_key_id())?;
+    write_text(line, credentials.access_key_id())?;
     line.push(b'\n')?;
-    Ok(line)
+    Ok(())
 }
 
 // How many exchanges for roles a journal has.

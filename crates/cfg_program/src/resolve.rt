@@ -1,36 +1,37 @@
-ghost use Rattle.std.specs.Prelude.{◌≡◌, true, false, is_ok, IfOk, Err, map, option_map, string_bytes};
+ghost use Rattle.std.specs.Prelude.{◌≡◌, ◌++◌, true, false, is_ok, IfOk, Err, map, option_map, string_bytes};
 ghost use Rattle.cfg_program.specs.Lines.{shown_as};
 ghost use Rattle.cfg_values.specs.Text.{characters};
 ghost use Rattle.cfg_values.specs.TextMap.{named};
 ghost use Rattle.cfg_values.specs.Entries.{each_set};
 ghost use Rattle.cfg_world.specs.Script.{AllFit};
 ghost use Rattle.cfg_providers.specs.Provides.{is_memory};
+ghost use Rattle.cfg_keeping.specs.KeptStates.{states_of, kept_key};
 ghost use Rattle.cfg_chain.specs.Settings.{names_of};
 ghost use Rattle.cfg_chain.specs.Sources.{named_sources};
 ghost use Rattle.cfg_script.specs.Script.{plain, plain_profiles, section_bytes};
 ghost use Rattle.cfg_script.specs.Devices.{lists_of};
-ghost use Rattle.cfg_chain.specs.profile.Plans.{is_built as is_built_of};
-ghost use Rattle.cfg_program.specs.Calls.{section_parts, source_of, configured_by, IsFresh, AnswersOver, Answers};
+ghost use Rattle.cfg_chain.specs.profile.Plans.{is_built as is_built_of, key_of};
+ghost use Rattle.cfg_program.specs.Calls.{section_parts, source_of, configured_by, IsFresh, MakesCall, AnswersOver, Answers};
 ghost use Rattle.cfg_program.specs.Plans.{plan_is_built};
 
-use crate::lines::{LineForm, line_of};
+use crate::lines::{LineForm, write_call};
 use cfg_chain::{
-    CustomSource, DefaultCredentialsChain, ProfileSet, ProfileSource, ProviderConfig, RegionSource,
-    Section, is_built,
+    CustomSource, DefaultCredentialsChain, Kept, ProfileSet, ProfileSource, ProviderConfig,
+    RegionSource, Section, is_built,
 };
 use cfg_script::{Script, ScriptProfiles};
 use cfg_types::{Credentials, CredentialsError, Env, EnvText, OutOfMemory, Region};
 use cfg_world::{DeviceLists, Entry, ScriptDevices, World};
 use std::alloc::Global;
 
-/// What a call answered, and its line.
+/// What calls answered: whether the last one gave credentials, and their lines.
 #[derive(Drop)]
 pub struct Answered {
     pub is_ok: bool,
-    pub line: Vec<u8>,
+    pub lines: Vec<u8>,
 }
 
-/// Why a script has no call.
+/// Why a script has no calls.
 #[derive(Clone, Copy, Debug, PartialEq, Eq)]
 pub enum Unresolved {
     /// Its plan is not built.
@@ -49,7 +50,7 @@ impl From<OutOfMemory> for Unresolved {
     }
 }
 
-/// Makes the call that the script describes: over the chain with the script's configuration and the
+/// Makes the calls that the script describes: over the chain with the script's configuration and the
 /// caller's own sources, and over the devices with the script's answers.
 pub fn resolve(
     alloc: Global,
@@ -58,7 +59,7 @@ pub fn resolve(
 ) -> Result<Answered, Unresolved>
     requires { AllFit (lists_of (plain script)) }
     ensures built { IfOk result (λ a. plan_is_built (named_sources value custom.now) (plain script) ≡ true) }
-    ensures answers { IfOk result (λ a. Answers (named_sources value custom.now) (plain script) a.is_ok a.line.items) }
+    ensures answers { IfOk result (λ a. Answers (named_sources value custom.now) (plain script) a.is_ok a.lines.items) }
     ensures not_built { result ≡ Err Unresolved.NotBuilt → plan_is_built (named_sources value custom.now) (plain script) ≡ false }
 {
     let Script {
@@ -67,48 +68,57 @@ pub fn resolve(
         selected,
         region,
         sleep,
+        calls,
         devices,
     } = script;
     let config = configuration(alloc, custom, variables, profiles, selected, sleep)?;
-    match answer_over(alloc, config, custom, region, devices, LineForm::Call) {
-        Ok(answered) => Ok(answered),
-        Err(OutOfMemory) => Err(Unresolved::OutOfMemory),
-    }
+    let answered = answer_over(
+        alloc,
+        config,
+        custom,
+        region,
+        devices,
+        calls,
+        LineForm::Call,
+    )?;
+    Ok(answered)
 }
 
-/// The call with this configuration, these sources of the caller's own and this region, over devices
-/// that answer from these lists, and its line in this form. Nothing is kept before it.
+/// So many calls with this configuration, these sources of the caller's own and this region, over devices
+/// that answer from these lists, and their lines in this form. Nothing is kept before the first.
 pub fn answer_over(
     alloc: Global,
     config: ProviderConfig,
     custom: &[CustomSource],
     region: Option<String>,
     lists: DeviceLists,
+    count: u64,
     form: LineForm,
 ) -> Result<Answered, OutOfMemory>
     requires { AllFit lists }
-    ensures { IfOk result (λ a. AnswersOver (record config { region = option_map characters (option_map (λ t. string_bytes t) region) }) (named_sources value custom.now) lists form a.is_ok a.line.items) }
+    ensures { IfOk result (λ a. AnswersOver (record config { region = option_map characters (option_map (λ t. string_bytes t) region) }) (named_sources value custom.now) lists count form a.is_ok a.lines.items) }
 {
     let region = region_named(alloc, region)?;
     let devices = ScriptDevices::new(alloc, lists)?;
     let mut world = World::new(alloc, devices);
-    answer(alloc, config, custom, region, form, &mut world)
+    answer(alloc, config, custom, region, count, form, &mut world)
 }
 
-// The call with this configuration, these sources and this region, over this world.
+// So many calls with this configuration, these sources and this region, over this world.
 fn answer(
     alloc: Global,
     config: ProviderConfig,
     custom: &[CustomSource],
     region: Option<Region>,
+    count: u64,
     form: LineForm,
     world: &mut World<ScriptDevices>,
 ) -> Result<Answered, OutOfMemory>
     requires { IsFresh world.old }
-    ensures { IfOk result (λ a. AnswersOver (record config { region = region }) (named_sources value custom.now) world.old.devices.lists form a.is_ok a.line.items) }
+    ensures { IfOk result (λ a. AnswersOver (record config { region = region }) (named_sources value custom.now) world.old.devices.lists count form a.is_ok a.lines.items) }
 {
     let chain = chain_of(alloc, config, region, world)?;
-    call(alloc, &chain, custom, form, world)
+    calls(alloc, &chain, custom, count, form, world)
 }
 
 // What the script configures, where its plan is built.
@@ -206,22 +216,47 @@ fn chain_of(
     builder.build(world)
 }
 
-// One call of the chain, and its line.
-fn call(
+// So many calls of the chain, one after another, and their lines.
+fn calls(
     alloc: Global,
     chain: &DefaultCredentialsChain,
     custom: &[CustomSource],
+    count: u64,
     form: LineForm,
     world: &mut World<ScriptDevices>,
 ) -> Result<Answered, OutOfMemory>
     requires { IsFresh world.old }
-    ensures { IfOk result (λ a. AnswersOver chain.now (named_sources value custom.now) world.old.devices.lists form a.is_ok a.line.items) }
+    ensures { IfOk result (λ a. AnswersOver chain.now (named_sources value custom.now) world.old.devices.lists count form a.is_ok a.lines.items) }
 {
     let mut kept = chain.new_kept()?;
+    let mut lines = Vec::new(alloc);
+    let mut is_ok = false;
+    for _ in 0..count {
+        is_ok = call(chain, custom, form, &mut kept, world, &mut lines)?;
+    }
+    Ok(Answered { is_ok, lines })
+}
+
+// One call more, and its line behind the others: whether it gave credentials. The journal of the call
+// before it is gone.
+fn call(
+    chain: &DefaultCredentialsChain,
+    custom: &[CustomSource],
+    form: LineForm,
+    kept: &mut Kept,
+    world: &mut World<ScriptDevices>,
+    lines: &mut Vec<u8>,
+) -> Result<bool, OutOfMemory>
+    requires { kept_key kept.old ≡ key_of chain.now }
+    ensures call { IfOk result (λ is_ok. MakesCall chain.now (named_sources value custom.now) form (states_of kept.old) (states_of kept.new) world.old.devices world.new.devices is_ok lines.old.items lines.new.items) }
+    ensures key { kept_key kept.new ≡ kept_key kept.old }
+{
+    world.clear_journal();
     let outcome = Outcome {
-        answer: chain.provide_credentials(custom, &mut kept, world),
+        answer: chain.provide_credentials(custom, None, kept, world),
     };
-    told(alloc, form, &outcome.answer, world.journal())
+    let is_ok = tell(lines, form, &outcome.answer, world.journal())?;
+    Ok(is_ok)
 }
 
 // What a call answered. A caller that lets it go drops it by one call.
@@ -235,23 +270,22 @@ impl Drop for Outcome {
     }
 }
 
-// What a call came to, and its line.
-fn told(
-    alloc: Global,
+// Writes the line of a call behind the others, and tells whether it gave credentials.
+fn tell(
+    lines: &mut Vec<u8>,
     form: LineForm,
     outcome: &Result<Credentials, CredentialsError>,
     journal: &[Entry],
-) -> Result<Answered, OutOfMemory>
-    ensures memory { IfOk result (λ a. is_memory outcome.now ≡ false) }
-    ensures credentials { IfOk result (λ a. a.is_ok ≡ is_ok outcome.now) }
-    ensures line { IfOk result (λ a. a.line.items ≡ shown_as form outcome.now journal.now) }
+) -> Result<bool, OutOfMemory>
+    ensures memory { IfOk result (λ b. is_memory outcome.now ≡ false) }
+    ensures credentials { IfOk result (λ b. b ≡ is_ok outcome.now) }
+    ensures line { IfOk result (λ b. lines.new.items ≡ lines.old.items ++ shown_as form outcome.now journal.now) }
 {
     if is_out_of_memory(outcome) {
         return Err(OutOfMemory);
     }
-    let line = line_of(alloc, form, outcome, journal)?;
-    let is_ok = outcome.is_ok();
-    Ok(Answered { is_ok, line })
+    write_call(lines, form, outcome, journal)?;
+    Ok(outcome.is_ok())
 }
 
 fn is_out_of_memory(outcome: &Result<Credentials, CredentialsError>) -> bool

@@ -2,7 +2,7 @@ ghost use Rattle.std.specs.Prelude.{◌≡◌, ◌≢◌, ◌≤◌, Some, None,
 ghost use Rattle.cfg_chain.specs.Sources.{named_sources};
 ghost use Rattle.cfg_script.specs.Reading.{script_of};
 ghost use Rattle.cfg_program.specs.Words.{word_named};
-ghost use Rattle.cfg_program.specs.Written.{TextWritten, LineWritten};
+ghost use Rattle.cfg_program.specs.Written.{TextWritten, LinesWritten};
 ghost use Rattle.cfg_program.specs.Run.{EndsRun, EndsResolving};
 ghost use Rattle.cfg_program.specs.Generated.{GeneratedWritten};
 ghost use Rattle.cfg_program.specs.declared.words.TheConstants.{MOST_PROFILES};
@@ -19,8 +19,8 @@ use cfg_types::{EnvText, OutOfMemory};
 use cfg_world::{Devices, Sink, Source, StreamFault, World};
 use std::alloc::Global;
 
-/// Does what the words ask for: tells a text, or reads a script from the source and writes the line
-/// of its call to the sink, or writes the line of the call over a set of profiles that comes from a
+/// Does what the words ask for: tells a text, or reads a script from the source and writes the lines
+/// of its calls to the sink, or writes the line of the call over a set of profiles that comes from a
 /// number. The words are tested first: without `resolve` the source stays as it was, and for an
 /// unknown command the sink too. Nothing is written before the script was read to its end. A script's
 /// profiles find the sources in `custom` by `credential_source`; other words leave them aside. `_env` and
@@ -68,7 +68,7 @@ fn tell<K: Sink>(sink: &mut K, text: &str) -> Status
     }
 }
 
-// Reads a script, makes its call, and writes the line.
+// Reads a script, makes its calls, and writes their lines.
 fn resolve_script<S: Source, K: Sink>(
     alloc: Global,
     source: &mut S,
@@ -95,7 +95,6 @@ fn resolve_script<S: Source, K: Sink>(
     let script = match read_script(alloc, bytes.as_slice()) {
         Ok(script) => script,
         Err(ScriptError::NoScript) => return Status::NoScript,
-        Err(ScriptError::NotBuilt) => return Status::NotBuilt,
         Err(ScriptError::OutOfMemory) => return Status::OutOfMemory,
     };
     let answered = match resolve(alloc, script, custom) {
@@ -103,7 +102,7 @@ fn resolve_script<S: Source, K: Sink>(
         Err(Unresolved::NotBuilt) => return Status::NotBuilt,
         Err(Unresolved::OutOfMemory) => return Status::OutOfMemory,
     };
-    write_line(sink, &answered)
+    write_lines(sink, &answered)
 }
 
 // Makes the call over the set of n profiles, and writes its line.
@@ -112,16 +111,16 @@ fn generate_line<K: Sink>(alloc: Global, n: u64, sink: &mut K) -> Status
     ensures { GeneratedWritten (K.written sink.old) (K.written sink.new) (K.faults sink.old) (K.faults sink.new) n result }
 {
     match generate(alloc, n) {
-        Ok(answered) => write_line(sink, &answered),
+        Ok(answered) => write_lines(sink, &answered),
         Err(OutOfMemory) => Status::OutOfMemory,
     }
 }
 
-// Writes the line of a call.
-fn write_line<K: Sink>(sink: &mut K, answered: &Answered) -> Status
-    ensures { LineWritten (K.written sink.old) (K.written sink.new) (K.faults sink.old) (K.faults sink.new) answered.now.is_ok answered.now.line.items result }
+// Writes the lines of calls.
+fn write_lines<K: Sink>(sink: &mut K, answered: &Answered) -> Status
+    ensures { LinesWritten (K.written sink.old) (K.written sink.new) (K.faults sink.old) (K.faults sink.new) answered.now.is_ok answered.now.lines.items result }
 {
-    match write_all(sink, answered.line.as_slice()) {
+    match write_all(sink, answered.lines.as_slice()) {
         Ok(()) if answered.is_ok => Status::Done,
         Ok(()) => Status::Refused,
         Err(StreamFault::Failed) => Status::SinkFault,

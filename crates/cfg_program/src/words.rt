@@ -21,7 +21,7 @@ pub const VERSION: &str = "bujerova 0.1.0\n";
 pub const HELP: &str = "\
 bujerova: AWS credentials by a script, as the SDK's default chain finds them
 
-usage: bujerova resolve < SCRIPT     one line for the call that the script describes
+usage: bujerova resolve < SCRIPT     a line for each call that the script describes
        bujerova generate N           one line for a call over N profiles, 1 to 1000
        bujerova --help | --version
 

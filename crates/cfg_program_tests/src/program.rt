@@ -184,9 +184,24 @@ fn scripts_with_credentials(rt: HostRuntime) -> Result<(), Fail> {
             r#"{"profiles":[["default",[["role_arn","r"],["source_profile","b"]]],["b",[["aws_access_key_id","K"],["aws_secret_access_key","S"]]]],"clock":[7],"replies":{"assume-role":[{"id":"KA","secret":"SA","token":"TA","expires":2000}]},"region":"eu-west-1"}"#,
             "Done credentials =KA =AssumeRoleProvider 2000.000000000 now,assume-role\n",
         ),
+        // Keys of an instance, whose expiry is past.
+        (
+            r#"{"clock":[1456380212],"jitter":[4000],"replies":{"imds-token":[[200,[["x-aws-ec2-metadata-token-ttl-seconds","21600"]],"tok"]],"imds-get":[[200,[],"role"],[200,[],"{\"AccessKeyId\":\"M\",\"SecretAccessKey\":\"S\",\"Token\":\"T\",\"Expiration\":\"2016-02-25T06:03:31Z\"}"]]}}"#,
+            "Done credentials =M =IMDSv2 1456381112.000000000 now,imds-token,now,imds-get,now,imds-get,now,jitter\n",
+        ),
+        // A role over a session of IAM Identity Center.
+        (
+            r#"{"variables":[["HOME","/home/u"]],"profiles":[["default",[["role_arn","r"],["source_profile","s"]]],["s",[["sso_session","abc"],["sso_account_id","1"],["sso_role_name","r"]]]],"sessions":[["abc",[["sso_region","us-east-1"],["sso_start_url","u"]]]],"files":[["/home/u/.aws/sso/cache/a9993e364706816aba3e25717850c26c9cd0d89d.json","{\"accessToken\":\"t\",\"expiresAt\":\"1970-01-01T01:00:00Z\"}"]],"replies":{"role-credentials":[{"id":"R","secret":"S","token":"T","expires_ms":5000000}],"assume-role":[{"id":"A","secret":"S","token":"T","expires":9}]}}"#,
+            "Done credentials =A =AssumeRoleProvider 9.000000000 now,read,now,role-credentials,now,assume-role\n",
+        ),
+        // A start URL of IAM Identity Center.
+        (
+            r#"{"variables":[["HOME","/home/u"]],"profiles":[["default",[["sso_account_id","1"],["sso_role_name","r"],["sso_region","us-east-1"],["sso_start_url","abc"]]]],"files":[["/home/u/.aws/sso/cache/a9993e364706816aba3e25717850c26c9cd0d89d.json","{\"accessToken\":\"t\",\"expiresAt\":\"1970-01-01T01:00:00Z\"}"]],"replies":{"role-credentials":[{"id":"R","secret":"S","expires_ms":-1}]}}"#,
+            "Done credentials =R =SSO -1.999000000 read,role-credentials\n",
+        ),
         // What is not selected may need what is not built.
         (
-            r#"{"profiles":[["other",[["SSO_Session","x"]]],["default",[["aws_access_key_id","K"],["aws_secret_access_key","S"]]]]}"#,
+            r#"{"profiles":[["other",[["login_session","x"]]],["default",[["aws_access_key_id","K"],["aws_secret_access_key","S"]]]]}"#,
             "Done credentials =K =ProfileFile none -\n",
         ),
         // So may what a later section hides.
@@ -257,7 +272,7 @@ fn scripts_with_an_error(rt: HostRuntime) -> Result<(), Fail> {
         ),
         // A role whose source is missing.
         (
-            r#"{"profiles":[["default",[["role_arn","r"],["source_profile","gone"]]]]}"#,
+            r#"{"profiles":[["default",[["role_arn","r"],["source_profile","gone"]]]],"variables":[["AWS_EC2_METADATA_DISABLED","TRUE"]]}"#,
             "Refused error CredentialsNotLoaded -\n",
         ),
         // A role over its own keys, without a reply.
@@ -295,10 +310,40 @@ fn scripts_with_an_error(rt: HostRuntime) -> Result<(), Fail> {
             r#"{"profiles":[["default",[["region","eu-west-1"]]]],"variables":[["AWS_EC2_METADATA_DISABLED","TRUE"]]}"#,
             "Refused error CredentialsNotLoaded -\n",
         ),
-        // Nothing at all.
+        // Nothing but the switch that turns metadata off.
         (
             r#"{"variables":[["AWS_EC2_METADATA_DISABLED","TRUE"]]}"#,
             "Refused error CredentialsNotLoaded -\n",
+        ),
+        // Nothing at all.
+        (
+            "{}",
+            "Refused error CredentialsNotLoaded now,imds-token!,now\n",
+        ),
+        // An instance without a role.
+        (
+            r#"{"replies":{"imds-token":[[200,[["x-aws-ec2-metadata-token-ttl-seconds","21600"]],"tok"]],"imds-get":[[404,[],""]]}}"#,
+            "Refused error CredentialsNotLoaded now,imds-token,now,imds-get\n",
+        ),
+        // A session token that is refused.
+        (
+            r#"{"replies":{"imds-token":[[403,[],""]]}}"#,
+            "Refused error ProviderError now,imds-token,now\n",
+        ),
+        // A named source that is switched off.
+        (
+            r#"{"profiles":[["default",[["credential_source","Ec2InstanceMetadata"]]]],"variables":[["AWS_EC2_METADATA_DISABLED","TRUE"]]}"#,
+            "Refused error ProviderError -\n",
+        ),
+        // A session of IAM Identity Center without its file.
+        (
+            r#"{"variables":[["HOME","/home/u"]],"profiles":[["default",[["sso_session","abc"],["sso_account_id","1"],["sso_role_name","r"]]]],"sessions":[["abc",[["sso_region","us-east-1"],["sso_start_url","u"]]]]}"#,
+            "Refused error ProviderError now,read!\n",
+        ),
+        // A session that is not there.
+        (
+            r#"{"profiles":[["default",[["sso_session","abc"],["sso_account_id","1"],["sso_role_name","r"]]]]}"#,
+            "Refused error InvalidConfiguration -\n",
         ),
     ];
     for (script, want) in table {
@@ -316,8 +361,9 @@ fn scripts_without_a_call(rt: HostRuntime) -> Result<(), Fail> {
             r#"{"profiles":[["default",[["login_session","x"]]]],"bogus":1}"#,
             "NoScript ",
         ),
-        (r#"{"calls":2}"#, "NotBuilt "),
+        (r#"{"calls":0}"#, "NoScript "),
         (r#"{"calls":101}"#, "NoScript "),
+        (r#"{"calls":2,"bogus":1}"#, "NoScript "),
         (r#"{"selected":1,"sleep":true}"#, "NoScript "),
         (r#"{"replies":{"http":[],"bogus":1}}"#, "NoScript "),
         (
@@ -325,13 +371,105 @@ fn scripts_without_a_call(rt: HostRuntime) -> Result<(), Fail> {
             "NotBuilt ",
         ),
         (
-            r#"{"variables":[["AWS_ACCESS_KEY_ID","K"],["AWS_SECRET_ACCESS_KEY","S"]],"profiles":[["default",[["credential_source","Ec2InstanceMetadata"]]]]}"#,
+            r#"{"calls":2,"profiles":[["default",[["login_session","x"]]]]}"#,
+            "NotBuilt ",
+        ),
+        (
+            r#"{"variables":[["AWS_ACCESS_KEY_ID","K"],["AWS_SECRET_ACCESS_KEY","S"]],"profiles":[["default",[["role_arn","r"],["source_profile","b"]]],["b",[["login_session","x"]]]]}"#,
             "NotBuilt ",
         ),
     ];
     for (script, want) in table {
         let told = resolved(rt.alloc(), script)?;
         assert_eq!(rt; told.as_str(), *want, "{script}");
+    }
+    Ok(())
+}
+
+// So many calls of a role, with these replies.
+fn called(alloc: Global, calls: u64, replies: &[&str]) -> Result<String, OutOfMemory> {
+    let profiles =
+        r#"[["default",[["role_arn","r"],["source_profile","b"],["role_session_name","s"]]],["b",[["aws_access_key_id","K"],["aws_secret_access_key","S"]]]]"#;
+    let mut list = String::new(alloc);
+    for reply in replies {
+        if !list.as_str().is_empty() {
+            list.push_str(",")?;
+        }
+        list.push_str(reply)?;
+    }
+    let script = format!(in alloc;
+        r#"{{"calls":{calls},"profiles":{profiles},"replies":{{"assume-role":[{list}]}}}}"#
+    )?;
+    resolved(alloc, script.as_str())
+}
+
+// Replies that grant an id.
+const A: &str = r#"{"id":"A","secret":"S","token":"T","expires":9}"#;
+
+const B: &str = r#"{"id":"B","secret":"S","token":"T","expires":9}"#;
+
+// Each call takes the next reply. The status is that of the last one.
+#[test]
+fn calls_of_a_role(rt: HostRuntime) -> Result<(), Fail> {
+    let table: &[(u64, &[&str], &str)] = &[
+        (
+            1,
+            &[A, B],
+            "Done credentials =A =AssumeRoleProvider 9.000000000 assume-role\n",
+        ),
+        (
+            2,
+            &[A, B],
+            "Done credentials =A =AssumeRoleProvider 9.000000000 assume-role\ncredentials =B =AssumeRoleProvider 9.000000000 assume-role\n",
+        ),
+        (
+            2,
+            &["null", B],
+            "Done error ProviderError assume-role\ncredentials =B =AssumeRoleProvider 9.000000000 assume-role\n",
+        ),
+        (
+            2,
+            &[A],
+            "Refused credentials =A =AssumeRoleProvider 9.000000000 assume-role\nerror ProviderError assume-role!\n",
+        ),
+        (
+            3,
+            &[r#""timeout""#, B, r#""broken""#],
+            "Refused error ProviderError assume-role!\ncredentials =B =AssumeRoleProvider 9.000000000 assume-role\nerror ProviderError assume-role!\n",
+        ),
+    ];
+    for (calls, replies, want) in table {
+        let told = called(rt.alloc(), *calls, replies)?;
+        assert_eq!(rt; told.as_str(), *want, "{calls} {replies:?}");
+    }
+    Ok(())
+}
+
+// A web identity, of which each call reads the token and the clock anew.
+#[test]
+fn calls_of_a_web_identity(rt: HostRuntime) -> Result<(), Fail> {
+    let told = resolved(
+        rt.alloc(),
+        r#"{"calls":3,"variables":[["AWS_WEB_IDENTITY_TOKEN_FILE","/t"],["AWS_ROLE_ARN","r"]],"files":[["/t","T"]],"clock":[1,2],"replies":{"web-identity":["dispatch",{"id":"A","secret":"S","token":"T","expires":9},{"refused":"Other","message":"m"}]}}"#,
+    )?;
+    assert_eq!(rt;
+        told.as_str(),
+        "Refused error ProviderError now,read,web-identity!\ncredentials =A =WebIdentityToken 9.000000000 now,read,web-identity\nerror ProviderError now,read,web-identity\n"
+    );
+    Ok(())
+}
+
+// The most calls that there may be.
+#[test]
+fn a_hundred_calls(rt: HostRuntime) -> Result<(), Fail> {
+    let told = resolved(
+        rt.alloc(),
+        r#"{"calls":100,"variables":[["AWS_ACCESS_KEY_ID","A"],["AWS_SECRET_ACCESS_KEY","S"]]}"#,
+    )?;
+    let lines = told.as_str().strip_prefix("Done ").ok_or("another status")?;
+    assert_eq!(rt; lines.lines().count(), 100);
+    for line in lines.lines() {
+        assert_eq!(rt; line, "credentials =A =EnvironmentVariable none -");
     }
     Ok(())
 }
@@ -432,7 +570,11 @@ fn behind_white_space(alloc: Global, length: usize, text: &str) -> Result<String
 #[test]
 fn long_scripts(rt: HostRuntime) -> Result<(), Fail> {
     for (length, text, want) in [
-        (70_000, "{}", "Refused error CredentialsNotLoaded -\n"),
+        (
+            70_000,
+            "{}",
+            "Refused error CredentialsNotLoaded now,imds-token!,now\n",
+        ),
         (70_000, "{", "NoScript "),
         (70_000, r#"{"bogus":1}"#, "NoScript "),
         (1_048_576, "", "NoScript "),

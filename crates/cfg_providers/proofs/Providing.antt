@@ -6,7 +6,7 @@ use Rattle.cfg_types.specs.declared.errors.CredentialsError.{CredentialsError}
 use Rattle.cfg_world.specs.declared.devices.Devices.{Ghosts}
 use Rattle.cfg_world.specs.Fits.{Pair, EachFits}
 use Rattle.cfg_world.specs.Faults.{Counted}
-use Rattle.cfg_world.specs.Asked.{Same}
+use Rattle.cfg_world.specs.Asked.{Same, StandsOn}
 use Rattle.cfg_world.specs.Held.{Held}
 use Rattle.cfg_world.specs.Inquiry.{Inquiry, Reads, Begun}
 use Rattle.cfg_world.proofs.Beginnings.{read_begins}
@@ -20,7 +20,7 @@ module _ {D : Type 0} {d : Ghosts D} (inquiry : Inquiry (Result Keys Credentials
     (grows : new.journal ≡ old.journal ++ part) (fits : EachFits part) (same : Same (d.allows old.devices) (d.allows new.devices))
     (counted : Counted part (d.faults old.devices) (d.faults new.devices)) (reads : Reads inquiry part out) where
   -- an answer, where its cause is known over each part
-  pub provides_by : (why : List Pair → Option CredentialsError) → (d.stands old.devices old.journal → d.stands new.devices new.journal) →
+  pub provides_by : (why : List Pair → Option CredentialsError) → StandsOn (d.stands old.devices) (d.stands new.devices) part →
       ((journal : List Pair) (answer : Result Keys CredentialsError) → Reads inquiry journal answer → result_err answer ≡ why journal) → Provides d inquiry why old new out
   provides_by why stands cause = record {
     part = part;

@@ -1,6 +1,6 @@
--- What a script says fits the devices that it is said of.
+-- What a script says fits the devices that it is said of, and makes as many calls as there may be.
 use Rattle.std.proofs.Common.{◌≡◌, ℕ, List, [], ◌∷◌, Bool, true, false, cond, Option, Some, None, Result, Ok, Err, refl, ap, subst, arith}
-use Rattle.std.specs.Prelude.{ℤ, pos, negsuc, ◌≤ℤ◌, All, bytes_eq, codes, option_map, is_some, ok_or, int_lt, IfOk, if◌then◌else◌}
+use Rattle.std.specs.Prelude.{ℤ, pos, negsuc, ◌≤ℤ◌, All, bytes_eq, codes, option_map, unwrap_or, is_some, int_lt, IfOk, IsTrue, if◌then◌else◌}
 use Rattle.std.proofs.lemmas.Int.{ints}
 use Rattle.std.specs.List.{AllByRecursion}
 use Rattle.std.proofs.lemmas.List.Elements.{All-from_recursion}
@@ -16,15 +16,16 @@ use Rattle.cfg_world.specs.Fits.{IsTransport}
 use Rattle.cfg_world.specs.Script.{AllFit, IsSentAs, FailsByIo, IsHttp, IsSts, IsRole, IsToken, IsSignIn}
 use Rattle.cfg_script.specs.Forms.{◌>>=◌, each, list_or_none, or_missing, text_or_else, without}
 use Rattle.cfg_script.specs.Names.{every_name}
-use Rattle.cfg_script.specs.Table.{Form, Row, Table, ◌&◌, no_rows, list_row, row_or, list_of, only}
-use Rattle.cfg_script.specs.Values.{characters_of, natural}
+use Rattle.cfg_script.specs.Table.{Form, Row, Table, ◌&◌, no_rows, list_row, row_or, optional_row, list_of, only}
+use Rattle.cfg_script.specs.Values.{text, characters_of, truth, natural_of, natural, is_call_count, call_count_of, call_count}
 use Rattle.cfg_script.specs.Moments.{moment_from, clock_from, clock_moment}
 use Rattle.cfg_script.specs.Replies.{fail_kind, failed_send, failed, command, look_up, http_reply, refusal, granted_or_not, sts_grant, role_grant, token_grant, sign_in_grant, sts_reply, role_reply, token_reply, sign_in_reply}
-use Rattle.cfg_script.specs.Script.{Plain, NoScript, NotBuilt, plain}
-use Rattle.cfg_script.specs.Settings.{file, Queues, queue_rows, replies, no_queues, DeviceRows, device_rows, lists_in, plain_with, setting_rows, script_rows}
-use Rattle.cfg_script.specs.Reading.{refused_beside, plain_in, names_unbuilt, rows_from, placed_from, plain_from, script_of_members, script_of_value, json_value, script_of}
+use Rattle.cfg_script.specs.Sections.{variable, section}
+use Rattle.cfg_script.specs.Script.{Plain, plain}
+use Rattle.cfg_script.specs.Settings.{file, Queues, queue_rows, replies, no_queues, SettingRows, DeviceRows, device_rows, lists_in, plain_with, setting_rows, script_rows}
+use Rattle.cfg_script.specs.Reading.{refused_beside, plain_in, rows_from, placed_from, plain_from, json_value, script_of}
 use Rattle.cfg_script.specs.Devices.{lists_of}
-use Rattle.cfg_script.specs.Held.{GivesScript}
+use Rattle.cfg_script.specs.Gives.{GivesPart}
 use Rattle.cfg_script.specs.declared.script.Script.{Script}
 use Rattle.cfg_script.specs.declared.script.ScriptError.{ScriptError}
 
@@ -260,41 +261,81 @@ lists_good ms rows e =
       sign_in = queues.1.1.1.1.1.1.1.0;
     }
 
+-- ---- settings
+
+some_good : {A : Type 0} (P : Option A → Type 0) (q o : Option A) → option_map Some q ≡ Some o → ((a : A) → q ≡ Some a → P (Some a)) → P o
+some_good P None o e good = cc
+some_good P (Some a) o e good = said_good P (Some a) o e (good a refl)
+
+count_chosen : (b : Bool) (n m : ℕ) → is_call_count n ≡ b → cond b (Some n) None ≡ Some m → IsTrue (is_call_count m)
+count_chosen true n m h e = said_good (λ k. IsTrue (is_call_count k)) n m e h
+count_chosen false n m h e = cc
+
+count_good : (d : Data) (n : ℕ) → call_count.read d ≡ Some n → IsTrue (is_call_count n)
+unfolding call_count_of
+count_good d n e =
+    let w = went (natural_of d) (λ k. if is_call_count k then Some k else None) n e in
+    count_chosen (is_call_count w.value) w.value n refl w.next
+
+-- so many calls, or one where nothing is said of them
+abbrev IsCounted : Option ℕ → Type 0
+IsCounted o = IsTrue (is_call_count (unwrap_or o 1))
+
+calls_good : (m : Option Data) (o : Option ℕ) → (optional_row (codes "calls") call_count).read m ≡ Some o → IsCounted o
+calls_good None o e = said_good IsCounted None o e refl
+calls_good (Some d) o e = some_good IsCounted (call_count.read d) o e (count_good d)
+
+calls_row : RowSays (optional_row (codes "calls") call_count) IsCounted
+calls_row = record { says = calls_good }
+
+settings_say : TableSays setting_rows (λ rows. Unit {0} × (Unit {0} × (Unit {0} × (Unit {0} × (Unit {0} × (Unit {0} × (Unit {0} × (IsCounted rows.1.1.1.1.1.1.1.0 × Unit {0}))))))))
+settings_say =
+    and (free (list_row (codes "variables") variable))
+    (and (free (list_row (codes "profiles") section))
+    (and (free (list_row (codes "sessions") section))
+    (and (free (optional_row (codes "refused") characters_of))
+    (and (free (optional_row (codes "selected") text))
+    (and (free (optional_row (codes "region") text))
+    (and (free (optional_row (codes "sleep") truth))
+    (and calls_row
+    none_left)))))))
+
 -- ---- the script
 
-ok_of : {A E : Type 0} (o : Option A) (e : E) (y : A) → ok_or o e ≡ Ok y → o ≡ Some y
-ok_of None e y h = cc
-ok_of (Some x) e y h = let is : x ≡ y = cc in ap Some is
+-- what holds of all that the rows read holds of a script
+module _ (P : Plain → Type 0)
+    (good : (ms : Members) (rows : SettingRows × DeviceRows) → setting_rows.read ms ≡ Some rows.0 → device_rows.read (setting_rows.left ms) ≡ Some rows.1 → P (plain_in rows)) where
+  rows_good : (ms : Members) (p : Plain) → placed_from ms ≡ Some p → P p
+  unfolding placed_from rows_from
+  rows_good ms p e =
+      let w = went (script_rows.read ms) (λ rows. Some (plain_in rows)) p e in
+      let both = parts (setting_rows.read ms) (device_rows.read (setting_rows.left ms)) w.value w.is in
+      said_good P (plain_in w.value) p w.next (good ms w.value both.0 both.1)
 
-not_refused : {A E : Type 0} (b : Bool) (x : E) (r : Result A E) (y : A) → cond b (Err x) r ≡ Ok y → r ≡ Ok y
-not_refused true x r y h = cc
-not_refused false x r y h = h
+  members_good : (ms : Members) (p : Plain) → plain_from ms ≡ Some p → P p
+  unfolding plain_from
+  members_good ms p e =
+      rows_good ms p (unchosen (refused_beside ms) (placed_from ms) p (chosen (every_name script_rows.has ms) (cond (refused_beside ms) None (placed_from ms)) p e)).1
 
-rows_good : (ms : Members) (p : Plain) → placed_from ms ≡ Some p → AllFit (lists_of p)
-unfolding placed_from rows_from plain_in plain_with
-rows_good ms p e =
-    let w = went (script_rows.read ms) (λ rows. Some (plain_in rows)) p e in
-    let both = parts (setting_rows.read ms) (device_rows.read (setting_rows.left ms)) w.value w.is in
-    let is : plain_in w.value ≡ p = cc in
-    subst (λ (x : Plain). AllFit (lists_of x)) is (lists_good (setting_rows.left ms) w.value.1 both.1)
-
-members_good : (ms : Members) (p : Plain) → script_of_members ms ≡ Ok p → AllFit (lists_of p)
-unfolding script_of_members plain_from
-members_good ms p e =
-    let ok = not_refused (names_unbuilt ms) NotBuilt (ok_or (plain_from ms) NoScript) p e in
-    let some = ok_of (plain_from ms) NoScript p ok in
-    rows_good ms p (unchosen (refused_beside ms) (placed_from ms) p (chosen (every_name script_rows.has ms) (cond (refused_beside ms) None (placed_from ms)) p some)).1
-
-object_good : (o : Option Members) (p : Plain) → script_of_value o ≡ Ok p → AllFit (lists_of p)
-object_good None p e = cc
-object_good (Some ms) p e = members_good ms p e
+  script_good : (bytes : List ℕ) (p : Plain) → script_of bytes ≡ Some p → P p
+  unfolding script_of
+  script_good bytes p e = let w = went (json_value bytes >>= as_object) plain_from p e in members_good w.value p w.next
 
 -- what is read as a script can be handed to scripted devices
-pub script_fits : (bytes : List ℕ) (p : Plain) → script_of bytes ≡ Ok p → AllFit (lists_of p)
-unfolding script_of
-script_fits bytes p e = object_good (json_value bytes >>= as_object) p e
+pub script_fits : (bytes : List ℕ) (p : Plain) → script_of bytes ≡ Some p → AllFit (lists_of p)
+unfolding plain_in plain_with
+script_fits bytes p e = script_good (λ p. AllFit (lists_of p)) (λ ms rows s d. lists_good (setting_rows.left ms) rows.1 d) bytes p e
+
+-- and it makes as many calls as there may be
+pub script_counts : (bytes : List ℕ) (p : Plain) → script_of bytes ≡ Some p → IsTrue (is_call_count p.calls)
+unfolding plain_in plain_with
+script_counts bytes p e = script_good (λ p. IsTrue (is_call_count p.calls)) (λ ms rows s d. (settings_say.says ms rows.0 s).1.1.1.1.1.1.1.0) bytes p e
 
 -- the same of what a call read
-pub read_fits : (bytes : List ℕ) (r : Result Script ScriptError) → GivesScript r (script_of bytes) → IfOk r (λ s. AllFit (lists_of (plain s)))
+pub read_fits : (bytes : List ℕ) (r : Result Script ScriptError) → GivesPart plain r (script_of bytes) → IfOk r (λ s. AllFit (lists_of (plain s)))
 read_fits bytes (Ok s) t = script_fits bytes (plain s) t
 read_fits bytes (Err e) t = tt
+
+pub read_counts : (bytes : List ℕ) (r : Result Script ScriptError) → GivesPart plain r (script_of bytes) → IfOk r (λ s. IsTrue (is_call_count (plain s).calls))
+read_counts bytes (Ok s) t = script_counts bytes (plain s) t
+read_counts bytes (Err e) t = tt

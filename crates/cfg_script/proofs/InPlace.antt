@@ -1,11 +1,6 @@
 -- What rows read of members that are put in their places, beside the same members at the head of those that are to come.
 use Rattle.std.proofs.Common.{◌≡◌, ℕ, List, Bool, true, false, Option, Some, None, refl, sym, ap, ◌∙◌, cond}
 use Rattle.std.specs.Prelude.{bytes_eq}
-use Rattle.std.specs.Ordering.{nat_cmp, is_eq, match_ordering}
-use Rattle.std.specs.declared.cmp.Ordering.{Ordering}
-use Rattle.std.specs.declared.cmp.Ordering.TheVariants as order
-use Rattle.std.specs.Cmp.Lexicographic.{slice_cmp}
-use Rattle.std.proofs.lemmas.Map.Text.{is_eq-slice_cmp}
 use Rattle.std.proofs.lemmas.Option.{none-some}
 use Rattle.std.proofs.lemmas.Slice.Eq.{bytes_eq-Decides}
 use Rattle.serde_json.specs.Data.{Data, Members, member}
@@ -14,15 +9,8 @@ use Rattle.serde_json.specs.View.{view}
 use Rattle.serde_json.specs.declared.value.Value.{Value}
 use Rattle.cfg_script.specs.Forms.{◌>>=◌, without}
 use Rattle.cfg_script.specs.Table.{Row}
+use Rattle.cfg_script.specs.Alone.{first_member}
 use Rattle.cfg_script.specs.Places.{with_row}
-
-chosen : {X : Type 0} (o : Ordering) (x y : X) → match_ordering o x y x ≡ cond (is_eq o) y x
-chosen order.Less x y = refl
-chosen order.Equal x y = refl
-chosen order.Greater x y = refl
-
-first_member : (k l : List ℕ) (d : Data) (ms : Members) → get_member k (member l d ms) ≡ cond (bytes_eq k l) (Some d) (get_member k ms)
-first_member k l d ms = chosen (slice_cmp nat_cmp k l) (get_member k ms) (Some d) ∙ ap (λ (b : Bool). cond b (Some d) (get_member k ms)) (is_eq-slice_cmp k l)
 
 agree : (b d : Bool) → (b ≡ true → d ≡ true) → (d ≡ true → b ≡ true) → b ≡ d
 agree true true f g = refl

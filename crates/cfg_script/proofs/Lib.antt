@@ -8,3 +8,4 @@ pub mod HeaderNames
 pub mod Fitting
 pub mod Placing
 pub mod InPlace
+pub mod Refusing

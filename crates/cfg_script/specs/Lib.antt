@@ -9,6 +9,7 @@ pub mod Moments
 pub mod Sections
 pub mod Addresses
 pub mod Replies
+pub mod Alone
 pub mod Settings
 pub mod Reading
 pub mod Telling

@@ -1,7 +1,8 @@
 -- Replies to requests, commands and look-ups.
-use Rattle.std.specs.Prelude.{ℕ, List, bytes_eq, codes, Option, Some, None, Result, Ok, Err, if◌then◌else◌}
+use Rattle.std.specs.Prelude.{◌≡◌, ℕ, ℤ, List, Bool, true, is_some, bytes_eq, codes, Option, Some, None, Result, Ok, Err, if◌then◌else◌}
 use Rattle.serde_json.specs.Data.{Data}
-use Rattle.serde_json.specs.Find.{as_str}
+use Rattle.serde_json.specs.Find.{as_str, get}
+use Rattle.cfg_values.specs.Moment.{Moment}
 use Rattle.cfg_values.specs.declared.address.Address.{Address}
 use Rattle.cfg_types.specs.declared.command.Finished.{Finished}
 use Rattle.cfg_types.specs.declared.reply.Reply.{Reply}
@@ -12,7 +13,7 @@ use Rattle.cfg_types.specs.declared.reply.RefusalKind.{RefusalKind}
 use Rattle.cfg_types.specs.declared.reply.RefusalKind.TheVariants as kind
 use Rattle.cfg_types.specs.declared.reply.http.Header.{Header}
 use Rattle.cfg_script.specs.Forms.{◌>>=◌}
-use Rattle.cfg_script.specs.Table.{Form, whole_form, standing_for, list_of, list_by, pair_of, triple_of, text_or, null_or, by_member, optional_row, required_row, ◌&◌, no_rows, object_of}
+use Rattle.cfg_script.specs.Table.{Form, Table, whole_form, standing_for, list_of, list_by, pair_of, triple_of, text_or, null_or, by_member, optional_row, required_row, ◌&◌, no_rows, object_of}
 use Rattle.cfg_script.specs.Values.{characters_of, whole, content, command_status, http_status, header_name}
 use Rattle.cfg_script.specs.Moments.{moment}
 use Rattle.cfg_script.specs.Addresses.{address}
@@ -76,57 +77,80 @@ abbrev pub kind_name : Form RefusalKind
 kind_name = whole_form wanted.RefusalKind refusal_kind_of
 
 -- {"refused": kind, "message": text}, and no other member
-abbrev pub refusal : Form Reply
-refusal = standing_for (λ p. reply.Refused (record { kind = p.0; message = p.1.0 })) (object_of wanted.Reply (
+abbrev pub refusal_rows : Table (RefusalKind × (List ℕ × Unit {0}))
+refusal_rows =
     required_row (codes "refused") kind_name
     & required_row (codes "message") characters_of
-    & no_rows))
+    & no_rows
+
+abbrev pub refusal : Form Reply
+refusal = standing_for (λ p. reply.Refused (record { kind = p.0; message = p.1.0 })) (object_of wanted.Reply refusal_rows)
+
+-- whether a value has the member that makes it a refusal
+abbrev pub names_refusal : Data → Bool
+names_refusal d = is_some (get (codes "refused") d)
+
+-- a form reads no value that has this member
+abbrev pub ReadsNoRefusal : {A : Type 0} → Form A → Type 0
+ReadsNoRefusal form = (d : Data) → names_refusal d ≡ true → form.read d ≡ None
 
 -- ---- what services grant
 
 -- {"id", "secret", "token": texts, "expires": moment, "arn": text, optional}
-abbrev pub sts_grant : Form Reply
-sts_grant = standing_for (λ p. reply.Sts (record {
-  credentials = Some (record { access_key_id = p.0; secret_access_key = p.1.0; session_token = p.1.1.0; expiration = p.1.1.1.0 });
-  arn = p.1.1.1.1.0;
-})) (object_of wanted.Reply (
+abbrev pub sts_rows : Table (List ℕ × (List ℕ × (List ℕ × (Moment × (Option (List ℕ) × Unit {0})))))
+sts_rows =
     required_row (codes "id") characters_of
     & required_row (codes "secret") characters_of
     & required_row (codes "token") characters_of
     & required_row (codes "expires") moment
     & optional_row (codes "arn") characters_of
-    & no_rows))
+    & no_rows
+
+abbrev pub sts_grant : Form Reply
+sts_grant = standing_for (λ p. reply.Sts (record {
+  credentials = Some (record { access_key_id = p.0; secret_access_key = p.1.0; session_token = p.1.1.0; expiration = p.1.1.1.0 });
+  arn = p.1.1.1.1.0;
+})) (object_of wanted.Reply sts_rows)
 
 -- {"id", "secret", "token": texts, each optional, "expires_ms": whole number}
-abbrev pub role_grant : Form Reply
-role_grant = standing_for (λ p. reply.Role (record {
-  credentials = Some (record { access_key_id = p.0; secret_access_key = p.1.0; session_token = p.1.1.0; expiration_ms = p.1.1.1.0 });
-})) (object_of wanted.Reply (
+abbrev pub role_rows : Table (Option (List ℕ) × (Option (List ℕ) × (Option (List ℕ) × (ℤ × Unit {0}))))
+role_rows =
     optional_row (codes "id") characters_of
     & optional_row (codes "secret") characters_of
     & optional_row (codes "token") characters_of
     & required_row (codes "expires_ms") whole
-    & no_rows))
+    & no_rows
+
+abbrev pub role_grant : Form Reply
+role_grant = standing_for (λ p. reply.Role (record {
+  credentials = Some (record { access_key_id = p.0; secret_access_key = p.1.0; session_token = p.1.1.0; expiration_ms = p.1.1.1.0 });
+})) (object_of wanted.Reply role_rows)
 
 -- {"access", "refresh": texts, each optional, "expires_in": whole number}
-abbrev pub token_grant : Form Reply
-token_grant = standing_for (λ p. reply.Token (record { access_token = p.0; refresh_token = p.1.0; expires_in = p.1.1.0 })) (object_of wanted.Reply (
+abbrev pub token_rows : Table (Option (List ℕ) × (Option (List ℕ) × (ℤ × Unit {0})))
+token_rows =
     optional_row (codes "access") characters_of
     & optional_row (codes "refresh") characters_of
     & required_row (codes "expires_in") whole
-    & no_rows))
+    & no_rows
+
+abbrev pub token_grant : Form Reply
+token_grant = standing_for (λ p. reply.Token (record { access_token = p.0; refresh_token = p.1.0; expires_in = p.1.1.0 })) (object_of wanted.Reply token_rows)
 
 -- {"id", "secret", "token", "refresh": texts, "expires_in": whole number}
-abbrev pub sign_in_grant : Form Reply
-sign_in_grant = standing_for (λ p. reply.SignIn (record {
-  token = Some (record { access_key_id = p.0; secret_access_key = p.1.0; session_token = p.1.1.0; refresh_token = p.1.1.1.0; expires_in = p.1.1.1.1.0 });
-})) (object_of wanted.Reply (
+abbrev pub sign_in_rows : Table (List ℕ × (List ℕ × (List ℕ × (List ℕ × (ℤ × Unit {0})))))
+sign_in_rows =
     required_row (codes "id") characters_of
     & required_row (codes "secret") characters_of
     & required_row (codes "token") characters_of
     & required_row (codes "refresh") characters_of
     & required_row (codes "expires_in") whole
-    & no_rows))
+    & no_rows
+
+abbrev pub sign_in_grant : Form Reply
+sign_in_grant = standing_for (λ p. reply.SignIn (record {
+  token = Some (record { access_key_id = p.0; secret_access_key = p.1.0; session_token = p.1.1.0; refresh_token = p.1.1.1.0; expires_in = p.1.1.1.1.0 });
+})) (object_of wanted.Reply sign_in_rows)
 
 -- ---- replies of services
 

@@ -28,12 +28,8 @@ pub record Plain : Type 0 where
   pub selected : Option (List ℕ)
   pub region : Option (List ℕ)
   pub sleep : Bool
+  pub calls : ℕ
   pub devices : DeviceLists
-
--- why bytes say nothing
-pub data Refused : Type 0 where
-  NoScript : Refused
-  NotBuilt : Refused
 
 -- a property that the program holds, as bytes
 abbrev pub property_bytes : String Global × String Global → Property
@@ -56,5 +52,6 @@ plain s = record {
   selected = option_map (λ t. string_bytes t) s.selected;
   region = option_map (λ t. string_bytes t) s.region;
   sleep = s.sleep;
+  calls = s.calls;
   devices = s.devices;
 }

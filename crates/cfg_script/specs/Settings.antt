@@ -9,7 +9,7 @@ use Rattle.cfg_types.specs.declared.reply.FailKind.{FailKind}
 use Rattle.cfg_world.specs.declared.script.DeviceLists.{DeviceLists}
 use Rattle.cfg_script.specs.Script.{Section, PlainProfiles, Sections, RefusedSections, Plain}
 use Rattle.cfg_script.specs.Table.{Form, Table, pair_of, list_row, row_or, optional_row, ◌&◌, no_rows, both, object_of}
-use Rattle.cfg_script.specs.Values.{text, characters_of, truth, natural, content_or_null, one_call}
+use Rattle.cfg_script.specs.Values.{text, characters_of, truth, natural, content_or_null, call_count}
 use Rattle.cfg_script.specs.Moments.{clock_moment}
 use Rattle.cfg_script.specs.Sections.{variable, section}
 use Rattle.cfg_script.specs.Replies.{command, look_up, http_reply, sts_reply, role_reply, token_reply, sign_in_reply}
@@ -80,7 +80,7 @@ lists_in rows = let queues = rows.1.1.1.1.1.1.0 in record {
 }
 
 abbrev pub SettingRows : Type 0
-SettingRows = List (List ℕ × EnvText) × (List Section × (List Section × (Option (List ℕ) × (Option (List ℕ) × (Option (List ℕ) × (Option Bool × (Option (Unit {0}) × Unit {0})))))))
+SettingRows = List (List ℕ × EnvText) × (List Section × (List Section × (Option (List ℕ) × (Option (List ℕ) × (Option (List ℕ) × (Option Bool × (Option ℕ × Unit {0})))))))
 
 -- the settings
 abbrev pub setting_rows : Table SettingRows
@@ -92,7 +92,7 @@ setting_rows =
     & optional_row (codes "selected") text
     & optional_row (codes "region") text
     & optional_row (codes "sleep") truth
-    & optional_row (codes "calls") one_call
+    & optional_row (codes "calls") call_count
     & no_rows
 
 -- sections, unless they are refused
@@ -108,6 +108,7 @@ plain_with rows devices = record {
   selected = rows.1.1.1.1.0;
   region = rows.1.1.1.1.1.0;
   sleep = unwrap_or rows.1.1.1.1.1.1.0 true;
+  calls = unwrap_or rows.1.1.1.1.1.1.1.0 1;
   devices = devices;
 }
 

@@ -2,10 +2,9 @@
 use Rattle.std.specs.Prelude.{ℕ, List, codes, Option, Some, None, option_map, if◌then◌else◌}
 use Rattle.serde_json.specs.Data.{Data, Members}
 use Rattle.serde_json.specs.Find.{as_object}
-use Rattle.cfg_script.specs.Forms.{◌>>=◌}
 use Rattle.cfg_script.specs.Faults.{Found, here, ◌<|>◌, when_read, under_name, other_name}
 use Rattle.cfg_script.specs.Settings.{script_rows}
-use Rattle.cfg_script.specs.Reading.{refused_beside, names_unbuilt, json_value}
+use Rattle.cfg_script.specs.Reading.{refused_beside, json_value}
 use Rattle.cfg_script.specs.declared.fault.Fault.{Fault}
 use Rattle.cfg_script.specs.declared.fault.ScriptFault.{ScriptFault}
 use Rattle.cfg_script.specs.declared.fault.ScriptFault.TheVariants as fault
@@ -19,13 +18,9 @@ beside_fault ms = if refused_beside ms then under_name (codes "refused") (Some (
 unfoldable pub script_fault : Members → Found
 script_fault ms = other_name script_rows.has ms <|> (beside_fault ms <|> script_rows.fault ms)
 
--- where a name is not built, no other fault is told
-unfoldable pub members_fault : Members → Found
-members_fault ms = if names_unbuilt ms then None else script_fault ms
-
 -- a script is an object
 unfoldable pub value_fault : Data → Found
-value_fault d = when_read wanted.Object (as_object d) members_fault
+value_fault d = when_read wanted.Object (as_object d) script_fault
 
 -- why bytes are no script: they are no JSON, or a value is of another form
 pub data Told : Type 0 where
@@ -44,11 +39,3 @@ fault_of_json (Some d) = option_map Form (value_fault d)
 -- why the bytes are no script, if they are none
 unfoldable pub fault_of : List ℕ → Option Told
 fault_of bytes = fault_of_json (json_value bytes)
-
--- the name of more calls than are built
-unfoldable pub unbuilt_in : Members → Found
-unbuilt_in ms = if names_unbuilt ms then under_name (codes "calls") (Some (here wanted.BuiltName)) else None
-
--- the first name of the bytes that belongs to a script and is not built
-unfoldable pub unbuilt_of : List ℕ → Found
-unbuilt_of bytes = (json_value bytes >>= as_object) >>= unbuilt_in

@@ -1,5 +1,5 @@
 -- Values that stand alone: texts, truths, whole numbers, contents.
-use Rattle.std.specs.Prelude.{ℕ, ℤ, pos, negsuc, List, Bool, codes, Option, Some, None, option_and_then, nat_lt, int_lt, ◌==◌, if◌then◌else◌}
+use Rattle.std.specs.Prelude.{ℕ, ℤ, pos, negsuc, List, Bool, codes, ◌&&◌, Option, Some, None, option_and_then, nat_lt, nat_le, int_lt, if◌then◌else◌}
 use Rattle.std.specs.Result.{result_ok}
 use Rattle.serde_json.specs.Data.{Data}
 use Rattle.serde_json.specs.Find.{as_str, as_bool, as_number, as_i64, as_u64}
@@ -81,9 +81,13 @@ content = text_or wanted.Content Some by_digits
 abbrev pub content_or_null : Form (Option (List ℕ))
 content_or_null = null_or None (standing_for Some content)
 
--- one call in all; more are not built
-abbrev pub one_call_of : Data → Option (Unit {0})
-one_call_of d = natural_of d >>= λ n. if n == 1 then Some tt else None
+-- how many calls there may be: from 1 to 100
+abbrev pub is_call_count : ℕ → Bool
+is_call_count n = nat_le 1 n && nat_le n 100
 
-abbrev pub one_call : Form (Unit {0})
-one_call = whole_form wanted.Calls one_call_of
+-- a whole number of calls
+unfoldable pub call_count_of : Data → Option ℕ
+call_count_of d = natural_of d >>= λ n. if is_call_count n then Some n else None
+
+abbrev pub call_count : Form ℕ
+call_count = whole_form wanted.Calls call_count_of

@@ -22,8 +22,6 @@ pub enum Wanted {
     Object,
     /// A name that belongs to its object.
     KnownName,
-    /// A name that is built.
-    BuiltName,
     /// A member that is there.
     Present,
     List,
@@ -164,7 +162,6 @@ impl fmt::Display for Wanted {
         f.write_str(match self {
             Wanted::Object => "a script is one JSON object",
             Wanted::KnownName => "no member of this name belongs here",
-            Wanted::BuiltName => "not built yet",
             Wanted::Present => "this member has to be there",
             Wanted::List => "a list is wanted",
             Wanted::Text => "a text is wanted",

@@ -29,4 +29,4 @@ mod values;
 pub use fault::{Fault, Position, ScriptFault, Step, Wanted};
 pub use reading::read_script;
 pub use script::{Script, ScriptError, ScriptProfiles};
-pub use telling::{find_fault, find_unbuilt};
+pub use telling::find_fault;

@@ -1,5 +1,5 @@
 //! Tables whose members are put in their places as an object gives them, in one walk.
-ghost use Rattle.std.specs.Prelude.{◌≡◌, Option, true, false, MatchOption};
+ghost use Rattle.std.specs.Prelude.{◌≡◌, Option, true, false, MatchOption, bytes_eq};
 ghost use Rattle.serde_json.specs.Data.{Members, no_members, member};
 ghost use Rattle.serde_json.specs.View.{view, members_view};
 ghost use Rattle.cfg_script.specs.Gives.{GivesPart};
@@ -10,6 +10,13 @@ use crate::script::ScriptError;
 use crate::table::Member;
 use serde_json::{Map, Value};
 use std::alloc::Global;
+
+// Whether the names are the same. Most differ in their lengths.
+fn is_same(name: &str, other: &str) -> bool
+    ensures { result ≡ bytes_eq name.now other.now }
+{
+    name.len() == other.len() && name == other
+}
 
 /// A table whose rows have a place each for their member.
 pub(crate) trait Placed {
@@ -89,7 +96,7 @@ impl<R: Member, G: Placed> Placed for (R, G) {
 
     // A second member of one name is left to the rows behind, as where the first is taken out.
     fn put(places: &mut (Option<Value>, G::Places), name: &str, value: Value) -> bool {
-        if name != R::name() {
+        if !is_same(name, R::name()) {
             return G::put(&mut places.1, name, value);
         }
         if places.0.is_none() {

@@ -1,12 +1,10 @@
 //! From bytes to a script.
-ghost use Rattle.std.specs.Prelude.{◌≡◌, IfOk, Ok, Err, codes, option_and_then};
-ghost use Rattle.serde_json.specs.Find.{get_member};
+ghost use Rattle.std.specs.Prelude.{◌≡◌, Some, None, Err, IfOk, IsTrue};
 ghost use Rattle.serde_json.specs.View.{view, members_view};
 ghost use Rattle.cfg_script.specs.Gives.{GivesPart};
-ghost use Rattle.cfg_script.specs.Held.{GivesScript};
-ghost use Rattle.cfg_script.specs.Values.{natural_of};
-ghost use Rattle.cfg_script.specs.Reading.{refused_beside, names_unbuilt, rows_from, placed_from, plain_from, json_value, script_of_members, script_of};
-ghost use Rattle.cfg_script.specs.Script.{plain, NoScript, NotBuilt};
+ghost use Rattle.cfg_script.specs.Values.{is_call_count};
+ghost use Rattle.cfg_script.specs.Reading.{refused_beside, rows_from, placed_from, plain_from, json_value, script_of};
+ghost use Rattle.cfg_script.specs.Script.{plain};
 ghost use Rattle.cfg_script.specs.Devices.{lists_of};
 ghost use Rattle.cfg_world.specs.Script.{AllFit};
 
@@ -40,22 +38,6 @@ pub(crate) fn is_refused_beside(members: &Map<String, Value>) -> bool
         && (member(members, "profiles").is_some() || member(members, "sessions").is_some())
 }
 
-fn calls_of(members: &Map<String, Value>) -> Option<u64>
-    ensures { result ≡ option_and_then natural_of (get_member (codes "calls") (members_view members.now.entries)) }
-{
-    member(members, "calls")?.as_u64()
-}
-
-/// Whether more than one call is to be made, which is not built.
-pub(crate) fn any_unbuilt(members: &Map<String, Value>) -> bool
-    ensures { result ≡ names_unbuilt (members_view members.now.entries) }
-{
-    match calls_of(members) {
-        Some(calls) => 1 < calls && calls < 101,
-        None => false,
-    }
-}
-
 #[tactic(auto, unfolding(crate::specs::Reading::rows_from))]
 fn read_rows(
     alloc: Global,
@@ -86,34 +68,24 @@ fn script_in(alloc: Global, members: Map<String, Value>) -> Result<Script, Scrip
     read_placed(alloc, members)
 }
 
-#[tactic(auto, unfolding(crate::specs::Reading::script_of_members))]
-fn read_members(alloc: Global, members: Map<String, Value>) -> Result<Script, ScriptError>
-    ensures { GivesScript result (script_of_members (members_view members.entries)) }
-{
-    if any_unbuilt(&members) {
-        return Err(ScriptError::NotBuilt);
-    }
-    script_in(alloc, members)
-}
-
 #[tactic(auto, unfolding(crate::specs::Reading::script_of))]
 fn read(alloc: Global, bytes: &[u8]) -> Result<Script, ScriptError>
-    ensures { GivesScript result (script_of bytes.now) }
+    ensures { GivesPart plain result (script_of bytes.now) }
 {
     let value = value_of(alloc, bytes)?;
     match members_of(value) {
-        Some(members) => read_members(alloc, members),
+        Some(members) => script_in(alloc, members),
         None => Err(ScriptError::NoScript),
     }
 }
 
-/// What the bytes say as a script. `NoScript` and `NotBuilt` come exactly where `script_of` says so;
-/// out of memory may come in place of any answer.
+/// What the bytes say as a script. `NoScript` comes exactly where they say none; out of memory may
+/// come in place of any answer.
 pub fn read_script(alloc: Global, bytes: &[u8]) -> Result<Script, ScriptError>
-    ensures script { IfOk result (λ s. script_of bytes.now ≡ Ok (plain s)) }
+    ensures script { IfOk result (λ s. script_of bytes.now ≡ Some (plain s)) }
     ensures fits { IfOk result (λ s. AllFit (lists_of (plain s))) }
-    ensures no_script { result ≡ Err ScriptError.NoScript → script_of bytes.now ≡ Err NoScript }
-    ensures not_built { result ≡ Err ScriptError.NotBuilt → script_of bytes.now ≡ Err NotBuilt }
+    ensures calls { IfOk result (λ s. IsTrue (is_call_count (plain s).calls)) }
+    ensures no_script { result ≡ Err ScriptError.NoScript → script_of bytes.now ≡ None }
 {
     read(alloc, bytes)
 }

@@ -1,7 +1,7 @@
 //! Replies to requests, commands and look-ups.
-ghost use Rattle.std.specs.Prelude.{◌≡◌, IfOk, codes};
+ghost use Rattle.std.specs.Prelude.{◌≡◌, true, false, None, IfOk, codes};
 ghost use Rattle.serde_json.specs.View.{view};
-ghost use Rattle.cfg_script.specs.Replies.{fail_kind, failed_send, failed, refusal_kind, refusal_kind_of, refusal};
+ghost use Rattle.cfg_script.specs.Replies.{fail_kind, failed_send, failed, refusal_kind, refusal_kind_of, refusal, names_refusal, ReadsNoRefusal};
 ghost use Rattle.cfg_script.specs.Table.{Form, by_member};
 ghost use Rattle.cfg_script.specs.Gives.{GivesPart};
 ghost use Rattle.cfg_types.specs.declared.reply.Reply.{Reply};
@@ -325,6 +325,9 @@ impl Part for Refuses {
 pub(crate) trait Service {
     ghost grant: { Form Reply };
 
+    // No grant is a refusal.
+    ghost alone: { ReadsNoRefusal grant };
+
     fn read(alloc: Global, value: Value) -> Result<Reply, ScriptError>
         ensures { GivesPart (λ r. r) result (grant.read (view value)) };
 
@@ -348,8 +351,11 @@ pub(crate) struct Sts;
 
 impl Service for Sts {
     ghost use Rattle.cfg_script.specs.Replies.{sts_grant};
+    ghost use Rattle.cfg_script.specs.Alone.{sts_alone};
 
     ghost grant = { sts_grant };
+
+    ghost alone = { sts_alone };
 
     fn read(alloc: Global, value: Value) -> Result<Reply, ScriptError> {
         let (access_key_id, (secret_access_key, (session_token, (expiration, (arn, ()))))) =
@@ -383,8 +389,11 @@ pub(crate) struct Role;
 
 impl Service for Role {
     ghost use Rattle.cfg_script.specs.Replies.{role_grant};
+    ghost use Rattle.cfg_script.specs.Alone.{role_alone};
 
     ghost grant = { role_grant };
+
+    ghost alone = { role_alone };
 
     fn read(alloc: Global, value: Value) -> Result<Reply, ScriptError> {
         let (access_key_id, (secret_access_key, (session_token, (expiration_ms, ())))) =
@@ -414,8 +423,11 @@ pub(crate) struct Tokens;
 
 impl Service for Tokens {
     ghost use Rattle.cfg_script.specs.Replies.{token_grant};
+    ghost use Rattle.cfg_script.specs.Alone.{token_alone};
 
     ghost grant = { token_grant };
+
+    ghost alone = { token_alone };
 
     fn read(alloc: Global, value: Value) -> Result<Reply, ScriptError> {
         let (access_token, (refresh_token, (expires_in, ()))) = read_object::<OfToken>(
@@ -449,8 +461,11 @@ pub(crate) struct SignsIn;
 
 impl Service for SignsIn {
     ghost use Rattle.cfg_script.specs.Replies.{sign_in_grant};
+    ghost use Rattle.cfg_script.specs.Alone.{sign_in_alone};
 
     ghost grant = { sign_in_grant };
+
+    ghost alone = { sign_in_alone };
 
     fn read(alloc: Global, value: Value) -> Result<Reply, ScriptError> {
         let (
@@ -473,10 +488,29 @@ impl Service for SignsIn {
     }
 }
 
+// Whether there are more members than a refusal has.
+fn has_too_many(value: &Value) -> bool
+    ensures { result ≡ true → refusal.read (view value.now) ≡ None }
+{
+    match value.as_object() {
+        Some(members) => 2 < members.len(),
+        None => false,
+    }
+}
+
+// Whether the answer is to be read as a refusal. Most answers have more members than one has, and no name
+// of theirs is looked up.
+fn may_refuse(value: &Value) -> bool
+    ensures named { result ≡ true → names_refusal (view value.now) ≡ true }
+    ensures other { result ≡ false → names_refusal (view value.now) ≡ true → refusal.read (view value.now) ≡ None }
+{
+    !has_too_many(value) && value.get("refused").is_some()
+}
+
 fn read_answer<S: Service>(alloc: Global, value: Value) -> Result<Reply, ScriptError>
     ensures { GivesPart (λ r. r) result ((by_member (codes "refused") refusal S.grant).read (view value)) }
 {
-    if value.get("refused").is_some() {
+    if may_refuse(&value) {
         Refuses::read(alloc, value)
     } else {
         S::read(alloc, value)

@@ -18,7 +18,8 @@ pub enum ScriptProfiles {
     Refused(Text),
 }
 
-/// What a script says. Members that are missing are empty lists, or none; `sleep` is true without one.
+/// What a script says. Members that are missing are empty lists, or none; `sleep` is true without one,
+/// and `calls` is 1.
 #[derive(Drop)]
 pub struct Script {
     /// Environment variables, in the script's order.
@@ -30,6 +31,8 @@ pub struct Script {
     pub region: Option<String>,
     /// Whether the program sleeps between attempts.
     pub sleep: bool,
+    /// How many calls are made, from 1 to 100.
+    pub calls: u64,
     /// What the devices answer.
     pub devices: DeviceLists,
 }
@@ -39,8 +42,6 @@ pub struct Script {
 pub enum ScriptError {
     /// They are no script.
     NoScript,
-    /// They have a name that belongs to a script and is not built.
-    NotBuilt,
     OutOfMemory,
 }
 

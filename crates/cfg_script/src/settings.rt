@@ -17,7 +17,7 @@ use crate::replies::{Command, HttpSent, LookUp, RoleSent, Sent, SignInSent, StsS
 use crate::script::{Script, ScriptError, ScriptProfiles};
 use crate::sections::{Section, Variable};
 use crate::table::{Both, Group, ListOf, Member, Name, Optional};
-use crate::values::{ContentOrNull, Named, Natural, OneCall, Truth, Words};
+use crate::values::{CallCount, ContentOrNull, Named, Natural, Truth, Words};
 use cfg_types::{Bytes, OutOfMemory, Seq, Text};
 use cfg_world::DeviceLists;
 use serde_json::Value;
@@ -154,7 +154,7 @@ pub(crate) type SettingRows = (
                     Optional<Selected, Named>,
                     (
                         Optional<Region, Named>,
-                        (Optional<Sleep, Truth>, (Optional<Calls, OneCall>, ())),
+                        (Optional<Sleep, Truth>, (Optional<Calls, CallCount>, ())),
                     ),
                 ),
             ),
@@ -214,21 +214,32 @@ fn is_to_sleep(sleep: Option<bool>) -> bool
     }
 }
 
+fn call_count(calls: Option<u64>) -> u64
+    ensures { result ≡ unwrap_or (option_map (λ n. n) calls) 1 }
+{
+    match calls {
+        Some(calls) => calls,
+        None => 1,
+    }
+}
+
 // Each setting in its place.
 #[tactic(auto, unfolding(crate::specs::Settings::plain_with))]
 fn script_with(rows: <SettingRows as Group>::Read, devices: DeviceLists) -> Script
     ensures { plain result ≡ plain_with (⟦<SettingRows as Group>⟧.seen rows) devices }
 {
     let (variables, (profiles, (sessions, (refused, rows)))) = rows;
-    let (selected, (region, (sleep, (_, ())))) = rows;
+    let (selected, (region, (sleep, (calls, ())))) = rows;
     let profiles = profiles_by(refused, profiles, sessions);
     let sleep = is_to_sleep(sleep);
+    let calls = call_count(calls);
     Script {
         variables,
         profiles,
         selected,
         region,
         sleep,
+        calls,
         devices,
     }
 }

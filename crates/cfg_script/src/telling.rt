@@ -3,11 +3,11 @@ ghost use Rattle.std.specs.Prelude.{◌≡◌, IfOk, option_map};
 ghost use Rattle.serde_json.specs.View.{view, members_view};
 ghost use Rattle.cfg_script.specs.Held.{parsed_value};
 ghost use Rattle.cfg_script.specs.Reading.{json_value};
-ghost use Rattle.cfg_script.specs.Telling.{beside_fault as beside_fault_of, script_fault as script_fault_of, members_fault as members_fault_of, value_fault as value_fault_of, unbuilt_in as unbuilt_in_of, told, fault_of, unbuilt_of};
+ghost use Rattle.cfg_script.specs.Telling.{beside_fault as beside_fault_of, script_fault as script_fault_of, value_fault as value_fault_of, told, fault_of};
 
 use crate::fault::{Fault, Position, ScriptFault, Wanted, here, under_name};
 use crate::object::other_name;
-use crate::reading::{any_unbuilt, is_refused_beside};
+use crate::reading::is_refused_beside;
 use crate::settings::ScriptRows;
 use crate::table::Group;
 use crate::value::members_of;
@@ -56,39 +56,18 @@ fn script_fault(
     Ok(other.or(beside.or(part)))
 }
 
-#[tactic(auto, unfolding(crate::specs::Telling::unbuilt_in))]
-fn unbuilt_in(alloc: Global, members: &Map<String, Value>) -> Result<Option<Fault>, OutOfMemory>
-    ensures { IfOk result (λ o. o ≡ unbuilt_in_of (members_view members.now.entries)) }
-{
-    if any_unbuilt(members) {
-        under_name(alloc, "calls", Some(here(alloc, Wanted::BuiltName)))
-    } else {
-        Ok(None)
-    }
-}
-
-#[tactic(auto, unfolding(crate::specs::Telling::members_fault))]
-fn members_fault(alloc: Global, members: Map<String, Value>) -> Result<Option<Fault>, OutOfMemory>
-    ensures { IfOk result (λ o. o ≡ members_fault_of (members_view members.entries)) }
-{
-    if any_unbuilt(&members) {
-        return Ok(None);
-    }
-    script_fault(alloc, members)
-}
-
 #[tactic(auto, unfolding(crate::specs::Telling::value_fault))]
 fn value_fault(alloc: Global, value: Value) -> Result<Option<Fault>, OutOfMemory>
     ensures { IfOk result (λ o. o ≡ value_fault_of (view value)) }
 {
     match members_of(value) {
-        Some(members) => members_fault(alloc, members),
+        Some(members) => script_fault(alloc, members),
         None => Ok(Some(here(alloc, Wanted::Object))),
     }
 }
 
 /// Why the bytes are no script: the first fault in the order of the members, or none where they are
-/// a script, or have a name that is not built. Memory may run out in place of any answer.
+/// a script. Memory may run out in place of any answer.
 #[tactic(auto, unfolding(crate::specs::Telling::fault_of))]
 pub fn find_fault(alloc: Global, bytes: &[u8]) -> Result<Option<ScriptFault>, OutOfMemory>
     ensures { IfOk result (λ o. option_map told o ≡ fault_of bytes.now) }
@@ -99,21 +78,6 @@ pub fn find_fault(alloc: Global, bytes: &[u8]) -> Result<Option<ScriptFault>, Ou
     };
     match value_fault(alloc, value)? {
         Some(fault) => Ok(Some(ScriptFault::Form(fault))),
-        None => Ok(None),
-    }
-}
-
-/// The first name of the bytes that belongs to a script and is not built. Memory may run out in
-/// place of any answer.
-#[tactic(auto, unfolding(crate::specs::Telling::unbuilt_of))]
-pub fn find_unbuilt(alloc: Global, bytes: &[u8]) -> Result<Option<Fault>, OutOfMemory>
-    ensures { IfOk result (λ o. o ≡ unbuilt_of bytes.now) }
-{
-    let Ok(value) = parsed(alloc, bytes)? else {
-        return Ok(None);
-    };
-    match members_of(value) {
-        Some(members) => unbuilt_in(alloc, &members),
         None => Ok(None),
     }
 }

@@ -4,7 +4,7 @@ ghost use Rattle.serde_json.specs.View.{view};
 ghost use Rattle.hex.specs.Hex.{decode_of};
 ghost use Rattle.http_header.specs.FieldName.{is_field_name};
 ghost use Rattle.std.specs.Result.{result_ok};
-ghost use Rattle.cfg_script.specs.Values.{header_name_of, hex_bytes_of, command_status_of, http_status_of, one_call_of};
+ghost use Rattle.cfg_script.specs.Values.{header_name_of, hex_bytes_of, command_status_of, http_status_of, call_count_of};
 
 use crate::fault::{Fault, Wanted, here, unless_read};
 use crate::names::Hex;
@@ -145,33 +145,39 @@ impl Part for Natural {
     }
 }
 
-fn read_one_call(value: &Value) -> Option<()>
-    ensures { result ≡ one_call_of (view value.now) }
+#[tactic(auto, unfolding(crate::specs::Values::call_count_of))]
+fn read_call_count(value: &Value) -> Option<u64>
+    ensures { result ≡ call_count_of (view value.now) }
 {
-    let calls = value.as_u64()?;
-    if calls == 1 { Some(()) } else { None }
+    let count = value.as_u64()?;
+    if 1 <= count && count <= 100 {
+        Some(count)
+    } else {
+        None
+    }
 }
 
-/// One call in all.
-pub(crate) struct OneCall;
+/// How many calls are made.
+pub(crate) struct CallCount;
 
-impl Part for OneCall {
-    ghost use Rattle.cfg_script.specs.Values.{one_call};
+impl Part for CallCount {
+    ghost use Rattle.std.specs.Prelude.{ℕ};
+    ghost use Rattle.cfg_script.specs.Values.{call_count};
 
-    type Read = ();
+    type Read = u64;
 
-    ghost Plain = { Unit {0} };
+    ghost Plain = { ℕ };
 
-    ghost seen = { λ u. u };
+    ghost seen = { λ n. n };
 
-    ghost form = { one_call };
+    ghost form = { call_count };
 
-    fn read(_: Global, value: Value) -> Result<(), ScriptError> {
-        read_one_call(&value).ok_or(ScriptError::NoScript)
+    fn read(_: Global, value: Value) -> Result<u64, ScriptError> {
+        read_call_count(&value).ok_or(ScriptError::NoScript)
     }
 
     fn find_fault(alloc: Global, value: Value) -> Result<Option<Fault>, OutOfMemory> {
-        Ok(unless_read(alloc, Wanted::Calls, read_one_call(&value)))
+        Ok(unless_read(alloc, Wanted::Calls, read_call_count(&value)))
     }
 }
 

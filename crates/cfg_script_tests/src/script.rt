@@ -1,6 +1,6 @@
 // What no clause says: that the definition is the script that was meant, printed texts, and that
 // reading succeeds.
-use cfg_script::{Script, ScriptError, ScriptProfiles, find_fault, find_unbuilt, read_script};
+use cfg_script::{Script, ScriptError, ScriptProfiles, find_fault, read_script};
 use cfg_types::{FailKind, OutOfMemory, Reply, StsCredentials, StsReply};
 use std::alloc::{AllocError, Global};
 use std::test::Fail;
@@ -10,7 +10,6 @@ fn outcome(alloc: Global, bytes: &[u8]) -> &'static str {
     match read_script(alloc, bytes) {
         Ok(_) => "script",
         Err(ScriptError::NoScript) => "no script",
-        Err(ScriptError::NotBuilt) => "not built",
         Err(ScriptError::OutOfMemory) => "out of memory",
     }
 }
@@ -162,21 +161,36 @@ fn refuses_other_replies(rt: HostRuntime) -> Result<(), Fail> {
     Ok(())
 }
 
+// How many calls the bytes say, or none where they are no script.
+fn calls_said(alloc: Global, bytes: &[u8]) -> Result<Option<u64>, ScriptError> {
+    match read_script(alloc, bytes) {
+        Ok(script) => Ok(Some(script.calls)),
+        Err(ScriptError::NoScript) => Ok(None),
+        Err(ScriptError::OutOfMemory) => Err(ScriptError::OutOfMemory),
+    }
+}
+
 #[test]
-fn one_call_is_built(rt: HostRuntime) {
-    let table: &[(&str, &str)] = &[
-        ("{\"calls\":1}", "script"),
-        ("{\"calls\":2}", "not built"),
-        ("{\"calls\":100}", "not built"),
-        ("{\"calls\":0}", "no script"),
-        ("{\"calls\":101}", "no script"),
-        ("{\"calls\":1.0}", "no script"),
-        ("{\"calls\":\"1\"}", "no script"),
-        ("{\"calls\":[]}", "no script"),
+fn calls_are_from_one_to_a_hundred(rt: HostRuntime) -> Result<(), Fail> {
+    let table: &[(&str, Option<u64>)] = &[
+        ("{}", Some(1)),
+        ("{\"calls\":1}", Some(1)),
+        ("{\"calls\":2}", Some(2)),
+        ("{\"calls\":100}", Some(100)),
+        ("{\"calls\":0}", None),
+        ("{\"calls\":101}", None),
+        ("{\"calls\":-1}", None),
+        ("{\"calls\":1.0}", None),
+        ("{\"calls\":1.5}", None),
+        ("{\"calls\":\"2\"}", None),
+        ("{\"calls\":null}", None),
+        ("{\"calls\":[]}", None),
+        ("{\"calls\":\"x\",\"calls\":2}", Some(2)),
     ];
     for (text, want) in table {
-        assert_eq!(rt; outcome(rt.alloc(), text.as_bytes()), *want, "{text}");
+        assert_eq!(rt; calls_said(rt.alloc(), text.as_bytes())?, *want, "{text}");
     }
+    Ok(())
 }
 
 // Lists that nest so deep, under a name that a later member hides: whether the text is read at all
@@ -303,12 +317,9 @@ fn reads_every_reply(rt: HostRuntime) -> Result<(), Fail> {
     Ok(())
 }
 
-// The line of a script's fault, or of a name that is not built, or none.
+// The line of a script's fault, or none.
 fn fault_line(alloc: Global, bytes: &[u8]) -> Result<String, OutOfMemory> {
-    if let Some(fault) = find_fault(alloc, bytes)? {
-        return Ok(format!(in alloc; "{fault}")?);
-    }
-    match find_unbuilt(alloc, bytes)? {
+    match find_fault(alloc, bytes)? {
         Some(fault) => Ok(format!(in alloc; "{fault}")?),
         None => Ok(String::from_str(alloc, "none")?),
     }
@@ -384,7 +395,10 @@ fn tells_faults(rt: HostRuntime) -> Result<(), Fail> {
             "{\"replies\":{\"assume-role\":1}}",
             "replies.assume-role: a list is wanted",
         ),
-        ("{\"calls\":2}", "calls: not built yet"),
+        (
+            "{\"calls\":101}",
+            "calls: calls are a whole number from 1 to 100",
+        ),
         (
             "{\"replies\":{\"http\":1}}",
             "replies.http: a list is wanted",

@@ -45,7 +45,7 @@ left_alone at made [] (e ∷ part) out h = absurd h
 left_alone at made (f ∷ found) part out h = absurd h
 
 -- a tree, and a reading of its outcome
-given_then : {A B : Type 0} (p : KeptInquiry A) (g : A → B) (found : List Value) (part : List Pair) (out : B) → Reads (onwards p (λ x. Gives (g x))) found part out → (x : A) × Reads p found part x × (out ≡ g x)
+pub given_then : {A B : Type 0} (p : KeptInquiry A) (g : A → B) (found : List Value) (part : List Pair) (out : B) → Reads (onwards p (λ x. Gives (g x))) found part out → (x : A) × Reads p found part x × (out ≡ g x)
 given_then p g found part out h =
     let s = split_onwards p (λ x. Gives (g x)) found part out h in
     let a = given_alone (g s.middle) s.found_then s.rest out s.then in (

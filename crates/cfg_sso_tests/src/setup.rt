@@ -39,6 +39,7 @@ fn set_up_by(alloc: Global, script: Script) -> Result<Setup, OutOfMemory>
         selected: _,
         region: _,
         sleep: _,
+        calls: _,
         devices,
     } = script;
     set_up_over(alloc, variables, devices)

@@ -4,7 +4,7 @@ use Rattle.cfg_world.specs.declared.asking.Asking.{Ghosts}
 use Rattle.cfg_world.specs.Fits.{Pair, EachFits}
 use Rattle.cfg_world.specs.Inquiry.{Inquiry, Done, after}
 use Rattle.cfg_world.specs.Follows.{Ends, Waits, Breaks}
-use Rattle.cfg_world.proofs.Counts.{Same-refl, Same-trans, Counted-none, Counted-then}
+use Rattle.cfg_world.proofs.Counts.{Same-refl, Same-trans, StandsOn-none, StandsOn-then, Counted-none, Counted-then}
 use Rattle.cfg_world.proofs.Inquiries.{reads_after, waits_after, waits_first, breaks_after, breaks_first, breaks_here}
 use Rattle.cfg_token.specs.Notes.{NotedEnds}
 
@@ -18,7 +18,7 @@ module _ {W : Type 0} {w : Ghosts W} where
 
   pub noted_after : {A B : Type 0} {p : Inquiry A} (f : A → Inquiry B) {old mid new : W} {r s u : List Pair} {x : A} {out : B} →
       NotedEnds w p old r mid s x → NotedEnds w (f x) mid s new u out → NotedEnds w (after p f) old r new u out
-  noted_after {p = p} f {old = old} {r = r} {x = x} {out = out} a b = record {
+  noted_after {p = p} f {old = old} {mid = mid} {new = new} {r = r} {x = x} {out = out} a b = record {
     part = a.part ++ b.part;
     grows = b.grows ∙ ap (λ t. t ++ b.part) a.grows ∙ append_assoc (w.journal old) a.part b.part;
     receipts = b.receipts ∙ ap (λ t. t ++ b.part) a.receipts ∙ append_assoc r a.part b.part;
@@ -26,7 +26,7 @@ module _ {W : Type 0} {w : Ghosts W} where
     made = b.made ∙ a.made;
     same = Same-trans a.same b.same;
     counted = Counted-then a.counted b.counted;
-    stands = λ h. b.stands (a.stands h);
+    stands = StandsOn-then (w.stands old) (w.stands mid) (w.stands new) a.part b.part a.stands b.stands;
     reads = reads_after p f a.part b.part x out a.reads b.reads;
   }
 
@@ -39,6 +39,6 @@ module _ {W : Type 0} {w : Ghosts W} where
   noted_breaks_after f {r = r} {s = s} a b = breaks_after f (without_receipts r s a) b
 
   pub noted_done : {A : Type 0} {x : A} {old : W} {r : List Pair} → NotedEnds w (Done x) old r old r x
-  noted_done {old = old} {r = r} = record { part = []; grows = sym (append-nil (w.journal old)); receipts = sym (append-nil r); fits = tt; made = refl; same = Same-refl _; counted = Counted-none _; stands = λ h. h; reads = refl }
+  noted_done {old = old} {r = r} = record { part = []; grows = sym (append-nil (w.journal old)); receipts = sym (append-nil r); fits = tt; made = refl; same = Same-refl _; counted = Counted-none _; stands = StandsOn-none (w.stands old); reads = refl }
 
 pub ruleset noted_steps = (noted_after, noted_waits_after, noted_breaks_after, noted_done, waits_first, breaks_first, breaks_here)

@@ -4,7 +4,7 @@ use Rattle.cfg_world.specs.declared.asking.Asking.{Ghosts}
 use Rattle.cfg_world.specs.declared.asking.Stop.{Stop}
 use Rattle.cfg_world.specs.Fits.{Pair, EachFits}
 use Rattle.cfg_world.specs.Faults.{Counted}
-use Rattle.cfg_world.specs.Asked.{Same}
+use Rattle.cfg_world.specs.Asked.{Same, StandsOn}
 use Rattle.cfg_world.specs.Inquiry.{Inquiry, Reads}
 use Rattle.cfg_world.specs.Follows.{Halts}
 
@@ -18,7 +18,7 @@ pub record NotedEnds {A R : Type 0} (a : Ghosts A) (inquiry : Inquiry R) (old : 
   pub made : a.made_of new ≡ a.made_of old
   pub same : Same (a.allows old) (a.allows new)
   pub counted : Counted part (a.faults old) (a.faults new)
-  pub stands : a.stands old (a.journal old) → a.stands new (a.journal new)
+  pub stands : StandsOn (a.stands old) (a.stands new) part
   pub reads : Reads inquiry part out
 
 -- a call that answers the inquiry's outcome; where it was stopped its receipts are given up

@@ -6,7 +6,7 @@ use Rattle.cfg_world.specs.declared.asking.Asking.{Ghosts}
 use Rattle.cfg_world.specs.declared.asking.Stop.{Stop}
 use Rattle.cfg_world.specs.Fits.{Pair, EachFits}
 use Rattle.cfg_world.specs.Faults.{Counted}
-use Rattle.cfg_world.specs.Asked.{Same}
+use Rattle.cfg_world.specs.Asked.{Same, StandsOn}
 use Rattle.cfg_world.specs.Inquiry.{Inquiry, Reads}
 use Rattle.cfg_world.specs.Follows.{Halts, Breaks}
 use Rattle.cfg_token.specs.declared.token_key.TokenKey.{TokenKey}
@@ -29,7 +29,7 @@ pub record SectionEnds {A T E : Type 0} (t : Rules T E) (a : Ghosts A) (key : To
   pub made_of : a.made_of new ≡ a.made_of old
   pub same : Same (a.allows old) (a.allows new)
   pub counted : Counted part (a.faults old) (a.faults new)
-  pub stands : a.stands old (a.journal old) → a.stands new (a.journal new)
+  pub stands : StandsOn (a.stands old) (a.stands new) part
   pub reads : Reads (section_on t key before env settings) part made
 
 -- A section that was stopped left the state as it was.

@@ -122,6 +122,7 @@ fn sections_by(alloc: Global, all: bool, script: Script) -> Result<String, OutOf
         selected: _,
         region: _,
         sleep: _,
+        calls: _,
         devices,
     } = script;
     let env = Env::new(alloc, variables)?;

@@ -1,14 +1,20 @@
 -- Faults of one stretch after another.
-use Rattle.std.proofs.Common.{◌≡◌, ℕ, ◌+◌, List, [], ◌∷◌, ◌++◌, sym, subst, arith}
+use Rattle.std.proofs.Common.{◌≡◌, ℕ, ◌+◌, List, [], ◌∷◌, ◌++◌, sym, subst, arith, append_assoc, append-nil}
 use Rattle.cfg_world.specs.Fits.{Pair}
 use Rattle.cfg_world.specs.Faults.{Faults, Device, Files, Transport, Commands, LookUps, Rises, Counted, failures_in}
-use Rattle.cfg_world.specs.Asked.{Same}
+use Rattle.cfg_world.specs.Asked.{Same, StandsOn}
 
 pub Same-refl : (a : List Pair → Type 0) → Same a a
 Same-refl a = record { to = λ l h. h; from = λ l h. h }
 
 pub Same-trans : {a b c : List Pair → Type 0} → Same a b → Same b c → Same a c
 Same-trans p q = record { to = λ l h. q.to l (p.to l h); from = λ l h. p.from l (q.from l h) }
+
+pub StandsOn-none : (s : List Pair → Type 0) → StandsOn s s []
+StandsOn-none s entries h = subst s (sym (append-nil entries)) h
+
+pub StandsOn-then : (a b c : List Pair → Type 0) (p q : List Pair) → StandsOn a b p → StandsOn b c q → StandsOn a c (p ++ q)
+StandsOn-then a b c p q one other entries h = subst c (append_assoc entries p q) (other (entries ++ p) (one entries h))
 
 -- a full count is a count of 64 bits
 still : (n : ℕ) → Rises 0 n n

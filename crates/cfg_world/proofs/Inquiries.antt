@@ -5,7 +5,7 @@ use Rattle.cfg_world.specs.declared.asking.Asking.{Ghosts}
 use Rattle.cfg_world.specs.Fits.{Pair, EachFits}
 use Rattle.cfg_world.specs.Inquiry.{Inquiry, Done, Ask, Reads, AsksNext, Begun, after}
 use Rattle.cfg_world.specs.Follows.{Ends, Waits, Breaks}
-use Rattle.cfg_world.proofs.Counts.{Same-refl, Same-trans, Counted-none, Counted-then}
+use Rattle.cfg_world.proofs.Counts.{Same-refl, Same-trans, StandsOn-none, StandsOn-then, Counted-none, Counted-then}
 
 pub reads_after : {A B : Type 0} (p : Inquiry A) (f : A → Inquiry B) (J K : List Pair) (x : A) (out : B) →
     Reads p J x → Reads (f x) K out → Reads (after p f) (J ++ K) out
@@ -63,27 +63,27 @@ module _ {W : Type 0} {w : Ghosts W} where
   -- one call after another
   pub ends_after : {A B : Type 0} {p : Inquiry A} (f : A → Inquiry B) {old mid new : W} {x : A} {out : B} →
       Ends w p old mid x → Ends w (f x) mid new out → Ends w (after p f) old new out
-  ends_after {p = p} f {old = old} {x = x} {out = out} a b = record {
+  ends_after {p = p} f {old = old} {mid = mid} {new = new} {x = x} {out = out} a b = record {
     part = a.part ++ b.part;
     grows = b.grows ∙ ap (λ t. t ++ b.part) a.grows ∙ append_assoc (w.journal old) a.part b.part;
     fits = fits_append a.part b.part a.fits b.fits;
     made = b.made ∙ a.made;
     same = Same-trans a.same b.same;
     counted = Counted-then a.counted b.counted;
-    stands = λ h. b.stands (a.stands h);
+    stands = StandsOn-then (w.stands old) (w.stands mid) (w.stands new) a.part b.part a.stands b.stands;
     reads = reads_after p f a.part b.part x out a.reads b.reads;
   }
 
   pub waits_after : {A B : Type 0} {p : Inquiry A} (f : A → Inquiry B) {old mid new : W} {x : A} →
       Ends w p old mid x → Waits w (f x) mid new → Waits w (after p f) old new
-  waits_after {p = p} f {old = old} {new = new} {x = x} a b = record {
+  waits_after {p = p} f {old = old} {mid = mid} {new = new} {x = x} a b = record {
     part = a.part ++ b.part;
     grows = b.grows ∙ ap (λ t. t ++ b.part) a.grows ∙ append_assoc (w.journal old) a.part b.part;
     fits = fits_append a.part b.part a.fits b.fits;
     made = b.made ∙ a.made;
     same = Same-trans a.same b.same;
     counted = Counted-then a.counted b.counted;
-    stands = λ h. b.stands (a.stands h);
+    stands = StandsOn-then (w.stands old) (w.stands mid) (w.stands new) a.part b.part a.stands b.stands;
     asks = asks_open_after p f a.part b.part x (w.open_question new) a.reads b.asks;
     is_open = b.is_open;
   }
@@ -117,7 +117,7 @@ module _ {W : Type 0} {w : Ghosts W} where
   breaks_first {p = p} f b = record { part = b.part; grows = b.grows; fits = b.fits; made = b.made; same = b.same; counted = b.counted; begun = begun_first p f b.part b.begun }
 
   pub ends_done : {A : Type 0} {r : A} {old : W} → Ends w (Done r) old old r
-  ends_done {old = old} = record { part = []; grows = sym (append-nil (w.journal old)); fits = tt; made = refl; same = Same-refl _; counted = Counted-none _; stands = λ h. h; reads = refl }
+  ends_done {old = old} = record { part = []; grows = sym (append-nil (w.journal old)); fits = tt; made = refl; same = Same-refl _; counted = Counted-none _; stands = StandsOn-none (w.stands old); reads = refl }
 
   -- where nothing was asked yet
   pub breaks_here : {A : Type 0} {p : Inquiry A} {old : W} → Breaks w p old old

@@ -18,6 +18,10 @@ abbrev pub entered : Question → Option Answer → List Pair
 entered asked None = []
 entered asked (Some answer) = (asked, answer) ∷ []
 
+-- What stood for a list stands for it with this part behind it.
+abbrev pub StandsOn : (List Pair → Type 0) → (List Pair → Type 0) → List Pair → Type 0
+StandsOn old new part = (entries : List Pair) → old entries → new (entries ++ part)
+
 -- One question was put to the devices. Without an answer memory ran out.
 pub record Asked (old_faults new_faults : Faults) (old_allows new_allows old_stands new_stands : List Pair → Type 0) (asked : Question) (given : Option Answer) : Type 0 where
   -- no call changes which lists are allowed
@@ -27,7 +31,7 @@ pub record Asked (old_faults new_faults : Faults) (old_allows new_allows old_sta
   -- the answer fits the question
   pub fits : IfSome given (λ a. Fits asked a)
   -- devices that stood for a list stand for it with this entry behind it
-  pub stands : IfSome given (λ a. (entries : List Pair) → old_stands entries → new_stands (entries ++ (asked, a) ∷ []))
+  pub stands : IfSome given (λ a. StandsOn old_stands new_stands ((asked, a) ∷ []))
 
 -- the answer of a device that failed, if it has one
 abbrev pub failure_of : Fault → Option Answer

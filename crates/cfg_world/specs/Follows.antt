@@ -7,7 +7,7 @@ use Rattle.cfg_world.specs.declared.asking.Halt.{Halt}
 use Rattle.cfg_world.specs.declared.asking.Halt.TheVariants.{Stopped, Refused}
 use Rattle.cfg_world.specs.Fits.{Pair, EachFits}
 use Rattle.cfg_world.specs.Faults.{Counted}
-use Rattle.cfg_world.specs.Asked.{Same}
+use Rattle.cfg_world.specs.Asked.{Same, StandsOn}
 use Rattle.cfg_world.specs.Inquiry.{Inquiry, Reads, AsksNext, Begun}
 
 -- The journal grew by a part over which the inquiry came to this outcome.
@@ -18,7 +18,7 @@ pub record Ends {A R : Type 0} (a : Ghosts A) (inquiry : Inquiry R) (old new : A
   pub made : a.made_of new ≡ a.made_of old
   pub same : Same (a.allows old) (a.allows new)
   pub counted : Counted part (a.faults old) (a.faults new)
-  pub stands : a.stands old (a.journal old) → a.stands new (a.journal new)
+  pub stands : StandsOn (a.stands old) (a.stands new) part
   pub reads : Reads inquiry part out
 
 -- It grew by a part after which the inquiry asks the question that is left open.
@@ -29,7 +29,7 @@ pub record Waits {A R : Type 0} (a : Ghosts A) (inquiry : Inquiry R) (old new : 
   pub made : a.made_of new ≡ a.made_of old
   pub same : Same (a.allows old) (a.allows new)
   pub counted : Counted part (a.faults old) (a.faults new)
-  pub stands : a.stands old (a.journal old) → a.stands new (a.journal new)
+  pub stands : StandsOn (a.stands old) (a.stands new) part
   pub asks : IfSome (a.open_question new) (AsksNext inquiry part)
   pub is_open : IsSome (a.open_question new)
 

@@ -3,16 +3,17 @@ use Rattle.std.specs.Prelude.{◌≡◌, List, ◌++◌}
 use Rattle.cfg_world.specs.declared.devices.Devices.{Ghosts}
 use Rattle.cfg_world.specs.Fits.{Pair, EachFits}
 use Rattle.cfg_world.specs.Faults.{Counted}
-use Rattle.cfg_world.specs.Asked.{Same}
+use Rattle.cfg_world.specs.Asked.{Same, StandsOn}
 use Rattle.cfg_world.specs.Held.{Held}
 
--- The journal grew by exactly this part. Devices that stood for the journal go on standing for it.
+-- The journal grew by exactly this part. Devices that stood for a list stand for it with the part behind
+-- it, whatever of the list the journal still has.
 pub record Grows {D : Type 0} (d : Ghosts D) (part : List Pair) (old new : Held D) : Type 0 where
   pub journal : new.journal ≡ old.journal ++ part
   pub fits : EachFits part
   pub same : Same (d.allows old.devices) (d.allows new.devices)
   pub counted : Counted part (d.faults old.devices) (d.faults new.devices)
-  pub stands : d.stands old.devices old.journal → d.stands new.devices new.journal
+  pub stands : StandsOn (d.stands old.devices) (d.stands new.devices) part
 
 -- The same of a stretch that ended out of memory: the devices may have been asked once more.
 pub record Stays {D : Type 0} (d : Ghosts D) (part : List Pair) (old new : Held D) : Type 0 where

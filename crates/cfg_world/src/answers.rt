@@ -64,7 +64,7 @@ impl Asking for Answers {
     ghost use Rattle.std.specs.Prelude.{◌≢◌};
     ghost use Rattle.cfg_world.specs.Fits.{Fits};
     ghost use Rattle.cfg_world.specs.Faults.{Counted};
-    ghost use Rattle.cfg_world.specs.Asked.{Same};
+    ghost use Rattle.cfg_world.specs.Asked.{Same, StandsOn};
     ghost use Rattle.cfg_world.specs.Put.{put_entry};
     ghost use Rattle.cfg_world.specs.Tallies.{any_list};
 
@@ -89,7 +89,7 @@ impl Asking for Answers {
         ensures counted { Counted (put_entry result) (shown_failures self.old.handed) (shown_failures self.new.handed) }
         ensures made { all_entries self.new ≡ all_entries self.old }
         ensures same { Same any_list any_list }
-        ensures stands { result ≢ Err Stop.OutOfMemory → any_list self.old.handed → any_list self.new.handed }
+        ensures stands { result ≢ Err Stop.OutOfMemory → StandsOn any_list any_list (put_entry result) }
         ensures handed_out { IfOk result (λ e. self.old ≡ record self.new { handed = self.old.handed; left = e ∷ self.new.left }) }
         ensures next { IfOk result (λ e. IsNext self.old.left question) }
         ensures left_open { result ≡ Err Stop.Open → (IsNext self.old.left question → ⊥) × (self.new ≡ record self.old { unanswered = Some question }) }

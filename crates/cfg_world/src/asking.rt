@@ -3,7 +3,7 @@ ghost use Rattle.std.specs.Prelude.{◌≡◌, ◌≢◌, ◌++◌, ◌∷◌, [
 ghost use Rattle.cfg_world.specs.declared.ask.Question.{Question as QuestionAsked};
 ghost use Rattle.cfg_world.specs.Fits.{Fits, Pair};
 ghost use Rattle.cfg_world.specs.Faults.{Faults, Counted};
-ghost use Rattle.cfg_world.specs.Asked.{Same};
+ghost use Rattle.cfg_world.specs.Asked.{Same, StandsOn};
 ghost use Rattle.cfg_world.specs.Put.{put_entry, nothing};
 
 use crate::ask::Question;
@@ -90,7 +90,7 @@ pub trait Asking {
         ensures counted { Counted (put_entry result) (faults self.old) (faults self.new) }
         ensures made { made_of self.new ≡ made_of self.old }
         ensures same { Same (allows self.old) (allows self.new) }
-        ensures stands { result ≢ Err Stop.OutOfMemory → stands self.old (journal self.old) → stands self.new (journal self.new) };
+        ensures stands { result ≢ Err Stop.OutOfMemory → StandsOn (stands self.old) (stands self.new) (put_entry result) };
 
     /// What stands is allowed.
     ghost stands_allowed: { (asking : Self) (entries : List Pair) → stands asking entries → allows asking entries };
@@ -121,7 +121,7 @@ impl<D: Devices> Asking for World<D> {
         ensures counted { Counted (put_entry result) (D.faults self.old.devices) (D.faults self.new.devices) }
         ensures made { nothing ≡ nothing }
         ensures same { Same (D.allows self.old.devices) (D.allows self.new.devices) }
-        ensures stands { result ≢ Err Stop.OutOfMemory → D.stands self.old.devices self.old.journal → D.stands self.new.devices self.new.journal }
+        ensures stands { result ≢ Err Stop.OutOfMemory → StandsOn (D.stands self.old.devices) (D.stands self.new.devices) (put_entry result) }
         ensures never_open { result ≢ Err Stop.Open }
     {
         let receipt = self.ask(question)?;

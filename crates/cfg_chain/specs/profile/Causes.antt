@@ -1,6 +1,6 @@
 -- Why the selected profile gives no credentials.
 use Rattle.std.specs.Option.{option_or}
-use Rattle.std.specs.Prelude.{◌≡◌, ℕ, List, [], ◌∷◌, ◌++◌, Option, Some, None, option_map, option_and_then, Ok, Err, codes, if◌then◌else◌}
+use Rattle.std.specs.Prelude.{◌≡◌, ℕ, List, [], ◌∷◌, ◌++◌, Bool, true, false, Option, Some, None, option_map, option_and_then, Ok, Err, codes}
 use Rattle.std.specs.List.{last_or}
 use Rattle.std.specs.Result.{result_err}
 use Rattle.cfg_types.specs.Replies.{sts_in}
@@ -12,7 +12,10 @@ use Rattle.cfg_world.specs.declared.ask.Question.{Question}
 use Rattle.cfg_world.specs.declared.ask.Question.TheVariants.{Send}
 use Rattle.cfg_world.specs.declared.ask.Answer.{Answer as Given}
 use Rattle.cfg_world.specs.Fits.{Pair}
-use Rattle.cfg_world.specs.Inquiry.{Reads}
+use Rattle.cfg_keeping.specs.Kinds.{Value}
+use Rattle.cfg_keeping.specs.KeptInquiry.{Reads}
+use Rattle.cfg_metadata.specs.Causes.{CauseMetadata}
+use Rattle.cfg_sso.specs.SsoCauses.{SsoCause}
 use Rattle.cfg_world.specs.Leaves.{granted_of}
 use Rattle.cfg_exchange.specs.ContainerCauses.{why_container}
 use Rattle.cfg_profile.specs.declared.chain.BaseProvider.{BaseProvider}
@@ -24,9 +27,9 @@ use Rattle.cfg_providers.specs.CustomSources.{Answer, last_named}
 use Rattle.cfg_providers.specs.EnvironmentCauses.{why_environment}
 use Rattle.cfg_providers.specs.Processes.{why_process}
 use Rattle.cfg_providers.specs.WebIdentities.{why_entry}
-use Rattle.cfg_chain.specs.Settings.{Setting, names_of, container_settings}
+use Rattle.cfg_chain.specs.Settings.{Setting, names_of, container_settings, named_metadata}
 use Rattle.cfg_chain.specs.profile.Plans.{Planned, plan, not_built}
-use Rattle.cfg_chain.specs.profile.Bases.{base_inquiry}
+use Rattle.cfg_chain.specs.profile.Bases.{base_tree, signed_on}
 use Rattle.cfg_chain.specs.profile.Profiles.{refusal}
 
 -- why a container gives no credentials, over its part
@@ -36,26 +39,28 @@ why_by_container s part = why_container s.configuration.environment (container_s
 abbrev pub why_not_built : Option CredentialsError
 why_not_built = Some (InvalidConfiguration (config.Profile not_built))
 
-abbrev pub why_built_in : Setting → List ℕ → List Pair → Option CredentialsError
-why_built_in s name part =
-    if is_alike name (codes "Environment") then why_environment s.configuration.environment
-    else (if is_alike name (codes "EcsContainer") then why_by_container s part else why_not_built)
+-- by whether the name is that of the environment, of a container, of instance metadata
+abbrev pub BuiltInCause : Setting → Bool → Bool → Bool → List Value → List Pair → Answer → Type 0
+BuiltInCause s true container metadata found part given = result_err given ≡ why_environment s.configuration.environment
+BuiltInCause s false true metadata found part given = result_err given ≡ why_by_container s part
+BuiltInCause s false false true found part given = CauseMetadata (named_metadata s) found part given
+BuiltInCause s false false false found part given = result_err given ≡ why_not_built
 
-abbrev pub why_source_or : Option CredentialsError → Option Answer → Option CredentialsError
-why_source_or built_in (Some answer) = result_err answer
-why_source_or built_in None = built_in
+-- one of the caller's own sources by its own answer
+abbrev pub SourceCause : Setting → List ℕ → Option Answer → List Value → List Pair → Answer → Type 0
+SourceCause s name (Some answer) found part given = result_err given ≡ result_err answer
+SourceCause s name None found part given =
+    BuiltInCause s (is_alike name (codes "Environment")) (is_alike name (codes "EcsContainer")) (is_alike name (codes "Ec2InstanceMetadata")) found part given
 
--- why a named source gives no credentials: one of the caller's own by its own answer
-abbrev pub why_named : Setting → List ℕ → List Pair → Option CredentialsError
-why_named s name part = why_source_or (why_built_in s name part) (last_named name s.sources)
-
--- Why a base gives no credentials, over its part, by the rule of its provider.
-abbrev pub why_base : Setting → BaseProvider → List Pair → Option CredentialsError
-why_base s (base.AccessKey keys) part = None
-why_base s (base.NamedSource name) part = why_named s name part
-why_base s (base.WebIdentityTokenRole arn file session) part = option_and_then why_entry (last_or None part)
-why_base s (base.CredentialProcess command account) part = why_process account part
-why_base s _ part = why_not_built
+-- Why a base gives no credentials, over what it found and its part, by the rule of its provider: a line
+-- for each.
+abbrev pub BaseCause : Setting → BaseProvider → List Value → List Pair → Answer → Type 0
+BaseCause s (base.AccessKey keys) found part given = result_err given ≡ None
+BaseCause s (base.NamedSource name) found part given = SourceCause s name (last_named name s.sources) found part given
+BaseCause s (base.WebIdentityTokenRole arn file session) found part given = result_err given ≡ option_and_then why_entry (last_or None part)
+BaseCause s (base.CredentialProcess command account) found part given = result_err given ≡ why_process account part
+BaseCause s (base.Sso session region url (Some account) (Some role)) found part given = SsoCause s.configuration (signed_on session region url account role) found part given
+BaseCause s _ found part given = result_err given ≡ why_not_built
 
 -- why the exchange of an entry gives no credentials: it failed, was refused, or its reply cannot be used
 abbrev pub exchange_failure : Question → Given → Option CredentialsError
@@ -73,22 +78,22 @@ of_base e = ProviderError (cause.Base e)
 abbrev pub of_role : CredentialsError → CredentialsError
 of_role e = ProviderError (cause.Role e)
 
--- The part of a plan is that of its base, and then that of its roles. The answer is an error exactly
+-- The part of a plan is that of its base, which found all the values, and then that of its roles. The answer is an error exactly
 -- where the base gives one, or else an exchange for a role does, and tells of that one.
-pub record PlanCause (s : Setting) (p : ProfileChain) (part : List Pair) (out : Answer) : Type 0 where
+pub record PlanCause (s : Setting) (p : ProfileChain) (found : List Value) (part : List Pair) (out : Answer) : Type 0 where
   pub base_part : List Pair
   pub role_part : List Pair
   pub parts : part ≡ base_part ++ role_part
   pub given : Answer
-  pub base_reads : Reads (base_inquiry s p.base) base_part given
-  pub base_cause : result_err given ≡ why_base s p.base base_part
+  pub base_reads : Reads (base_tree s p.base) found base_part given
+  pub base_cause : BaseCause s p.base found base_part given
   pub cause : result_err out ≡ option_or (option_map of_base (result_err given)) (option_map of_role (first_failure role_part))
 
-abbrev pub PlannedCause : Setting → Planned → List Pair → Answer → Type 0
-PlannedCause s (Err e) part out = (part ≡ []) × (result_err out ≡ Some (refusal e))
-PlannedCause s (Ok p) part out = PlanCause s p part out
+abbrev pub PlannedCause : Setting → Planned → List Value → List Pair → Answer → Type 0
+PlannedCause s (Err e) found part out = (found ≡ []) × (part ≡ []) × (result_err out ≡ Some (refusal e))
+PlannedCause s (Ok p) found part out = PlanCause s p found part out
 
 -- Why the selected profile gives no credentials: there is no plan, and nothing is asked; or its base
 -- gives none, or a role.
-abbrev pub ProfileCause : Setting → List Pair → Answer → Type 0
-ProfileCause s part out = PlannedCause s (plan s.configuration (names_of s.sources)) part out
+abbrev pub ProfileCause : Setting → List Value → List Pair → Answer → Type 0
+ProfileCause s found part out = PlannedCause s (plan s.configuration (names_of s.sources)) found part out

@@ -1,5 +1,5 @@
 -- What the selected profile gives credentials by, as far as it is built.
-use Rattle.std.specs.Prelude.{ℕ, List, Bool, true, false, not, ◌||◌, None, Result, Ok, Err, codes, if◌then◌else◌}
+use Rattle.std.specs.Prelude.{ℕ, List, [], Bool, true, false, not, Option, None, Result, Ok, Err, codes, if◌then◌else◌}
 use Rattle.cfg_values.specs.Gives.{◌>>=◌}
 use Rattle.cfg_types.specs.declared.errors.ProfileFileError.{ProfileFileError}
 use Rattle.cfg_types.specs.declared.errors.ProfileFileError.TheVariants.{InvalidProfile, FeatureNotEnabled}
@@ -8,11 +8,12 @@ use Rattle.cfg_profile.specs.declared.sections.ProfileSource.TheVariants.{Sectio
 use Rattle.cfg_profile.specs.declared.chain.BaseProvider.{BaseProvider}
 use Rattle.cfg_profile.specs.declared.chain.BaseProvider.TheVariants as base
 use Rattle.cfg_profile.specs.declared.chain.ProfileChain.{ProfileChain}
-use Rattle.cfg_profile.specs.NamedSources.{is_alike, is_custom}
 use Rattle.cfg_profile.specs.SectionSets.{SectionSets}
 use Rattle.cfg_profile.specs.Configuration.{Configuration}
 use Rattle.cfg_profile.specs.Selected.{selected_name}
 use Rattle.cfg_profile.proofs.PlanLaws.{the_plan}
+use Rattle.cfg_sso.specs.Tokens.{key_by}
+use Rattle.cfg_token.specs.declared.token_key.TokenKey.{TokenKey}
 
 abbrev pub Planned : Type 0
 Planned = Result ProfileChain ProfileFileError
@@ -26,24 +27,18 @@ profile_plan sets name sources = (the_plan sets name sources).answer
 abbrev pub not_built : ProfileFileError
 not_built = FeatureNotEnabled (codes "profile-providers") None
 
--- whether a named source is built: the caller's own are, the environment and a container
-abbrev pub is_built_source : List (List ℕ) → List ℕ → Bool
-is_built_source sources name = is_custom sources name || (is_alike name (codes "Environment") || is_alike name (codes "EcsContainer"))
-
--- whether a base is built: all but instance metadata, single sign-on and a sign-in
-abbrev pub is_built_base : List (List ℕ) → BaseProvider → Bool
-is_built_base sources (base.NamedSource name) = is_built_source sources name
-is_built_base sources (base.Sso session region url account role) = false
-is_built_base sources (base.LoginSession arn) = false
-is_built_base sources _ = true
+-- whether a base is built: all but a sign-in
+abbrev pub is_built_base : BaseProvider → Bool
+is_built_base (base.LoginSession arn) = false
+is_built_base _ = true
 
 -- a plan whose base is built
-abbrev pub built : List (List ℕ) → ProfileChain → Planned
-built sources chain = if is_built_base sources chain.base then Ok chain else Err not_built
+abbrev pub built : ProfileChain → Planned
+built chain = if is_built_base chain.base then Ok chain else Err not_built
 
 abbrev pub plan_in : ProfileSource → List ℕ → List (List ℕ) → Planned
 plan_in (Refused reason) name sources = Err (InvalidProfile reason)
-plan_in (Sections sets) name sources = profile_plan sets name sources >>= built sources
+plan_in (Sections sets) name sources = profile_plan sets name sources >>= built
 
 -- what the selected profile gives credentials by, or why it gives none
 unfoldable pub plan : Configuration → List (List ℕ) → Planned
@@ -60,3 +55,18 @@ is_built_plan (Err e) = not (is_not_built_error e)
 -- whether the plan is one that is built
 abbrev pub is_built : Configuration → List (List ℕ) → Bool
 is_built conf sources = is_built_plan (plan conf sources)
+
+-- ---- whose token is kept
+
+-- whose token a base needs: that of a session of IAM Identity Center, where it names one
+abbrev pub key_of_base : BaseProvider → Option TokenKey
+key_of_base (base.Sso session region url account role) = key_by session region url
+key_of_base _ = None
+
+abbrev pub key_of_plan : Planned → Option TokenKey
+key_of_plan (Ok p) = key_of_base p.base
+key_of_plan (Err e) = None
+
+-- Whose token a configuration needs. It is the same whatever sources the caller has.
+unfoldable pub key_of : Configuration → Option TokenKey
+key_of conf = key_of_plan (plan conf [])

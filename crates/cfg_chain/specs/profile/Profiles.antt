@@ -8,7 +8,8 @@ use Rattle.cfg_types.specs.declared.errors.CredentialsError.{CredentialsError}
 use Rattle.cfg_types.specs.declared.errors.CredentialsError.TheVariants as error
 use Rattle.cfg_types.specs.declared.errors.ProfileFileError.{ProfileFileError}
 use Rattle.cfg_types.specs.declared.errors.ProfileFileError.TheVariants as plan_error
-use Rattle.cfg_world.specs.Inquiry.{Inquiry, Done, after, ◌>>=◌}
+use Rattle.cfg_world.specs.Inquiry.{Inquiry, Done, after}
+use Rattle.cfg_keeping.specs.KeptInquiry.{KeptInquiry, Gives, lift, ◌>>=◌}
 use Rattle.cfg_profile.specs.declared.chain.ProfileChain.{ProfileChain}
 use Rattle.cfg_profile.specs.declared.chain.RoleArn.{RoleArn}
 use Rattle.cfg_profile.specs.Configuration.{Configuration}
@@ -46,13 +47,13 @@ unfoldable pub derived : Configuration → List RoleArn → Keys → Inquiry Ans
 derived conf roles keys = after (assumes_roles conf roles keys) (λ last. Done (marked last))
 
 -- the first credentials, and then the roles
-unfoldable pub follows_planned : Setting → ProfileChain → Inquiry Answer
-follows_planned s p = based s p.base >>= derived s.configuration p.roles
+unfoldable pub follows_planned : Setting → ProfileChain → KeptInquiry Answer
+follows_planned s p = based s p.base >>= λ keys. lift (derived s.configuration p.roles keys)
 
-abbrev pub follows_plan : Setting → Planned → Inquiry Answer
-follows_plan s (Err e) = Done (Err (refusal e))
+abbrev pub follows_plan : Setting → Planned → KeptInquiry Answer
+follows_plan s (Err e) = Gives (Err (refusal e))
 follows_plan s (Ok p) = follows_planned s p
 
 -- the questions of the plan's base and of its roles, and what is read over their answers
-unfoldable pub profile : Setting → Inquiry Answer
+unfoldable pub profile : Setting → KeptInquiry Answer
 profile s = follows_plan s (plan s.configuration (names_of s.sources))

@@ -1,22 +1,30 @@
 //! The default chain of credentials providers.
-ghost use Rattle.std.specs.Prelude.{◌≡◌, [], IfOk, Some, None, true, false};
+ghost use Rattle.std.specs.Option.{option_copied};
+ghost use Rattle.std.specs.Prelude.{◌≡◌, [], IfOk, Some, None, true, false, option_map};
 ghost use Rattle.cfg_keeping.specs.Kinds.{no_states};
 ghost use Rattle.cfg_keeping.specs.Holds.{HoldsFollows};
 ghost use Rattle.cfg_keeping.specs.KeptStates.{kept_holdings, kept_key, states_of};
 ghost use Rattle.cfg_providers.specs.Provides.{is_memory};
-ghost use Rattle.cfg_chain.specs.Settings.{setting};
-ghost use Rattle.cfg_chain.specs.Sources.{named_sources};
+ghost use Rattle.cfg_keeping.specs.Clients.{client_rules};
+ghost use Rattle.cfg_keeping.specs.Kinds.{place_states};
+ghost use Rattle.cfg_sso.specs.Tokens.{HasKey};
+ghost use Rattle.cfg_chain.specs.Settings.{setting, lends, lent_or as lent_or_own};
+ghost use Rattle.cfg_chain.specs.Sources.{named_sources, services_in};
+ghost use Rattle.cfg_chain.specs.profile.Plans.{key_of};
 ghost use Rattle.cfg_chain.specs.Members.{default_chain};
 ghost use Rattle.cfg_chain.specs.Provides.{FollowsDefault, Provides, Interrupted};
 ghost use Rattle.cfg_chain.specs.Setups.{nothing_set, built_by};
 
 use crate::chain::follow_chain;
 use crate::member::Member;
-use cfg_exchange::{ContainerUri, container_uri};
-use cfg_keeping::{Keeper, Kept};
+use crate::profile::plan::token_key_of;
+use crate::services::Services;
+use cfg_exchange::container_uri;
+use cfg_imds::Client;
+use cfg_keeping::{Keeper, Kept, Place, TokenKey};
 use cfg_profile::ProviderConfig;
 use cfg_providers::CustomSource;
-use cfg_types::{Credentials, CredentialsError, OutOfMemory, Region};
+use cfg_types::{Credentials, CredentialsError, OutOfMemory, Region, TryCopy, copy_option};
 use cfg_world::{Asking, Devices, Stop, World};
 use std::alloc::Global;
 use std::marker::Model;
@@ -91,7 +99,7 @@ impl Builder {
     }
 
     /// The chain. Its region is what the source gives where one was set, and else the
-    /// configuration's. Nothing is asked.
+    /// configuration's. Whose token it needs is read from the selected profile now. Nothing is asked.
     pub fn build<D: Devices>(
         self,
         _world: &mut World<D>,
@@ -108,15 +116,21 @@ impl Builder {
             None => config,
             Some(RegionSource::Fixed(region)) => config.with_region(region),
         };
-        Ok(DefaultCredentialsChain { alloc, config })
+        let token_key = token_key_of(alloc, &config)?;
+        Ok(DefaultCredentialsChain {
+            alloc,
+            config,
+            token_key,
+        })
     }
 }
 
-/// The default chain. Its members so far are the environment, the selected profile, a web identity and a
-/// container. Contracts see its configuration.
+/// The default chain. Its members are the environment, the selected profile, a web identity, a container
+/// and the instance metadata service. Contracts see its configuration.
 pub struct DefaultCredentialsChain {
     alloc: Global,
     config: ProviderConfig,
+    token_key: Option<TokenKey>,
 }
 
 impl Drop for DefaultCredentialsChain {
@@ -124,25 +138,31 @@ impl Drop for DefaultCredentialsChain {
         let DefaultCredentialsChain {
             alloc: _,
             config: _,
+            token_key: _,
         } = self;
     }
 }
 
 impl Model for DefaultCredentialsChain {
+    ghost use Rattle.std.specs.Prelude.{◌≡◌};
     ghost use Rattle.cfg_profile.specs.Configuration.{Configuration, configuration_code};
+    ghost use Rattle.cfg_chain.specs.profile.Plans.{key_of};
 
     ghost Value = { Configuration };
 
     ghost coded = { configuration_code };
 
     ghost view = { λ c. c.config };
+
+    ghost invariant = { λ c. c.token_key ≡ key_of c.config };
 }
 
-const MEMBERS: [Member; 4] = [
+const MEMBERS: [Member; 5] = [
     Member::Environment,
     Member::Profile,
     Member::WebIdentityToken,
     Member::EcsContainer,
+    Member::Ec2InstanceMetadata,
 ];
 
 impl DefaultCredentialsChain {
@@ -157,12 +177,21 @@ impl DefaultCredentialsChain {
         })
     }
 
+    /// Whose token the chain needs: that of a session of IAM Identity Center, where the selected profile's
+    /// plan begins with one.
+    pub fn token_key(&self) -> Option<&TokenKey>
+        ensures { option_copied result ≡ key_of self.now }
+    {
+        self.token_key.as_ref()
+    }
+
     /// What the chain keeps between calls, with nothing kept.
     pub fn new_kept(&self) -> Result<Kept, OutOfMemory>
         ensures nothing { IfOk result (λ kept. states_of kept ≡ no_states) }
-        ensures key { IfOk result (λ kept. kept_key kept ≡ None) }
+        ensures key { IfOk result (λ kept. kept_key kept ≡ key_of self.now) }
     {
-        Ok(Kept::new(self.alloc, None))
+        let key = copy_option(self.alloc, &self.token_key)?;
+        Ok(Kept::new(self.alloc, key))
     }
 
     /// The body of [`Self::provide_credentials`], over anything that can be asked. Where a question is
@@ -170,32 +199,41 @@ impl DefaultCredentialsChain {
     pub fn follow<P: Keeper, A: Asking>(
         &self,
         sources: &[CustomSource],
+        imds_client: Option<&Client>,
         keeper: &mut P,
         asking: &mut A,
     ) -> Result<Result<Credentials, CredentialsError>, Stop>
-        ensures follows { FollowsDefault ⟦<A as Asking>⟧ self.now (named_sources value sources.now) asking.old (P.holdings keeper.old) asking.new (P.holdings keeper.new) result }
+        requires { HasKey (key_of self.now) (P.key_held keeper.old) }
+        ensures follows { FollowsDefault ⟦<A as Asking>⟧ self.now (lends (named_sources value sources.now) (option_map (λ c. client_rules repeated c.now) imds_client.entry)) asking.old (P.holdings keeper.old) asking.new (P.holdings keeper.new) result }
         ensures key { P.key_held keeper.new ≡ P.key_held keeper.old }
     {
         let container = container_uri(self.alloc, self.config.env())?;
-        self.follow_members(sources, &container, keeper, asking)
+        let own = Client::configured(self.alloc, &self.config)?;
+        let services = Services {
+            container: &container,
+            client: lent_or(imds_client, &own),
+            named_client: &own,
+        };
+        self.follow_members(sources, &services, keeper, asking)
     }
 
-    // The members' questions, where it is known what address the variables name for a container.
+    // The members' questions, where it is known what services the configuration names.
     fn follow_members<P: Keeper, A: Asking>(
         &self,
         sources: &[CustomSource],
-        container: &ContainerUri,
+        services: &Services,
         keeper: &mut P,
         asking: &mut A,
     ) -> Result<Result<Credentials, CredentialsError>, Stop>
-        ensures follows { HoldsFollows ⟦<A as Asking>⟧ (default_chain (setting self.now (named_sources value sources.now) container.now)) asking.old (P.holdings keeper.old) asking.new (P.holdings keeper.new) result }
+        requires { HasKey (key_of self.now) (P.key_held keeper.old) }
+        ensures follows { HoldsFollows ⟦<A as Asking>⟧ (default_chain (setting self.now (named_sources value sources.now) (services_in repeated services.now))) asking.old (P.holdings keeper.old) asking.new (P.holdings keeper.new) result }
         ensures key { P.key_held keeper.new ≡ P.key_held keeper.old }
     {
         follow_chain(
             self.alloc,
             &self.config,
             sources,
-            container,
+            services,
             &MEMBERS,
             keeper,
             asking,
@@ -204,10 +242,13 @@ impl DefaultCredentialsChain {
 
     /// Asks the members in order, and answers what the first one that was loaded gives. Members that
     /// were not loaded are passed over, and any other error is the answer. The sources are the caller's
-    /// own; a profile names them by `credential_source`.
+    /// own; a profile names them by `credential_source`. The chain's own member asks the instance metadata
+    /// service by the client that is lent, where one is, and else by that of the configuration, as a source
+    /// that a profile names always does.
     ///
     /// The world's journal gains the members' parts and nothing else. The list of the values that were
-    /// found is that of this call alone.
+    /// found is that of this call alone. What is kept is that of a chain with this key, as
+    /// [`Self::new_kept`] makes it.
     ///
     /// # Errors
     ///
@@ -225,17 +266,40 @@ impl DefaultCredentialsChain {
     pub fn provide_credentials<D: Devices>(
         &self,
         sources: &[CustomSource],
+        imds_client: Option<&Client>,
         kept: &mut Kept,
         world: &mut World<D>,
     ) -> Result<Credentials, CredentialsError>
-        ensures provides { is_memory result ≡ false → Provides ⟦<D as Devices>⟧ self.now (named_sources value sources.now) (states_of kept.old) (states_of kept.new) (kept_holdings kept.new).found world.old world.new result }
-        ensures stays { is_memory result ≡ true → Interrupted ⟦<D as Devices>⟧ self.now (named_sources value sources.now) (states_of kept.old) (states_of kept.new) (kept_holdings kept.new).found world.old world.new }
+        requires { kept_key kept.old ≡ key_of self.now }
+        ensures provides { is_memory result ≡ false → Provides ⟦<D as Devices>⟧ self.now (lends (named_sources value sources.now) (option_map (λ c. client_rules repeated c.now) imds_client.entry)) (states_of kept.old) (states_of kept.new) (kept_holdings kept.new).found world.old world.new result }
+        ensures stays { is_memory result ≡ true → Interrupted ⟦<D as Devices>⟧ self.now (lends (named_sources value sources.now) (option_map (λ c. client_rules repeated c.now) imds_client.entry)) (states_of kept.old) (states_of kept.new) (kept_holdings kept.new).found world.old world.new }
         ensures key { kept_key kept.new ≡ kept_key kept.old }
     {
         kept.clear_found();
-        match self.follow(sources, kept, world) {
+        match self.follow(sources, imds_client, kept, world) {
             Ok(outcome) => outcome,
             Err(_) => Err(CredentialsError::OutOfMemory),
         }
+    }
+
+    /// What a caller may use where a call was interrupted: the credentials that were last retrieved from
+    /// the instance metadata service for the chain, if any were. Nothing is asked, and what is kept stays.
+    pub fn fallback_on_interrupt(&self, kept: &Kept) -> Result<Option<Credentials>, OutOfMemory>
+        ensures { IfOk result (λ c. c ≡ (place_states (states_of kept.now) Place.Chain).retrieved) }
+    {
+        match kept.retrieved_for(Place::Chain) {
+            None => Ok(None),
+            Some(retrieved) => Ok(Some(retrieved.credentials().copy(self.alloc)?)),
+        }
+    }
+}
+
+// The client that the caller lent, and else the configuration's.
+fn lent_or<'a>(lent: Option<&'a Client>, own: &'a Client) -> &'a Client
+    ensures { client_rules repeated result.now ≡ lent_or_own (option_map (λ c. client_rules repeated c.now) lent.entry) (client_rules repeated own.now) }
+{
+    match lent {
+        Some(client) => client,
+        None => own,
     }
 }

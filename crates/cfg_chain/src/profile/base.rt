@@ -1,41 +1,57 @@
 //! The first credentials of a profile.
-ghost use Rattle.std.specs.Prelude.{◌≡◌, IfOk};
+ghost use Rattle.std.specs.Prelude.{◌≡◌, IfOk, None};
 ghost use Rattle.cfg_world.specs.Follows.{Follows};
+ghost use Rattle.cfg_imds.specs.Regions.{is_disabled as is_disabled_by};
+ghost use Rattle.cfg_keeping.specs.Clients.{client_rules};
+ghost use Rattle.cfg_keeping.specs.Holds.{HoldsFollows};
+ghost use Rattle.cfg_metadata.specs.Metadata.{metadata};
+ghost use Rattle.cfg_metadata.specs.Settings.{setting as metadata_setting};
 ghost use Rattle.cfg_providers.specs.CustomSources.{last_named};
 ghost use Rattle.cfg_providers.specs.Processes.{credential_process as credential_process_of};
 ghost use Rattle.cfg_providers.specs.Provides.{is_memory as is_memory_of};
 ghost use Rattle.cfg_providers.specs.WebIdentities.{no_policies, assumes_by_web_identity};
+ghost use Rattle.cfg_sso.specs.Tokens.{HasKey, key_by};
+ghost use Rattle.cfg_sso.specs.SsoCredentials.{sso_credentials};
 ghost use Rattle.cfg_chain.specs.Settings.{setting, container_settings as settings_of_container};
-ghost use Rattle.cfg_chain.specs.Sources.{named_sources};
-ghost use Rattle.cfg_chain.specs.profile.Bases.{base_not_built as base_not_built_of, by_container, built_in_source, named_source, profile_session, base_inquiry, in_base as in_base_of, based};
+ghost use Rattle.cfg_chain.specs.Sources.{named_sources, services_in};
+ghost use Rattle.cfg_chain.specs.profile.Bases.{base_not_built as base_not_built_of, by_container, built_in_source, named_source, profile_session, signed_on, base_tree, in_base as in_base_of, based};
+ghost use Rattle.cfg_chain.specs.profile.Plans.{key_of_base};
 
 use crate::profile::plan::not_built;
+use crate::services::Services;
 use cfg_exchange::{ContainerSettings, ContainerUri, follow_container};
+use cfg_imds::{Client, is_disabled};
+use cfg_keeping::{Keeper, Place};
+use cfg_metadata::follow_metadata;
 use cfg_profile::{BaseProvider, ProviderConfig, is_alike};
 use cfg_providers::{
     CustomSource, SessionPolicies, WebIdentity, assume_by_web_identity, credential_process,
     follow_environment, provide_by_name,
 };
+use cfg_sso::{SsoProviderConfig, follow_sso};
 use cfg_types::{
     AccountId, Boxed, CommandWithSensitiveArgs, ConfigCause, Credentials, CredentialsError,
-    OutOfMemory, ProviderCause, Text, TryCopy, copy_option,
+    OutOfMemory, ProviderCause, Region, Text, TryCopy, copy_option,
 };
 use cfg_world::{Asking, Stop};
 use std::alloc::Global;
 
 /// The first credentials of a plan. An error of its base, whatever it is, is told as such.
-#[tactic(auto, using(cfg_world::proofs::Inquiries::asking_steps, cfg_providers::proofs::QuietSteps::quiet_steps), unfolding(crate::specs::profile::Bases::based))]
-pub(crate) fn follow_based<A: Asking>(
+#[tactic(auto, using(cfg_keeping::proofs::HoldingSteps::holding_steps), unfolding(crate::specs::profile::Bases::based))]
+pub(crate) fn follow_based<P: Keeper, A: Asking>(
     alloc: Global,
     config: &ProviderConfig,
     sources: &[CustomSource],
-    container: &ContainerUri,
+    services: &Services,
     base: &BaseProvider,
+    keeper: &mut P,
     asking: &mut A,
 ) -> Result<Result<Credentials, CredentialsError>, Stop>
-    ensures { Follows ⟦<A as Asking>⟧ (based (setting config.now (named_sources value sources.now) container.now) base.now) asking.old asking.new result }
+    requires { HasKey (key_of_base base.now) (P.key_held keeper.old) }
+    ensures follows { HoldsFollows ⟦<A as Asking>⟧ (based (setting config.now (named_sources value sources.now) (services_in repeated services.now)) base.now) asking.old (P.holdings keeper.old) asking.new (P.holdings keeper.new) result }
+    ensures key { P.key_held keeper.new ≡ P.key_held keeper.old }
 {
-    let given = follow_base(alloc, config, sources, container, base, asking)?;
+    let given = follow_base(alloc, config, sources, services, base, keeper, asking)?;
     let outcome = in_base(alloc, given)?;
     Ok(outcome)
 }
@@ -56,16 +72,19 @@ fn in_base(
     }
 }
 
-#[tactic(auto, using(cfg_world::proofs::Inquiries::asking_steps, cfg_providers::proofs::QuietSteps::quiet_steps), unfolding(crate::specs::profile::Bases::base_inquiry))]
-fn follow_base<A: Asking>(
+#[tactic(auto, using(cfg_keeping::proofs::HoldingSteps::holding_steps), unfolding(crate::specs::profile::Bases::base_tree))]
+fn follow_base<P: Keeper, A: Asking>(
     alloc: Global,
     config: &ProviderConfig,
     sources: &[CustomSource],
-    container: &ContainerUri,
+    services: &Services,
     base: &BaseProvider,
+    keeper: &mut P,
     asking: &mut A,
 ) -> Result<Result<Credentials, CredentialsError>, Stop>
-    ensures { Follows ⟦<A as Asking>⟧ (base_inquiry (setting config.now (named_sources value sources.now) container.now) base.now) asking.old asking.new result }
+    requires { HasKey (key_of_base base.now) (P.key_held keeper.old) }
+    ensures follows { HoldsFollows ⟦<A as Asking>⟧ (base_tree (setting config.now (named_sources value sources.now) (services_in repeated services.now)) base.now) asking.old (P.holdings keeper.old) asking.new (P.holdings keeper.new) result }
+    ensures key { P.key_held keeper.new ≡ P.key_held keeper.old }
 {
     match base {
         BaseProvider::AccessKey(keys) => {
@@ -73,29 +92,58 @@ fn follow_base<A: Asking>(
             Ok(Ok(keys))
         }
         BaseProvider::NamedSource(name) => {
-            follow_source(alloc, config, sources, container, name, asking)
+            follow_source(alloc, config, sources, services, name, keeper, asking)
         }
         BaseProvider::WebIdentityTokenRole {
             role_arn,
-            web_identity_token_file,
+            web_identity_token_file: file,
             session_name,
-        } => follow_identity(
-            alloc,
-            config,
-            role_arn,
-            web_identity_token_file,
-            session_name,
-            asking,
-        ),
+        } => {
+            let outcome = follow_identity(alloc, config, role_arn, file, session_name, asking)?;
+            Ok(outcome)
+        }
         BaseProvider::CredentialProcess {
             command,
             account_id,
-        } => follow_process(alloc, command, account_id, asking),
+        } => {
+            let outcome = follow_process(alloc, command, account_id, asking)?;
+            Ok(outcome)
+        }
+        BaseProvider::Sso {
+            sso_session_name: session,
+            sso_region: region,
+            sso_start_url: url,
+            sso_account_id: Some(account),
+            sso_role_name: Some(role),
+        } => {
+            let sso = sign_on(alloc, session, region, url, account, role)?;
+            follow_sso(alloc, config, &sso, keeper, asking)
+        }
         _ => {
             let answer = base_not_built(alloc)?;
             Ok(answer)
         }
     }
+}
+
+// What IAM Identity Center is asked for.
+fn sign_on(
+    alloc: Global,
+    session: &Option<Text>,
+    region: &Text,
+    url: &Text,
+    account: &Text,
+    role: &Text,
+) -> Result<SsoProviderConfig, OutOfMemory>
+    ensures { IfOk result (λ sso. sso ≡ signed_on session.now region.now url.now account.now role.now) }
+{
+    Ok(SsoProviderConfig {
+        account_id: account.copy(alloc)?,
+        role_name: role.copy(alloc)?,
+        region: Region::new(alloc, region.as_str())?,
+        start_url: url.copy(alloc)?,
+        session_name: copy_option(alloc, session)?,
+    })
 }
 
 #[tactic(auto, unfolding(crate::specs::profile::Bases::base_not_built))]
@@ -168,20 +216,22 @@ fn account_of(alloc: Global, id: &Option<Text>) -> Result<Option<AccountId>, Out
 }
 
 // The source of this name: the last of the caller's own that has it, else the one that is always there.
-#[tactic(auto, using(cfg_world::proofs::Inquiries::asking_steps, cfg_providers::proofs::QuietSteps::quiet_steps), unfolding(crate::specs::profile::Bases::named_source))]
-fn follow_source<A: Asking>(
+#[tactic(auto, using(cfg_keeping::proofs::HoldingSteps::holding_steps), unfolding(crate::specs::profile::Bases::named_source))]
+fn follow_source<P: Keeper, A: Asking>(
     alloc: Global,
     config: &ProviderConfig,
     sources: &[CustomSource],
-    container: &ContainerUri,
+    services: &Services,
     name: &Text,
+    keeper: &mut P,
     asking: &mut A,
 ) -> Result<Result<Credentials, CredentialsError>, Stop>
-    ensures { Follows ⟦<A as Asking>⟧ (named_source (setting config.now (named_sources value sources.now) container.now) name.now) asking.old asking.new result }
+    ensures follows { HoldsFollows ⟦<A as Asking>⟧ (named_source (setting config.now (named_sources value sources.now) (services_in repeated services.now)) name.now) asking.old (P.holdings keeper.old) asking.new (P.holdings keeper.new) result }
+    ensures key { P.key_held keeper.new ≡ P.key_held keeper.old }
 {
     match own_source(sources, name)? {
         Some(answer) => Ok(answer),
-        None => follow_built_in(alloc, config, container, name, asking),
+        None => follow_built_in(alloc, config, services, name, keeper, asking),
     }
 }
 
@@ -209,24 +259,48 @@ fn is_memory(answer: &Result<Credentials, CredentialsError>) -> bool
     matches!(answer, Err(CredentialsError::OutOfMemory))
 }
 
-#[tactic(auto, using(cfg_world::proofs::Inquiries::asking_steps, cfg_providers::proofs::QuietSteps::quiet_steps), unfolding(crate::specs::profile::Bases::built_in_source))]
-fn follow_built_in<A: Asking>(
+#[tactic(auto, using(cfg_keeping::proofs::HoldingSteps::holding_steps), unfolding(crate::specs::profile::Bases::built_in_source))]
+fn follow_built_in<P: Keeper, A: Asking>(
     alloc: Global,
     config: &ProviderConfig,
-    container: &ContainerUri,
+    services: &Services,
     name: &Text,
+    keeper: &mut P,
     asking: &mut A,
 ) -> Result<Result<Credentials, CredentialsError>, Stop>
-    ensures { Follows ⟦<A as Asking>⟧ (built_in_source config.now container.now name.now) asking.old asking.new result }
+    ensures follows { HoldsFollows ⟦<A as Asking>⟧ (built_in_source config.now services.now.container.now (metadata_setting (is_disabled_by config.now.environment) (client_rules repeated services.now.named_client.now) None Place.Named) name.now) asking.old (P.holdings keeper.old) asking.new (P.holdings keeper.new) result }
+    ensures key { P.key_held keeper.new ≡ P.key_held keeper.old }
 {
     if is_alike(name, "Environment") {
-        return follow_environment(alloc, config.env(), asking);
+        let outcome = follow_environment(alloc, config.env(), asking)?;
+        return Ok(outcome);
     }
     if is_alike(name, "EcsContainer") {
-        return ask_container(alloc, config, container, asking);
+        let outcome = ask_container(alloc, config, services.container, asking)?;
+        return Ok(outcome);
+    }
+    if is_alike(name, "Ec2InstanceMetadata") {
+        let place = Place::Named;
+        return ask_metadata(alloc, config, services.named_client, place, keeper, asking);
     }
     let answer = base_not_built(alloc)?;
     Ok(answer)
+}
+
+/// The credentials of the role that the instance metadata service lists.
+pub(crate) fn ask_metadata<P: Keeper, A: Asking>(
+    alloc: Global,
+    config: &ProviderConfig,
+    client: &Client,
+    place: Place,
+    keeper: &mut P,
+    asking: &mut A,
+) -> Result<Result<Credentials, CredentialsError>, Stop>
+    ensures follows { HoldsFollows ⟦<A as Asking>⟧ (metadata (metadata_setting (is_disabled_by config.now.environment) (client_rules repeated client.now) None place)) asking.old (P.holdings keeper.old) asking.new (P.holdings keeper.new) result }
+    ensures key { P.key_held keeper.new ≡ P.key_held keeper.old }
+{
+    let disabled = is_disabled(config.env());
+    follow_metadata(alloc, disabled, client, &None, place, keeper, asking)
 }
 
 /// A container's credentials, at the address that the variables name. There is a resolver, 2 seconds to

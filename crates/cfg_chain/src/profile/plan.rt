@@ -1,17 +1,17 @@
 //! What the selected profile gives credentials by, as far as it is built.
 ghost use Rattle.std.specs.Prelude.{◌≡◌, IfOk};
-ghost use Rattle.cfg_profile.specs.NamedSources.{is_custom as custom};
 ghost use Rattle.cfg_providers.specs.Gives.{GivesAnswer};
 ghost use Rattle.cfg_chain.specs.Settings.{names_of as names_of_sources};
 ghost use Rattle.cfg_chain.specs.Sources.{named_sources};
-ghost use Rattle.cfg_chain.specs.profile.Plans.{not_built as not_built_error, is_not_built_error, profile_plan, built as built_of, is_built_base as is_built_base_of, is_built_source as is_built_source_of, plan, is_built as is_built_of};
+ghost use Rattle.cfg_chain.specs.profile.Plans.{not_built as not_built_error, is_not_built_error, profile_plan, built as built_of, is_built_base as is_built_base_of, plan, is_built as is_built_of, key_of_base as key_of_base_of, key_of_plan, key_of};
 
+use cfg_keeping::TokenKey;
 use cfg_profile::{
-    BaseProvider, ProfileChain, ProfileSet, ProfileSource, ProviderConfig, is_alike, is_named,
-    plan_of_profile, selected_name,
+    BaseProvider, ProfileChain, ProfileSet, ProfileSource, ProviderConfig, plan_of_profile,
+    selected_name,
 };
 use cfg_providers::{CustomSource, names_of};
-use cfg_types::{OutOfMemory, ProfileFileError, Text, TryCopy};
+use cfg_types::{OutOfMemory, ProfileFileError, Region, Text, TryCopy};
 use cfg_world::{Halt, Stop};
 use std::alloc::Global;
 
@@ -32,13 +32,12 @@ pub fn plan_of(
         }
         ProfileSource::Sections(set) => {
             let chain = plan_in(alloc, set, selected_name(config), sources)?;
-            built(alloc, sources, chain)
+            built(alloc, chain)
         }
     }
 }
 
-/// Whether what the selected profile gives credentials by is built: all but single sign-on, a sign-in
-/// and instance metadata.
+/// Whether what the selected profile gives credentials by is built: all but a sign-in.
 pub fn is_built(
     alloc: Global,
     config: &ProviderConfig,
@@ -89,47 +88,23 @@ fn plan_in(
 }
 
 // The plan, where its base is built.
-fn built(
-    alloc: Global,
-    sources: &[Text],
-    chain: ProfileChain,
-) -> Result<ProfileChain, Halt<ProfileFileError>>
-    ensures { GivesAnswer (λ p. p) result (built_of sources.now chain) }
+fn built(alloc: Global, chain: ProfileChain) -> Result<ProfileChain, Halt<ProfileFileError>>
+    ensures { GivesAnswer (λ p. p) result (built_of chain) }
 {
-    if is_built_base(sources, &chain.base) {
+    if is_built_base(&chain.base) {
         Ok(chain)
     } else {
         Err(Halt::Refused(not_built(alloc)?))
     }
 }
 
-fn is_built_base(sources: &[Text], base: &BaseProvider) -> bool
-    ensures { result ≡ is_built_base_of sources.now base.now }
+fn is_built_base(base: &BaseProvider) -> bool
+    ensures { result ≡ is_built_base_of base.now }
 {
     match base {
-        BaseProvider::NamedSource(name) => is_built_source(sources, name),
-        BaseProvider::Sso { .. } => false,
         BaseProvider::LoginSession { .. } => false,
         _ => true,
     }
-}
-
-fn is_built_source(sources: &[Text], name: &Text) -> bool
-    ensures { result ≡ is_built_source_of sources.now name.now }
-{
-    is_custom(sources, name) || is_alike(name, "Environment") || is_alike(name, "EcsContainer")
-}
-
-// Whether the caller has a source of this name.
-fn is_custom(sources: &[Text], name: &Text) -> bool
-    ensures { result ≡ custom sources.now name.now }
-{
-    for source in sources {
-        if is_named(name, source) {
-            return true;
-        }
-    }
-    false
 }
 
 /// What is not built yet is told as a feature that is not there.
@@ -140,4 +115,38 @@ pub(crate) fn not_built(alloc: Global) -> Result<ProfileFileError, OutOfMemory>
         feature: Text::of(alloc, "profile-providers")?,
         message: None,
     })
+}
+
+/// Whose token a configuration needs: that of the session of IAM Identity Center that the selected
+/// profile's plan begins with, if it begins with one.
+#[tactic(auto, unfolding(crate::specs::profile::Plans::key_of))]
+pub(crate) fn token_key_of(
+    alloc: Global,
+    config: &ProviderConfig,
+) -> Result<Option<TokenKey>, OutOfMemory>
+    ensures { IfOk result (λ key. key ≡ key_of config.now) }
+{
+    match plan_of(alloc, config, &[]) {
+        Ok(plan) => key_of_base(alloc, &plan.base),
+        Err(Halt::Refused(_)) => Ok(None),
+        Err(Halt::Stopped(_)) => Err(OutOfMemory),
+    }
+}
+
+fn key_of_base(alloc: Global, base: &BaseProvider) -> Result<Option<TokenKey>, OutOfMemory>
+    ensures { IfOk result (λ key. key ≡ key_of_base_of base.now) }
+{
+    match base {
+        BaseProvider::Sso {
+            sso_session_name: Some(session),
+            sso_region,
+            sso_start_url,
+            ..
+        } => Ok(Some(TokenKey::Sso {
+            session: session.copy(alloc)?,
+            region: Region::new(alloc, sso_region.as_str())?,
+            start_url: sso_start_url.copy(alloc)?,
+        })),
+        _ => Ok(None),
+    }
 }

@@ -1,12 +1,16 @@
 ghost use Rattle.std.specs.Prelude.{◌≡◌, IfOk};
 ghost use Rattle.cfg_world.specs.Follows.{Follows};
+ghost use Rattle.cfg_keeping.specs.Holds.{HoldsFollows};
+ghost use Rattle.cfg_sso.specs.Tokens.{HasKey};
 ghost use Rattle.cfg_chain.specs.Settings.{setting};
-ghost use Rattle.cfg_chain.specs.Sources.{named_sources};
+ghost use Rattle.cfg_chain.specs.Sources.{named_sources, services_in};
+ghost use Rattle.cfg_chain.specs.profile.Plans.{key_of_base, key_of};
 ghost use Rattle.cfg_chain.specs.profile.Profiles.{refusal as refusal_of, by_profile, marked as marked_of, derived, follows_planned, profile};
 
 use crate::profile::base::follow_based;
 use crate::profile::plan::plan_of;
-use cfg_exchange::ContainerUri;
+use crate::services::Services;
+use cfg_keeping::Keeper;
 use cfg_profile::{ProfileChain, ProviderConfig, RoleArn};
 use cfg_providers::{CustomSource, assume_roles, names_of};
 use cfg_types::{
@@ -17,43 +21,47 @@ use cfg_world::{Asking, Halt, Stop};
 use std::alloc::Global;
 
 /// Asks the base of the selected profile, assumes its roles, and answers the last one's credentials.
-#[tactic(auto, using(cfg_providers::proofs::QuietSteps::quiet_steps), unfolding(crate::specs::profile::Profiles::profile))]
-pub fn follow_profile<A: Asking>(
+#[tactic(auto, using(cfg_keeping::proofs::HoldingSteps::holding_steps), unfolding(crate::specs::profile::Profiles::profile))]
+pub fn follow_profile<P: Keeper, A: Asking>(
     alloc: Global,
     config: &ProviderConfig,
     sources: &[CustomSource],
-    container: &ContainerUri,
+    services: &Services,
+    keeper: &mut P,
     asking: &mut A,
 ) -> Result<Result<Credentials, CredentialsError>, Stop>
-    ensures { Follows ⟦<A as Asking>⟧ (profile (setting config.now (named_sources value sources.now) container.now)) asking.old asking.new result }
+    requires { HasKey (key_of config.now) (P.key_held keeper.old) }
+    ensures follows { HoldsFollows ⟦<A as Asking>⟧ (profile (setting config.now (named_sources value sources.now) (services_in repeated services.now))) asking.old (P.holdings keeper.old) asking.new (P.holdings keeper.new) result }
+    ensures key { P.key_held keeper.new ≡ P.key_held keeper.old }
 {
     let names = names_of(alloc, sources)?;
     match plan_of(alloc, config, names.as_slice()) {
-        Ok(plan) => follow_plan(alloc, config, sources, container, plan, asking),
+        Ok(plan) => follow_plan(alloc, config, sources, services, &plan, keeper, asking),
         Err(Halt::Refused(error)) => Ok(Err(refusal(error))),
         Err(Halt::Stopped(_)) => Err(Stop::OutOfMemory),
     }
 }
 
-#[tactic(auto, using(cfg_world::proofs::Inquiries::asking_steps), unfolding(crate::specs::profile::Profiles::follows_planned))]
-fn follow_plan<A: Asking>(
+#[tactic(auto, using(cfg_keeping::proofs::HoldingSteps::holding_steps), unfolding(crate::specs::profile::Profiles::follows_planned))]
+fn follow_plan<P: Keeper, A: Asking>(
     alloc: Global,
     config: &ProviderConfig,
     sources: &[CustomSource],
-    container: &ContainerUri,
-    plan: ProfileChain,
+    services: &Services,
+    plan: &ProfileChain,
+    keeper: &mut P,
     asking: &mut A,
 ) -> Result<Result<Credentials, CredentialsError>, Stop>
-    ensures { Follows ⟦<A as Asking>⟧ (follows_planned (setting config.now (named_sources value sources.now) container.now) plan) asking.old asking.new result }
+    requires { HasKey (key_of_base plan.now.base) (P.key_held keeper.old) }
+    ensures follows { HoldsFollows ⟦<A as Asking>⟧ (follows_planned (setting config.now (named_sources value sources.now) (services_in repeated services.now)) plan.now) asking.old (P.holdings keeper.old) asking.new (P.holdings keeper.new) result }
+    ensures key { P.key_held keeper.new ≡ P.key_held keeper.old }
 {
-    let (base, roles) = plan.into_parts();
-    match follow_based(alloc, config, sources, container, &base, asking)? {
-        Ok(keys) => {
-            let outcome = derive(alloc, config, roles.as_slice(), keys, asking)?;
-            Ok(outcome)
-        }
-        Err(error) => Ok(Err(error)),
-    }
+    let keys = match follow_based(alloc, config, sources, services, &plan.base, keeper, asking)? {
+        Ok(keys) => keys,
+        Err(error) => return Ok(Err(error)),
+    };
+    let outcome = derive(alloc, config, plan.roles.as_slice(), keys, asking)?;
+    Ok(outcome)
 }
 
 // The credentials of the last of these roles, marked.

@@ -2,14 +2,14 @@
 use Rattle.std.proofs.Common.{◌≡◌, [], drop}
 use Rattle.cfg_keeping.proofs.HoldingSteps.{HoldsLeads}
 use Rattle.cfg_chain.specs.Settings.{setting}
-use Rattle.cfg_chain.specs.Sources.{named_sources}
+use Rattle.cfg_chain.specs.Sources.{named_sources, services_in}
 use Rattle.cfg_chain.specs.Chains.{chain}
 use Rattle.cfg_chain.specs.Members.{credentials_chain}
 use Rattle.cfg_chain.proofs.chain.follow_chain.Given as goal
 
 abbrev pub invariant-loop-member : goal.invariant-loop-member
 invariant-loop-member g l =
-    let s = setting l.config (named_sources (λ z. (goal.ProvideCredentials-dyn g z).value z.1) l.sources) l.container in
+    let s = setting l.config (named_sources (λ z. (goal.ProvideCredentials-dyn g z).value z.1) l.sources) (services_in (λ z. (goal.ClassifyRetry-dyn g z).repeated z.1) l.services) in
     record {
       leads : HoldsLeads g.A.Asking (chain (credentials_chain s) l.members []) l.fn.asking (g.P.Keeper.holdings l.fn.keeper) l.asking (g.P.Keeper.holdings l.keeper) (chain (credentials_chain s) (drop l.member-index l.members) l.attempts.items);
       key : g.P.Keeper.key_held l.keeper ≡ g.P.Keeper.key_held l.fn.keeper;

@@ -9,4 +9,4 @@ pub loop-receipt-preserved : goal.loop-receipt-preserved
 loop-receipt-preserved g c =
     let test = is_repeated c.args.kind (g.C.ClassifyRetry.repeated c.args.classifier.now) in
     let repeated : test c.in_ok-receipt.receipt.1 ≡ true = search rules in
-    attempts_go c.loop-receipt.more (Send c.args.request.now) test c.loop-receipt.invariant c.in_ok-receipt.ensures (search rules) repeated
+    attempts_go c.loop-receipt.more (Send c.args.request.now) test c.loop-receipt.invariant c.in_ok-receipt.ensures.follows (search rules) repeated

@@ -10,5 +10,5 @@ returns g c =
     let same : c.new-world.result.devices.lists ≡ c.args.lists = ap (λ w. w.devices.lists) c.new-world.ensures ∙ ap (λ d. d.lists) c.in_ok-devices.ensures in
     let named = option_map characters (option_map (λ t. string_bytes t) c.args.region) in
     let sources = named_sources (λ z. (goal.ProvideCredentials-dyn g z).value z.1) c.args.custom.now in
-    subst (λ l. IfOk c.answer.result (λ a. AnswersOver (record c.args.config { region = named }) sources l c.args.form a.is_ok a.line.items)) same
-    (subst (λ r. IfOk c.answer.result (λ a. AnswersOver (record c.args.config { region = r }) sources c.new-world.result.devices.lists c.args.form a.is_ok a.line.items)) c.in_ok-region.ensures c.answer.ensures)
+    subst (λ l. IfOk c.answer.result (λ a. AnswersOver (record c.args.config { region = named }) sources l c.args.count c.args.form a.is_ok a.lines.items)) same
+    (subst (λ r. IfOk c.answer.result (λ a. AnswersOver (record c.args.config { region = r }) sources c.new-world.result.devices.lists c.args.count c.args.form a.is_ok a.lines.items)) c.in_ok-region.ensures c.answer.ensures)

@@ -1,0 +1,13 @@
+//! The tests of cfg_login, over public calls: what no clause says, and worked examples.
+#![tactic(auto)]
+
+#[cfg(test)]
+mod files;
+#[cfg(test)]
+mod paths;
+#[cfg(test)]
+mod refreshes;
+#[cfg(test)]
+mod sections;
+#[cfg(test)]
+mod written;
