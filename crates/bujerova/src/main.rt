@@ -76,7 +76,8 @@ fn given(
     }
 }
 
-// Why the input was refused, where the status says that it was, and what was read of it is known.
+// Why the input was refused, where the status says that it was, and what was read of it is known. A script
+// that is refused has several calls, where the words make one.
 fn reason_of(
     alloc: Global,
     status: Status,
@@ -88,9 +89,8 @@ fn reason_of(
     let reason = match status {
         Status::NoScript => match find_fault(alloc, bytes)? {
             Some(fault) => format!(in alloc; "{fault}")?,
-            None => return Ok(None),
+            None => String::from_str(alloc, "calls: this command makes one call")?,
         },
-        Status::NotBuilt => String::from_str(alloc, "the plan of the profiles is not built yet")?,
         Status::TooLong => format!(in alloc; "more than {LIMIT} bytes")?,
         _ => return Ok(None),
     };
@@ -119,8 +119,8 @@ fn status_of(kind: ErrorKind) -> Status {
     }
 }
 
-// The names of the variables that providers ask for.
-const ASKED: [&str; 13] = [
+// The names of the variables that providers ask for where there are no sections.
+const ASKED: [&str; 16] = [
     "AWS_ACCESS_KEY_ID",
     "AWS_SECRET_ACCESS_KEY",
     "SECRET_ACCESS_KEY",
@@ -134,9 +134,12 @@ const ASKED: [&str; 13] = [
     "AWS_CONTAINER_CREDENTIALS_FULL_URI",
     "AWS_CONTAINER_AUTHORIZATION_TOKEN_FILE",
     "AWS_CONTAINER_AUTHORIZATION_TOKEN",
+    "AWS_EC2_METADATA_DISABLED",
+    "AWS_EC2_METADATA_SERVICE_ENDPOINT",
+    "AWS_EC2_METADATA_SERVICE_ENDPOINT_MODE",
 ];
 
-// The variables that are set, of those that providers ask for.
+// The variables that are set, of those that providers ask for where there are no sections.
 fn variables_of(
     rt: &(impl std::rt::Env + AllocGlobal),
 ) -> Result<Vec<(String, EnvText)>, OutOfMemory> {

@@ -7,6 +7,7 @@ use Rattle.cfg_world.specs.declared.asking.Stop.{Stop}
 use Rattle.cfg_world.specs.declared.asking.Stop.TheVariants.{OutOfMemory, Open}
 use Rattle.cfg_world.specs.declared.script.DeviceLists.{DeviceLists}
 use Rattle.cfg_world.specs.Script.{Place, Given}
+use Rattle.cfg_world.specs.Agreeing.{AnswerAlike}
 use Rattle.cfg_world.proofs.Agreeing.{given_alike}
 use Rattle.cfg_keeping.specs.Kinds.{Value, States}
 use Rattle.cfg_keeping.specs.KeptInquiry.{KeptInquiry, Runs, Begins, Reads, kept_after}
@@ -78,11 +79,16 @@ one_answer conf lent a b h g =
     let named = one_client (configured conf) a.named_client b.named_client h.named_client g.named_client in
     same_services a b (one_place conf.environment a.container b.container h.container g.container) (h.client ∙ ap (lent_or lent) named ∙ sym g.client) named
 
+-- from one kept state, two calls whose answers agree as far as both ask the same are one
+pub one_journal : (conf : Configuration) (lent : Lent) (old new newer : States) (found more : List Value) (one other : List Pair) (x y : Answer) →
+    IsCall conf lent old new found one x → IsCall conf lent old newer more other y → AnswerAlike one other → (one ≡ other) × (found ≡ more) × (x ≡ y) × (new ≡ newer)
+one_journal conf lent old new newer found more one other x y a b alike =
+    let same = one_answer conf lent.client b.services a.services b.names a.names in
+    let r = one_run (default_chain (setting conf lent.sources a.services)) old found more one other x y (Some new) (Some newer) (runs_call conf lent old new found one x a)
+    (subst (λ p. Runs (default_chain (setting conf lent.sources p)) (Some old) more other y (Some newer)) same (runs_call conf lent old newer more other y b)) alike in
+    (r.0, r.1, r.2, some_is new newer r.3)
+
 -- one script of devices, from one place and one kept state, makes one call
 pub one_call : (conf : Configuration) (lent : Lent) (lists : DeviceLists) (place : Place) (old new newer : States) (found more : List Value) (one other : List Pair) (x y : Answer) →
     IsCall conf lent old new found one x → IsCall conf lent old newer more other y → Given lists place one → Given lists place other → (one ≡ other) × (found ≡ more) × (x ≡ y) × (new ≡ newer)
-one_call conf lent lists place old new newer found more one other x y a b g h =
-    let same = one_answer conf lent.client b.services a.services b.names a.names in
-    let r = one_run (default_chain (setting conf lent.sources a.services)) old found more one other x y (Some new) (Some newer) (runs_call conf lent old new found one x a)
-    (subst (λ p. Runs (default_chain (setting conf lent.sources p)) (Some old) more other y (Some newer)) same (runs_call conf lent old newer more other y b)) (given_alike lists place one other g h) in
-    (r.0, r.1, r.2, some_is new newer r.3)
+one_call conf lent lists place old new newer found more one other x y a b g h = one_journal conf lent old new newer found more one other x y a b (given_alike lists place one other g h)

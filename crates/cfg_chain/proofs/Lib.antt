@@ -1,7 +1,7 @@
-pub mod ChainSteps
+pub mod ChainHalts
 pub mod OnePlan
+pub mod PlannedBases
 pub mod ProfileSteps
-pub mod Parts
 pub mod RoleCauses
 pub mod ProfileCauses
 pub mod MemberCauses

@@ -14,10 +14,10 @@ use Rattle.cfg_chain.specs.declared.member.Member.TheVariants.{Environment, Prof
 use Rattle.cfg_chain.specs.Settings.{Setting, chain_metadata}
 use Rattle.cfg_chain.specs.Members.{member_tree, credentials_chain, default_members, default_chain}
 use Rattle.cfg_chain.specs.Causes.{Cause}
-use Rattle.cfg_chain.specs.ChainParts.{MemberReads}
+use Rattle.cfg_keeping.specs.ChainParts.{MemberReads}
 use Rattle.cfg_chain.specs.profile.Bases.{by_container}
 use Rattle.cfg_chain.specs.Resolves.{IsPart, Resolves}
-use Rattle.cfg_chain.proofs.Parts.{chain_parts, parts_chain, parts_more}
+use Rattle.cfg_keeping.proofs.ChainParts.{chain_parts, parts_chain, parts_more}
 use Rattle.cfg_chain.proofs.ProfileCauses.{environment_fails, container_fails, profile_fails}
 
 pub has_cause : (s : Setting) (member : Member) (found : List Value) (part : List Pair) (out : Answer) → Reads (member_tree s member) found part out → Cause s member found part out

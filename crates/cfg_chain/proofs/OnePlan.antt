@@ -1,7 +1,6 @@
 -- A plan that the path of a profile gives is the profile's plan, and a configuration needs one key.
 use Rattle.std.proofs.Common.{◌≡◌, ℕ, List, [], Bool, true, false, Option, None, Ok, Err, inl, inr, refl, sym, ap, ◌∙◌, subst}
 use Rattle.std.specs.Prelude.{◌⊎◌, if◌then◌else◌}
-use Rattle.cfg_values.specs.Gives.{◌>>=◌}
 use Rattle.cfg_types.specs.declared.errors.ProfileFileError.{ProfileFileError}
 use Rattle.cfg_types.specs.declared.errors.ProfileFileError.TheVariants.{OutOfMemory as memory, UnknownProvider}
 use Rattle.cfg_world.specs.declared.asking.Halt.{Halt}
@@ -19,7 +18,7 @@ use Rattle.cfg_profile.specs.NamedSources.{IsPlan, is_known, planned_over, plann
 use Rattle.cfg_profile.proofs.PlanLaws.{the_chain, the_plan}
 use Rattle.cfg_sso.specs.Tokens.{HasKey}
 use Rattle.cfg_token.specs.declared.token_key.TokenKey.{TokenKey}
-use Rattle.cfg_chain.specs.profile.Plans.{Planned, profile_plan, not_built, is_built_base, built, plan_in, plan, key_of_base, key_of_plan, key_of}
+use Rattle.cfg_chain.specs.profile.Plans.{Planned, profile_plan, plan_in, plan, key_of_base, key_of_plan, key_of}
 
 pub the_one : (sets : SectionSets) (name : List ℕ) (sources : List (List ℕ)) (answer : Planned) → IsPlan sets name sources answer → profile_plan sets name sources ≡ answer
 unfolding profile_plan
@@ -34,22 +33,19 @@ refused sets name sources e other (inr said) = inr (the_one sets name sources (E
 -- ---- whose token is kept
 
 -- a named source needs no token
-built_named : (chain : ProfileChain) (name : List ℕ) → chain.base ≡ base.NamedSource name → key_of_plan (built chain) ≡ None
-built_named chain name is = ap (λ b. key_of_plan (if is_built_base b then Ok chain else Err not_built)) is ∙ ap key_of_base is
-
-known_or_not : (chain : ProfileChain) (name : List ℕ) (known : Bool) → chain.base ≡ base.NamedSource name → key_of_plan ((if known then Ok chain else Err (UnknownProvider name)) >>= built) ≡ None
-known_or_not chain name true is = built_named chain name is
+known_or_not : (chain : ProfileChain) (name : List ℕ) (known : Bool) → chain.base ≡ base.NamedSource name → key_of_plan (if known then Ok chain else Err (UnknownProvider name)) ≡ None
+known_or_not chain name true is = ap key_of_base is
 known_or_not chain name false is = refl
 
-over_key : (sources : List (List ℕ)) (chain : ProfileChain) (b : BaseProvider) → chain.base ≡ b → key_of_plan (planned_over sources chain b >>= built) ≡ key_of_plan (planned_over [] chain b >>= built)
+over_key : (sources : List (List ℕ)) (chain : ProfileChain) (b : BaseProvider) → chain.base ≡ b → key_of_plan (planned_over sources chain b) ≡ key_of_plan (planned_over [] chain b)
 over_key sources chain (base.NamedSource name) is = known_or_not chain name (is_known sources name) is ∙ sym (known_or_not chain name (is_known [] name) is)
 over_key sources chain (base.AccessKey keys) is = refl
 over_key sources chain (base.WebIdentityTokenRole arn file session) is = refl
 over_key sources chain (base.Sso session region url account role) is = refl
 over_key sources chain (base.CredentialProcess command account) is = refl
-over_key sources chain (base.LoginSession arn) is = refl
+over_key sources chain (base.LoginSession session) is = refl
 
-planned_key : (sources : List (List ℕ)) (r : Planned) → key_of_plan (planned sources r >>= built) ≡ key_of_plan (planned [] r >>= built)
+planned_key : (sources : List (List ℕ)) (r : Planned) → key_of_plan (planned sources r) ≡ key_of_plan (planned [] r)
 planned_key sources (Ok chain) = over_key sources chain chain.base refl
 planned_key sources (Err e) = refl
 
@@ -60,7 +56,7 @@ key_in (Sections sets) name sources =
     let one = (the_plan sets name sources).said in
     let other = (the_plan sets name []).said in
     let same = sym ((the_chain sets name).only one.resolved one.chain) ∙ (the_chain sets name).only other.resolved other.chain in
-    ap (λ a. key_of_plan (a >>= built)) one.plan ∙ planned_key sources one.resolved ∙ ap (λ r. key_of_plan (planned [] r >>= built)) same ∙ sym (ap (λ a. key_of_plan (a >>= built)) other.plan)
+    ap key_of_plan one.plan ∙ planned_key sources one.resolved ∙ ap (λ r. key_of_plan (planned [] r)) same ∙ sym (ap key_of_plan other.plan)
 
 pub one_key : (conf : Configuration) (sources : List (List ℕ)) → key_of_plan (plan conf sources) ≡ key_of conf
 unfolding plan key_of

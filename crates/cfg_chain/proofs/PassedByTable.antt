@@ -47,8 +47,8 @@ use Rattle.cfg_chain.specs.Settings.{Setting, names_of, container_settings, chai
 use Rattle.cfg_chain.specs.Members.{member_tree}
 use Rattle.cfg_chain.specs.PassedOver.{plan_is_passed_over, is_error, IsPassedOver, PassesByTable}
 use Rattle.cfg_chain.specs.profile.Bases.{by_container}
-use Rattle.cfg_chain.specs.profile.Plans.{Planned, plan}
-use Rattle.cfg_chain.specs.profile.Profiles.{refusal, is_not_loaded_error, follows_plan, profile}
+use Rattle.cfg_chain.specs.profile.Plans.{Planned, plan, refusal, is_not_loaded_error}
+use Rattle.cfg_chain.specs.profile.Profiles.{follows_plan, profile}
 use Rattle.cfg_chain.specs.profile.Causes.{first_failure, of_base, of_role}
 use Rattle.cfg_chain.proofs.ProfileCauses.{plan_fails}
 

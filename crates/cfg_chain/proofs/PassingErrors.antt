@@ -29,10 +29,10 @@ use Rattle.cfg_providers.specs.Utf8.{utf8}
 use Rattle.cfg_providers.specs.WebIdentities.{readable, set_or_not, identity_in, why_text, why_file, why_granted, why_answer, why_entry}
 use Rattle.cfg_values.specs.Gives.{◌>>=◌}
 use Rattle.cfg_chain.specs.Settings.{Setting}
-use Rattle.cfg_chain.specs.Chains.{passed}
+use Rattle.cfg_keeping.specs.Chains.{passed}
 use Rattle.cfg_chain.specs.Members.{is_not_loaded, credentials_chain}
 use Rattle.cfg_chain.specs.profile.Causes.{of_base, of_role}
-use Rattle.cfg_chain.specs.profile.Profiles.{is_not_loaded_error, refusal}
+use Rattle.cfg_chain.specs.profile.Plans.{is_not_loaded_error, refusal}
 use Rattle.cfg_chain.proofs.UsableEntries.{no_success}
 
 -- whether an error is passed over, where there is one

@@ -15,6 +15,8 @@ use Rattle.cfg_exchange.proofs.Causes.{has_cause}
 use Rattle.cfg_metadata.specs.Metadata.{metadata}
 use Rattle.cfg_metadata.proofs.Given.{given_is, whole_part}
 use Rattle.cfg_metadata.proofs.Reasons.{has_cause as metadata_cause}
+use Rattle.cfg_sign_in.specs.declared.asked_by.AskedBy.TheVariants as by
+use Rattle.cfg_sign_in.proofs.SignInCauses.{sign_in_cause}
 use Rattle.cfg_sso.proofs.SsoCauses.{given_then, sso_cause}
 use Rattle.cfg_profile.specs.declared.chain.BaseProvider.{BaseProvider}
 use Rattle.cfg_profile.specs.declared.chain.BaseProvider.TheVariants as base
@@ -33,9 +35,9 @@ use Rattle.cfg_providers.proofs.EnvironmentFailures.{environment_cause}
 use Rattle.cfg_providers.proofs.ProcessCauses.{process_cause}
 use Rattle.cfg_providers.proofs.WebIdentityCauses.{assumed_cause}
 use Rattle.cfg_chain.specs.Settings.{Setting, names_of, container_settings, named_metadata}
-use Rattle.cfg_chain.specs.profile.Plans.{Planned, plan}
-use Rattle.cfg_chain.specs.profile.Bases.{by_container, base_not_built, built_in_source, source_or, named_source, profile_session, signed_on, base_tree, in_base, based}
-use Rattle.cfg_chain.specs.profile.Profiles.{refusal, marked, derived, follows_planned, follows_plan, profile}
+use Rattle.cfg_chain.specs.profile.Plans.{Planned, plan, refusal}
+use Rattle.cfg_chain.specs.profile.Bases.{by_container, unknown_source, without_role, built_in_source, source_or, named_source, profile_session, signed_on, base_tree, in_base, based}
+use Rattle.cfg_chain.specs.profile.Profiles.{marked, derived, follows_planned, follows_plan, profile}
 use Rattle.cfg_chain.specs.profile.Causes.{why_by_container, BuiltInCause, SourceCause, BaseCause, first_failure, of_base, of_role, PlanCause, PlannedCause, ProfileCause}
 use Rattle.cfg_chain.proofs.RoleCauses.{roles_fail}
 
@@ -49,23 +51,23 @@ container_fails s part out h = has_cause s.configuration.environment (container_
 given_fails : (given : Answer) (found : List Value) (part : List Pair) (out : Answer) → Reads (Gives given) found part out → result_err out ≡ result_err given
 given_fails given found part out h = ap result_err (sym (given_is given out found part h).2)
 
-choose : (b d m : Bool) (s : Setting) (found : List Value) (part : List Pair) (out : Answer) →
-    Reads (if b then lift (by_environment s.configuration.environment) else (if d then lift (by_container s.configuration s.container) else (if m then metadata (named_metadata s) else Gives base_not_built))) found part out →
-    BuiltInCause s b d m found part out
-unfolding base_not_built
-choose true d m s found part out h = environment_fails s part out (lowered (by_environment s.configuration.environment) found part out h).1
-choose false true m s found part out h = container_fails s part out (lowered (by_container s.configuration s.container) found part out h).1
-choose false false true s found part out h = metadata_cause (named_metadata s) found part out h
-choose false false false s found part out h = given_fails base_not_built found part out h
+choose : (b d m : Bool) (s : Setting) (name : List ℕ) (found : List Value) (part : List Pair) (out : Answer) →
+    Reads (if b then lift (by_environment s.configuration.environment) else (if d then lift (by_container s.configuration s.container) else (if m then metadata (named_metadata s) else Gives (unknown_source name)))) found part out →
+    BuiltInCause s name b d m found part out
+unfolding unknown_source
+choose true d m s name found part out h = environment_fails s part out (lowered (by_environment s.configuration.environment) found part out h).1
+choose false true m s name found part out h = container_fails s part out (lowered (by_container s.configuration s.container) found part out h).1
+choose false false true s name found part out h = metadata_cause (named_metadata s) found part out h
+choose false false false s name found part out h = given_fails (unknown_source name) found part out h
 
 source_fails : (s : Setting) (name : List ℕ) (own : Option Answer) (found : List Value) (part : List Pair) (out : Answer) →
     Reads (source_or (built_in_source s.configuration s.container (named_metadata s) name) own) found part out → SourceCause s name own found part out
 unfolding built_in_source
 source_fails s name (Some answer) found part out h = given_fails answer found part out h
-source_fails s name None found part out h = choose (is_alike name (codes "Environment")) (is_alike name (codes "EcsContainer")) (is_alike name (codes "Ec2InstanceMetadata")) s found part out h
+source_fails s name None found part out h = choose (is_alike name (codes "Environment")) (is_alike name (codes "EcsContainer")) (is_alike name (codes "Ec2InstanceMetadata")) s name found part out h
 
 pub base_fails : (s : Setting) (b : BaseProvider) (found : List Value) (part : List Pair) (out : Answer) → Reads (base_tree s b) found part out → BaseCause s b found part out
-unfolding base_tree named_source base_not_built
+unfolding base_tree named_source without_role
 base_fails s (base.AccessKey keys) found part out h = given_fails (Ok keys) found part out h
 base_fails s (base.NamedSource name) found part out h = source_fails s name (last_named name s.sources) found part out h
 base_fails s (base.WebIdentityTokenRole arn file session) found part out h =
@@ -73,10 +75,10 @@ base_fails s (base.WebIdentityTokenRole arn file session) found part out h =
     assumed_cause s.configuration identity no_policies profile_session part out (lowered (assumes_by_web_identity s.configuration profile_session identity no_policies) found part out h).1
 base_fails s (base.CredentialProcess command account) found part out h = process_cause command account part out (lowered (credential_process command account) found part out h).1
 base_fails s (base.Sso session region url (Some account) (Some role)) found part out h = sso_cause s.configuration (signed_on session region url account role) found part out h
-base_fails s (base.Sso session region url (Some account) None) found part out h = given_fails base_not_built found part out h
-base_fails s (base.Sso session region url None (Some role)) found part out h = given_fails base_not_built found part out h
-base_fails s (base.Sso session region url None None) found part out h = given_fails base_not_built found part out h
-base_fails s (base.LoginSession arn) found part out h = given_fails base_not_built found part out h
+base_fails s (base.Sso session region url (Some account) None) found part out h = given_fails without_role found part out h
+base_fails s (base.Sso session region url None (Some role)) found part out h = given_fails without_role found part out h
+base_fails s (base.Sso session region url None None) found part out h = given_fails without_role found part out h
+base_fails s (base.LoginSession session) found part out h = sign_in_cause s.configuration session by.Profile found part out h
 
 marked_fails : (given : Answer) → result_err (marked given) ≡ result_err given
 unfolding marked

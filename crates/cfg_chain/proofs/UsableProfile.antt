@@ -15,6 +15,9 @@ use Rattle.cfg_metadata.specs.Causes.{retrieved_in, why_nothing, AnswersBy}
 use Rattle.cfg_metadata.proofs.Given.{given_is, whole_part}
 use Rattle.cfg_metadata.proofs.Reasons.{has_cause as metadata_cause}
 use Rattle.cfg_metadata.proofs.Validity.{valid_gives}
+use Rattle.cfg_sign_in.specs.declared.asked_by.AskedBy.TheVariants as by
+use Rattle.cfg_sign_in.proofs.SignInCauses.{sign_in_cause}
+use Rattle.cfg_sign_in.proofs.InTime.{nothing_in_the_way as sign_in_succeeds}
 use Rattle.cfg_sso.proofs.SsoCauses.{given_then, sso_cause}
 use Rattle.cfg_sso.proofs.InTime.{nothing_in_the_way}
 use Rattle.cfg_profile.specs.declared.chain.BaseProvider.{BaseProvider}
@@ -28,7 +31,7 @@ use Rattle.cfg_providers.specs.EnvironmentKeys.{environment, by_environment}
 use Rattle.cfg_providers.specs.Processes.{credential_process}
 use Rattle.cfg_providers.specs.WebIdentities.{no_policies, assumes_by_web_identity}
 use Rattle.cfg_chain.specs.Settings.{Setting, named_metadata}
-use Rattle.cfg_chain.specs.profile.Bases.{by_container, base_not_built, built_in_source, source_or, named_source, profile_session, signed_on, base_tree, in_base, based}
+use Rattle.cfg_chain.specs.profile.Bases.{by_container, unknown_source, built_in_source, source_or, named_source, profile_session, signed_on, base_tree, in_base, based}
 use Rattle.cfg_chain.specs.profile.Causes.{of_base}
 use Rattle.cfg_chain.specs.profile.Profiles.{marked, derived, follows_planned}
 use Rattle.cfg_chain.specs.Valid.{AreOfUse, IsStretch, GivesMetadata, IsBuiltInBy, IsSource, IsBase}
@@ -69,20 +72,20 @@ module _ (s : Setting) where
 
   -- ---- the sources
 
-  choose : (b d m : Bool) (found whole : List Value) (part journal : List Pair) (out : Answer) → IsStretch found whole → IsStretch part journal →
-      Reads (if b then lift (by_environment env) else (if d then lift (by_container s.configuration s.container) else (if m then metadata (named_metadata s) else Gives base_not_built))) found part out →
+  choose : (b d m : Bool) (name : List ℕ) (found whole : List Value) (part journal : List Pair) (out : Answer) → IsStretch found whole → IsStretch part journal →
+      Reads (if b then lift (by_environment env) else (if d then lift (by_container s.configuration s.container) else (if m then metadata (named_metadata s) else Gives (unknown_source name)))) found part out →
       AreOfUse env part → IsBuiltInBy s b d m whole journal → is_ok out ≡ true
-  choose true d m found whole part journal out mine stretch h uses fine =
+  choose true d m name found whole part journal out mine stretch h uses fine =
       lifted_succeeds (by_environment env) found part out (done_succeeds env (environment env) (keys_given env fine)) h uses
-  choose false true m found whole part journal out mine stretch h uses fine = lifted_succeeds (by_container s.configuration s.container) found part out (container_succeeds s fine) h uses
-  choose false false true found whole part journal out mine stretch h uses fine = metadata_succeeds (named_metadata s) found whole part journal out mine stretch h uses fine
-  choose false false false found whole part journal out mine stretch h uses fine = absurd fine
+  choose false true m name found whole part journal out mine stretch h uses fine = lifted_succeeds (by_container s.configuration s.container) found part out (container_succeeds s fine) h uses
+  choose false false true name found whole part journal out mine stretch h uses fine = metadata_succeeds (named_metadata s) found whole part journal out mine stretch h uses fine
+  choose false false false name found whole part journal out mine stretch h uses fine = absurd fine
 
   source_succeeds : (name : List ℕ) (own : Option Answer) → KeptSucceeds env (source_or (built_in_source s.configuration s.container (named_metadata s) name) own) (IsSource s name own)
   unfolding built_in_source
   source_succeeds name (Some given) found whole part journal out mine stretch h uses fine = quiet_succeeds given found part out fine h
   source_succeeds name None found whole part journal out mine stretch h uses fine =
-      choose (is_alike name (codes "Environment")) (is_alike name (codes "EcsContainer")) (is_alike name (codes "Ec2InstanceMetadata")) found whole part journal out mine stretch h uses fine
+      choose (is_alike name (codes "Environment")) (is_alike name (codes "EcsContainer")) (is_alike name (codes "Ec2InstanceMetadata")) name found whole part journal out mine stretch h uses fine
 
   -- ---- the bases
 
@@ -102,7 +105,8 @@ module _ (s : Setting) where
   base_succeeds (base.Sso session region url (Some account) None) found whole part journal out mine stretch h uses fine = absurd fine
   base_succeeds (base.Sso session region url None (Some role)) found whole part journal out mine stretch h uses fine = absurd fine
   base_succeeds (base.Sso session region url None None) found whole part journal out mine stretch h uses fine = absurd fine
-  base_succeeds (base.LoginSession arn) found whole part journal out mine stretch h uses fine = absurd fine
+  base_succeeds (base.LoginSession session) found whole part journal out mine stretch h uses fine =
+      sign_in_succeeds s.configuration session by.Profile found part out (sign_in_cause s.configuration session by.Profile found part out h) (fine found part out mine stretch h)
 
   in_base_fine : (keys : Keys) → is_ok (in_base (Ok keys)) ≡ true
   unfolding in_base

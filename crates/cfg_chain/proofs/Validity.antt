@@ -24,12 +24,12 @@ use Rattle.cfg_providers.specs.WebIdentities.{no_policies, identity_in, by_ident
 use Rattle.cfg_chain.specs.declared.member.Member.{Member}
 use Rattle.cfg_chain.specs.declared.member.Member.TheVariants.{Environment, Profile, WebIdentityToken, EcsContainer, Ec2InstanceMetadata}
 use Rattle.cfg_chain.specs.Settings.{Setting, names_of, chain_metadata}
-use Rattle.cfg_chain.specs.Chains.{attempt}
-use Rattle.cfg_chain.specs.ChainParts.{AreParts}
+use Rattle.cfg_keeping.specs.Chains.{attempt}
+use Rattle.cfg_keeping.specs.ChainParts.{AreParts}
 use Rattle.cfg_chain.specs.Members.{member_tree, credentials_chain}
 use Rattle.cfg_chain.specs.profile.Causes.{first_failure, PlannedCause}
-use Rattle.cfg_chain.specs.profile.Plans.{Planned, plan}
-use Rattle.cfg_chain.specs.profile.Profiles.{refusal, follows_plan, profile}
+use Rattle.cfg_chain.specs.profile.Plans.{Planned, plan, refusal}
+use Rattle.cfg_chain.specs.profile.Profiles.{follows_plan, profile}
 use Rattle.cfg_chain.specs.Resolves.{IsPart, Resolves}
 use Rattle.cfg_chain.specs.Valid.{AreOfUse, IsAddress, HasTexts, HoldsKeys, IsStretch, HasToken, IsContainer, GivesMetadata, GivesBehindProfile, GivesBehindEnvironment, IsValid}
 use Rattle.cfg_chain.proofs.UsableEntries.{no_success, rest_of_use}

@@ -1,7 +1,5 @@
 pub mod Settings
 pub mod Sources
-pub mod Chains
-pub mod ChainParts
 pub mod profile
 pub mod Members
 pub mod Turns

@@ -15,7 +15,7 @@ use Rattle.cfg_providers.specs.WebIdentities.{no_policies, web_identity}
 use Rattle.cfg_chain.specs.declared.member.Member.{Member}
 use Rattle.cfg_chain.specs.declared.member.Member.TheVariants.{Environment, Profile, WebIdentityToken, EcsContainer, Ec2InstanceMetadata}
 use Rattle.cfg_chain.specs.Settings.{Setting, chain_metadata}
-use Rattle.cfg_chain.specs.Chains.{Chain, chain}
+use Rattle.cfg_keeping.specs.Chains.{Chain, chain}
 use Rattle.cfg_chain.specs.profile.Bases.{by_container}
 use Rattle.cfg_chain.specs.profile.Profiles.{profile}
 

@@ -10,8 +10,7 @@ use Rattle.cfg_providers.specs.WebIdentities.{identity_in}
 use Rattle.cfg_chain.specs.declared.member.Member.{Member}
 use Rattle.cfg_chain.specs.declared.member.Member.TheVariants.{Environment, Profile, WebIdentityToken, EcsContainer, Ec2InstanceMetadata}
 use Rattle.cfg_chain.specs.Settings.{Setting, names_of, chain_metadata}
-use Rattle.cfg_chain.specs.profile.Plans.{Planned, plan}
-use Rattle.cfg_chain.specs.profile.Profiles.{is_not_loaded_error}
+use Rattle.cfg_chain.specs.profile.Plans.{Planned, plan, is_not_loaded_error}
 
 -- the profile is passed over exactly where there is none, where it has no credentials, or where it
 -- gives a token in their place

@@ -32,6 +32,9 @@ use Rattle.cfg_metadata.specs.Settings.{MetadataSetting}
 use Rattle.cfg_metadata.specs.Metadata.{metadata}
 use Rattle.cfg_metadata.specs.Causes.{retrieved_in}
 use Rattle.cfg_metadata.specs.Valid as usable
+use Rattle.cfg_sign_in.specs.declared.asked_by.AskedBy.TheVariants as by
+use Rattle.cfg_sign_in.specs.SignIns.{sign_in_credentials}
+use Rattle.cfg_sign_in.specs.InNoWay as sign_in
 use Rattle.cfg_sso.specs.declared.config.SsoProviderConfig.{SsoProviderConfig}
 use Rattle.cfg_sso.specs.SsoCauses.{SsoCause}
 use Rattle.cfg_sso.specs.InNoWay.{NothingInTheWay}
@@ -45,8 +48,7 @@ use Rattle.cfg_providers.specs.ProcessDocuments.{process_document}
 use Rattle.cfg_providers.specs.WebIdentities.{identity_in}
 use Rattle.cfg_chain.specs.Settings.{Setting, names_of, chain_metadata, named_metadata}
 use Rattle.cfg_chain.specs.profile.Bases.{signed_on}
-use Rattle.cfg_chain.specs.profile.Plans.{Planned, plan}
-use Rattle.cfg_chain.specs.profile.Profiles.{is_not_loaded_error}
+use Rattle.cfg_chain.specs.profile.Plans.{Planned, plan, is_not_loaded_error}
 
 -- ---- the entries
 
@@ -167,6 +169,11 @@ abbrev pub GivesSignOn : Configuration → SsoProviderConfig → List Value → 
 GivesSignOn conf sso found journal = (mine : List Value) (part : List Pair) (given : Answer) → IsStretch mine found → IsStretch part journal → (cause : SsoCause conf sso mine part given) →
     NothingInTheWay conf sso cause.token_part cause.role_part
 
+-- Over the stretch in which the token of a sign-in session is looked at, nothing stands in the way.
+abbrev pub GivesSignIn : Configuration → List ℕ → List Value → List Pair → Type 0
+GivesSignIn conf session found journal = (mine : List Value) (part : List Pair) (given : Answer) → IsStretch mine found → IsStretch part journal → Reads (sign_in_credentials conf session by.Profile) mine part given →
+    sign_in.NothingInTheWay conf mine part
+
 -- by whether the name is that of the environment, of a container, of instance metadata
 abbrev pub IsBuiltInBy : Setting → Bool → Bool → Bool → List Value → List Pair → Type 0
 IsBuiltInBy s true container metadata found journal = HoldsKeys s.configuration.environment
@@ -187,6 +194,7 @@ IsBase s (base.NamedSource name) found journal = IsSource s name (last_named nam
 IsBase s (base.WebIdentityTokenRole arn file session) found journal = Unit {0}
 IsBase s (base.CredentialProcess command account) found journal = Unit {0}
 IsBase s (base.Sso session region url (Some account) (Some role)) found journal = GivesSignOn s.configuration (signed_on session region url account role) found journal
+IsBase s (base.LoginSession session) found journal = GivesSignIn s.configuration session found journal
 IsBase s _ found journal = ⊥
 
 -- The variables name a web identity, or a container that can be asked; or no container, and the instance

@@ -4,7 +4,7 @@ ghost use Rattle.cfg_chain.specs.Settings.{setting};
 ghost use Rattle.cfg_chain.specs.Sources.{named_sources, services_in};
 ghost use Rattle.cfg_chain.specs.profile.Plans.{key_of};
 ghost use Rattle.cfg_sso.specs.Tokens.{HasKey};
-ghost use Rattle.cfg_chain.specs.Chains.{chain};
+ghost use Rattle.cfg_keeping.specs.Chains.{chain};
 ghost use Rattle.cfg_chain.specs.Members.{name_of, credentials_chain};
 
 use crate::member::{Member, Turn, follow_member, turn_of};
@@ -20,7 +20,7 @@ use cfg_world::{Asking, Stop};
 use std::alloc::Global;
 
 /// Asks the members in order, up to the first one that was loaded or that failed.
-#[tactic(auto, using(crate::proofs::ChainSteps::chain_steps))]
+#[tactic(auto, using(cfg_keeping::proofs::ChainSteps::chain_steps))]
 pub fn follow_chain<P: Keeper, A: Asking>(
     alloc: Global,
     config: &ProviderConfig,

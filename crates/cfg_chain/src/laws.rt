@@ -1,5 +1,5 @@
 //! Laws of chains, each on a call that carries it.
-ghost use Rattle.std.specs.Prelude.{◌≡◌, ◌↔◌, ℕ, List, [], true, is_ok, Option, Result};
+ghost use Rattle.std.specs.Prelude.{◌≡◌, ◌↔◌, ℕ, List, [], true, is_ok, Option, Result, Ok};
 ghost use Rattle.cfg_types.specs.declared.errors.ProviderAttempt.{ProviderAttempt};
 ghost use Rattle.cfg_world.specs.Fits.{Pair};
 ghost use Rattle.cfg_world.specs.declared.script.DeviceLists.{DeviceLists as Lists};
@@ -7,13 +7,14 @@ ghost use Rattle.cfg_world.specs.Script.{Place, Given};
 ghost use Rattle.cfg_keeping.specs.Kinds.{Value, States};
 ghost use Rattle.cfg_keeping.specs.KeptInquiry.{Reads, Begins};
 ghost use Rattle.cfg_profile.specs.Configuration.{Configuration};
+ghost use Rattle.cfg_profile.specs.declared.chain.ProfileChain.{ProfileChain};
 ghost use Rattle.cfg_profile.specs.NamedSources.{IsPlan};
 ghost use Rattle.cfg_profile.specs.SectionSets.{SectionSets};
 ghost use Rattle.cfg_providers.specs.CustomSources.{Answer};
 ghost use Rattle.cfg_chain.specs.declared.member.Member.{Member as Asked};
-ghost use Rattle.cfg_chain.specs.Settings.{Setting, Lent};
-ghost use Rattle.cfg_chain.specs.Chains.{Chain, chain};
-ghost use Rattle.cfg_chain.specs.ChainParts.{MemberReads, AreParts, AreBegunParts};
+ghost use Rattle.cfg_chain.specs.Settings.{Setting, Lent, names_of};
+ghost use Rattle.cfg_keeping.specs.Chains.{Chain, chain};
+ghost use Rattle.cfg_keeping.specs.ChainParts.{MemberReads, AreParts, AreBegunParts};
 ghost use Rattle.cfg_chain.specs.Members.{member_tree};
 ghost use Rattle.cfg_exchange.specs.Containers.{IsContainerUri};
 ghost use Rattle.cfg_chain.specs.Causes.{Cause};
@@ -21,6 +22,7 @@ ghost use Rattle.cfg_chain.specs.PassedOver.{IsPassedOver, PassesByTable};
 ghost use Rattle.cfg_chain.specs.Resolves.{Resolves};
 ghost use Rattle.cfg_chain.specs.Valid.{IsValid};
 ghost use Rattle.cfg_chain.specs.Provides.{IsCall};
+ghost use Rattle.cfg_chain.specs.profile.Bases.{CanBeAsked};
 ghost use Rattle.cfg_chain.specs.profile.Plans.{Planned, profile_plan, plan, key_of_plan, key_of};
 
 /// The journal of a chain is the parts of its members in order, and the other way round: whatever its
@@ -71,6 +73,12 @@ pub fn nothing_in_the_way_gives_credentials()
 pub fn the_plan_is_that_of_the_path()
     ensures path { (sets : SectionSets) (name : List ℕ) (sources : List (List ℕ)) → IsPlan sets name sources (profile_plan sets name sources) }
     ensures only { (sets : SectionSets) (name : List ℕ) (sources : List (List ℕ)) (answer : Planned) → IsPlan sets name sources answer → profile_plan sets name sources ≡ answer }
+{}
+
+/// A plan has a base that can be asked: a source that is there, IAM Identity Center for a role of an
+/// account, or any other.
+pub fn a_plan_has_a_base_that_can_be_asked()
+    ensures { (s : Setting) (p : ProfileChain) → plan s.configuration (names_of s.sources) ≡ Ok p → CanBeAsked s p.base }
 {}
 
 /// Whose token a configuration needs is the same whatever sources the caller has.

@@ -1,5 +1,5 @@
-//! Chains of credentials providers. It stands on cfg_providers, cfg_metadata, cfg_sso, cfg_keeping and
-//! cfg_profile. The layers above may use that a call's journal is the parts of the members up to the one that
+//! Chains of credentials providers. It stands on cfg_providers, cfg_metadata, cfg_sso, cfg_sign_in,
+//! cfg_keeping and cfg_profile. The layers above may use that a call's journal is the parts of the members up to the one that
 //! answered, in order, that every earlier one was not loaded, and that each part has its cause.
 #![tactic(auto)]
 
@@ -16,4 +16,3 @@ pub use cfg_profile::{ProfileSet, ProfileSource, ProviderConfig, Section};
 pub use cfg_providers::{CustomProvider, CustomSource, ProvideCredentials};
 pub use cfg_types::{CredentialsError, OutOfMemory};
 pub use default_provider::credentials::{DefaultCredentialsChain, RegionSource};
-pub use profile::plan::is_built;

@@ -1,7 +1,7 @@
 // What no clause says: worked examples of the definitions, and that calls succeed. A row's
 // configuration and devices stand in a script, as the program reads them.
 use crate::setup::{Setup, answered, chain_of, questions, set_up, shown};
-use cfg_chain::{CustomSource, DefaultCredentialsChain, ProfileSource, ProviderConfig, is_built};
+use cfg_chain::{CustomSource, DefaultCredentialsChain, ProfileSource, ProviderConfig};
 use cfg_types::{OutOfMemory, Request, Text};
 use cfg_world::{DeviceLists, Entry, Question, ScriptDevices, World};
 use std::alloc::{AllocError, Global};
@@ -84,14 +84,6 @@ fn errors_of_scripts(rt: HostRuntime) -> Result<(), Fail> {
         (
             r#"{"profiles":[["default",[["aws_session_token","x"]]]]}"#,
             r#"InvalidConfiguration(Profile(InvalidCredentialSource { profile: "default", message: "profile missing aws_access_key_id" }))"#,
-        ),
-        (
-            r#"{"profiles":[["default",[["login_session","x"]]]]}"#,
-            r#"InvalidConfiguration(Profile(FeatureNotEnabled { feature: "profile-providers", message: None }))"#,
-        ),
-        (
-            r#"{"profiles":[["default",[["role_arn","x"],["source_profile","b"]]],["b",[["login_session","x"]]]]}"#,
-            r#"InvalidConfiguration(Profile(FeatureNotEnabled { feature: "profile-providers", message: None }))"#,
         ),
         (
             r#"{"profiles":[["default",[["sso_session","s"],["sso_account_id","1"],["sso_role_name","r"]]]]}"#,
@@ -302,6 +294,14 @@ fn errors_of_a_base_behind_roles(rt: HostRuntime) -> Result<(), Fail> {
             "ProviderError(Base(ProviderError(SsoFile(NoHomeDirectory))))",
         ),
         (
+            r#"{"profiles":[["default",[["login_session","x"]]]]}"#,
+            "ProviderError(Base(Unhandled(LoginToken(NoHomeDirectory))))",
+        ),
+        (
+            r#"{"profiles":[["default",[["role_arn","x"],["source_profile","b"]]],["b",[["login_session","x"]]]]}"#,
+            "ProviderError(Base(Unhandled(LoginToken(NoHomeDirectory))))",
+        ),
+        (
             r#"{"profiles":[["default",[["role_arn","x"],["credential_source","unloaded"]]]]}"#,
             "ProviderError(Base(CredentialsNotLoaded(NotConfigured)))",
         ),
@@ -395,18 +395,16 @@ fn the_members_that_were_not_loaded_are_shown(rt: HostRuntime) -> Result<(), Fai
     Ok(())
 }
 
-// Sections that were refused, and whether the plan for them is built.
+// Sections that were refused.
 fn refused_words(alloc: Global) -> Result<String, OutOfMemory> {
     let reason = Text::of(alloc, "line 3")?;
     let config = ProviderConfig::without_region(alloc)?.with_profiles(ProfileSource::Refused(
         reason,
     ));
-    let built = is_built(alloc, &config, &[])?;
     let devices = ScriptDevices::new(alloc, DeviceLists::empty(alloc))?;
     let mut world = World::new(alloc, devices);
     let chain = chain_of(alloc, config, None, &mut world)?;
-    let answer = call(alloc, &chain, &[], &mut world)?;
-    Ok(format!(in alloc; "{built} {answer}")?)
+    call(alloc, &chain, &[], &mut world)
 }
 
 #[test]
@@ -414,7 +412,7 @@ fn refused_sections(rt: HostRuntime) -> Result<(), Fail> {
     let words = refused_words(rt.alloc())?;
     assert_eq!(rt;
         words.as_str(),
-        r#"true InvalidConfiguration(Profile(InvalidProfile("line 3")))"#
+        r#"InvalidConfiguration(Profile(InvalidProfile("line 3")))"#
     );
     Ok(())
 }

@@ -3,7 +3,7 @@
 use crate::setup::{Outcome, Setup, called, set_up};
 use cfg_chain::{Client, CustomSource, DefaultCredentialsChain, Found, Kept};
 use cfg_imds::MetadataToken;
-use cfg_keeping::{CachedSsoToken, Keeper, Load, Retrieved};
+use cfg_keeping::{CachedSsoToken, Keeper, Load, LoginToken, Retrieved};
 use cfg_types::{Credentials, Instant, OutOfMemory, Request};
 use cfg_world::{Entry, Question, ScriptDevices, World};
 use std::alloc::{AllocError, Global};
@@ -56,6 +56,10 @@ fn request_words(alloc: Global, request: &Request) -> Result<String, AllocError>
         Request::CreateToken(request) => {
             let token = request.refresh_token.as_str();
             format!(in alloc; "refresh by {token}")
+        }
+        Request::CreateOAuth2Token(request) => {
+            let token = request.refresh_token.as_str();
+            format!(in alloc; "sign-in by {token}")
         }
         _ => String::from_str(alloc, "another request"),
     }
@@ -111,6 +115,18 @@ fn load_words(alloc: Global, load: &Option<Load<CachedSsoToken>>) -> Result<Stri
     }
 }
 
+fn login_words(alloc: Global, load: &Option<Load<LoginToken>>) -> Result<String, AllocError> {
+    match load {
+        None => String::from_str(alloc, "no token"),
+        Some(load) => {
+            let keys = &load.token().access_token;
+            let id = keys.access_key_id();
+            let end = moment_words(alloc, keys.expiry())?;
+            format!(in alloc; "{id} until {end}")
+        }
+    }
+}
+
 fn value_words(alloc: Global, value: &Found) -> Result<String, AllocError> {
     match value {
         Found::ImdsToken { place, token } => {
@@ -123,6 +139,11 @@ fn value_words(alloc: Global, value: &Found) -> Result<String, AllocError> {
         }
         Found::Sso { load, last } => {
             let token = load_words(alloc, load)?;
+            let last = moment_words(alloc, *last)?;
+            format!(in alloc; " ({token}, tried {last})")
+        }
+        Found::Login { load, last } => {
+            let token = login_words(alloc, load)?;
             let last = moment_words(alloc, *last)?;
             format!(in alloc; " ({token}, tried {last})")
         }
@@ -327,6 +348,39 @@ fn tokens_of_a_session_that_expire(rt: HostRuntime) -> Result<(), Fail> {
     Ok(())
 }
 
+// A sign-in session, whose file has this token until 900, at these moments.
+fn sign_in(alloc: Global, clock: &str, grants: &str) -> Result<String, AllocError> {
+    let file =
+        r#""{\"accessToken\":{\"accessKeyId\":\"AK\",\"secretAccessKey\":\"SK\",\"sessionToken\":\"ST\",\"accountId\":\"012345678901\",\"expiresAt\":\"1970-01-01T00:15:00Z\"},\"refreshToken\":\"rt\",\"clientId\":\"ci\",\"dpopKey\":\"dk\"}""#;
+    format!(in alloc;
+        r#"{{"variables":[["AWS_LOGIN_CACHE_DIRECTORY","/c"]],"profiles":[["default",[["login_session","abc"]]]],"files":[["/c/ba7816bf8f01cfea414140de5dae2223b00361a396177a9cb410ff61f20015ad.json",{file}]],"clock":{clock},"replies":{{"sign-in":[{grants}]}}}}"#
+    )
+}
+
+// A token that is kept, until less than 300 seconds of it are left. A refresh that is refused is not
+// noted, and leaves no token; one that is granted is noted, and its token is kept.
+#[test]
+fn sign_in_sessions(rt: HostRuntime) -> Result<(), Fail> {
+    let table: &[(&str, &str, &str)] = &[
+        (
+            "[0,0,599,600,600]",
+            "",
+            "AK 900 [CredentialsProfileLogin, CredentialsProfile], now, read, now; (no token, tried never)\nAK 900 [CredentialsProfileLogin, CredentialsProfile], now; (AK until 900, tried never)\nProviderError(Base(ProviderError(LoginToken(RefreshFailed { message: None })))), now, read, now, sign-in by rt; (AK until 900, tried never)\n",
+        ),
+        (
+            "[600]",
+            r#"{"refused":"TokenExpired","message":"m"},{"id":"AK2","secret":"SK2","token":"ST2","refresh":"rt2","expires_in":900}"#,
+            "ProviderError(Base(ProviderError(LoginToken(RefreshFailed { message: Some(\"Your session has expired. Please reauthenticate.\") })))), now, read, now, sign-in by rt; (no token, tried never)\nAK2 1500 [CredentialsProfileLogin, CredentialsProfile], now, read, now, sign-in by rt, write; (no token, tried never)\nAK2 1500 [CredentialsProfileLogin, CredentialsProfile], now; (AK2 until 1500, tried 600)\n",
+        ),
+    ];
+    for (clock, grants, want) in table {
+        let script = sign_in(rt.alloc(), clock, grants)?;
+        let words = calls_of(rt.alloc(), script.as_str(), 3)?;
+        assert_eq!(rt; words.as_str(), *want, "{clock} {grants}");
+    }
+    Ok(())
+}
+
 fn fallback_words(
     alloc: Global,
     chain: &DefaultCredentialsChain,
@@ -423,6 +477,10 @@ fn keys_of_chains(rt: HostRuntime) -> Result<(), Fail> {
         (
             r#"{"variables":[["AWS_PROFILE","a"]],"profiles":[["a",[["role_arn","x"],["source_profile","b"]]],["b",[["role_arn","y"],["source_profile","c"]]],["c",[["SSO_Session","s"],["sso_account_id","1"],["sso_role_name","r"]]]],"sessions":[["s",[]],["s",[["sso_region","f"],["sso_start_url",""]]]]}"#,
             r#"Some(Sso { session: "s", region: "f", start_url: "" }) true"#,
+        ),
+        (
+            r#"{"profiles":[["default",[["role_arn","x"],["source_profile","b"]]],["b",[["login_session"," abc "]]]]}"#,
+            r#"Some(Login { session: " abc " }) true"#,
         ),
         // A start URL without a session.
         (

@@ -29,6 +29,10 @@ const METADATA: &str =
 const SESSION: &str =
     r#"{"variables":[["HOME","/home/u"]],"profiles":[["default",[["sso_session","abc"],["sso_account_id","1"],["sso_role_name","r"]]]],"sessions":[["abc",[["sso_region","us-east-1"],["sso_start_url","u"]]]],"files":[["/home/u/.aws/sso/cache/a9993e364706816aba3e25717850c26c9cd0d89d.json","{\"accessToken\":\"t\",\"expiresAt\":\"1970-01-01T00:15:00Z\",\"clientId\":\"i\",\"clientSecret\":\"s\",\"refreshToken\":\"r\",\"registrationExpiresAt\":\"1970-01-02T00:00:00Z\"}"]],"clock":[700],"replies":{"create-token":[{"access":"t2","expires_in":3600}],"role-credentials":[{"id":"R","secret":"S","token":"T","expires_ms":5000000}]}}"#;
 
+// A role over a sign-in session, whose token is refreshed.
+const SIGN_IN: &str =
+    r#"{"variables":[["AWS_LOGIN_CACHE_DIRECTORY","/c"]],"profiles":[["default",[["role_arn","r"],["source_profile","b"],["role_session_name","s"]]],["b",[["login_session","abc"]]]],"files":[["/c/ba7816bf8f01cfea414140de5dae2223b00361a396177a9cb410ff61f20015ad.json","{\"accessToken\":{\"accessKeyId\":\"AK\",\"secretAccessKey\":\"SK\",\"sessionToken\":\"ST\",\"accountId\":\"012345678901\",\"expiresAt\":\"1970-01-01T00:15:00Z\"},\"refreshToken\":\"rt\",\"clientId\":\"ci\",\"dpopKey\":\"dk\"}"]],"clock":[1000],"replies":{"sign-in":[{"id":"AK2","secret":"SK2","token":"ST2","refresh":"rt2","expires_in":900}],"assume-role":[{"id":"KA","secret":"SA","token":"TA","expires":2000}]}}"#;
+
 /// What a script's chain comes to where the call of the devices of this number fails.
 pub(crate) fn with_fault(alloc: Global, script: &str, at: u64) -> Result<String, OutOfMemory> {
     let Some(
@@ -237,6 +241,26 @@ fn each_call_of_the_devices_may_fail(rt: HostRuntime) -> Result<(), Fail> {
             4,
             "6 ProviderError(Base(ProviderError(Sent(Dispatch))))",
         ),
+        (
+            SIGN_IN,
+            1,
+            r#"2 ProviderError(Base(Unhandled(LoginToken(IoError { what: Read, path: "/c/ba7816bf8f01cfea414140de5dae2223b00361a396177a9cb410ff61f20015ad.json" }))))"#,
+        ),
+        (
+            SIGN_IN,
+            2,
+            "4 ProviderError(Base(ProviderError(LoginToken(RefreshFailed { message: None }))))",
+        ),
+        (
+            SIGN_IN,
+            3,
+            r#"6 Credentials { provider_name: "AssumeRoleProvider", access_key_id: "KA", secret_access_key: "** redacted **", expires_after: 2000 s 0 ns } SA Some("TA") [CredentialsProfile]"#,
+        ),
+        (
+            SIGN_IN,
+            4,
+            "6 ProviderError(Role(ProviderError(Sent(Dispatch))))",
+        ),
     ];
     for (script, at, want) in table {
         let words = with_fault(rt.alloc(), script, *at)?;
@@ -254,6 +278,7 @@ fn the_question_behind_a_beginning_is_open(rt: HostRuntime) -> Result<(), Fail> 
         (CONTAINER, 5),
         (METADATA, 10),
         (SESSION, 6),
+        (SIGN_IN, 6),
     ] {
         let words = beginnings(rt.alloc(), script)?;
         let want = "as the journal; ".repeat(rt.alloc(), questions + 1)?;

@@ -4,7 +4,9 @@ pub mod Splits
 pub mod Told
 pub mod Agreeing
 pub mod Beginnings
+pub mod ChainSteps
+pub mod ChainParts
 pub mod OneHolding
-pub mod SsoSteps
+pub mod SectionSteps
 pub mod MetadataSteps
 pub mod RetrievedSteps

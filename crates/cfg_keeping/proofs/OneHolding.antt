@@ -111,6 +111,13 @@ module _ {W : Type 0} (w : Ghosts W) where
   one_told None p old new found later was is result states stands h = h
   one_told (Some k) p old new found later was is result states stands h = h (Some states) stands
 
+  -- the same, with the states that this leaves
+  pub one_told_after : {K R : Type 0} (key : Option K) (p : K → KeptInquiry R) (old new : W) (found later : List Value) (was is : Value) (result : Result R Stop) (states after : States) → was ≡ value_at states (spot_of was) → after ≡ with_value states is →
+      IfSome key (λ k. HoldsOne w (p k) old new found later was is result) →
+      IfSome key (λ k. HoldsFollows w (p k) old (held found (Some states)) new (held later (Some after)) result)
+  one_told_after key p old new found later was is result states after stands left h =
+      subst (λ x. IfSome key (λ k. HoldsFollows w (p k) old (held found (Some states)) new (held later (Some x)) result)) (sym left) (one_told key p old new found later was is result states stands h)
+
   -- a call that came to an end has begun
   pub ended_begins : {R : Type 0} (p : KeptInquiry R) (old new : W) (before later : Holdings) (out : R) → HoldsEnds w p old before new later out → HoldsBreaks w p old before new later
   ended_begins p old new before later out h = record {

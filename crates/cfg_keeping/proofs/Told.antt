@@ -2,7 +2,7 @@
 use Rattle.std.proofs.Common.{◌≡◌, List, [], ◌∷◌, Option, Some, None, refl, sym, ap, ◌∙◌, subst, inr}
 use Rattle.cfg_world.specs.Fits.{Pair}
 use Rattle.cfg_keeping.specs.declared.place.Place.TheVariants.{Chain, Named}
-use Rattle.cfg_keeping.specs.Kinds.{Spot, SsoSection, MetadataTokenOf, RetrievedOf, Value, SsoAt, MetadataTokenAt, RetrievedAt, States, spot_of, value_at, with_value}
+use Rattle.cfg_keeping.specs.Kinds.{Spot, SsoSection, LoginSection, MetadataTokenOf, RetrievedOf, Value, SsoAt, LoginAt, MetadataTokenAt, RetrievedAt, States, spot_of, value_at, with_value}
 use Rattle.cfg_keeping.specs.KeptInquiry.{KeptInquiry, Gives, Puts, Finds, Leaves, Runs, Begins, Reads, StandsIn, leave, found_by, kept_after}
 
 -- A run from states that are told finds what the definition says, and leaves what it says.
@@ -50,6 +50,7 @@ run_begins (Leaves v p) old new found journal out h = inr (run_begins p (leave o
 -- what is kept at a spot is at this spot, and stands there
 pub spot_at : (states : States) (spot : Spot) → spot_of (value_at states spot) ≡ spot
 spot_at states SsoSection = refl
+spot_at states LoginSection = refl
 spot_at states (MetadataTokenOf place) = refl
 spot_at states (RetrievedOf place) = refl
 
@@ -59,6 +60,7 @@ stands_at states spot = ap (value_at states) (sym (spot_at states spot))
 -- leaving what is kept there changes nothing
 same_value : (states : States) (v : Value) → v ≡ value_at states (spot_of v) → with_value states v ≡ states
 same_value states (SsoAt token last) e = ap (with_value states) e
+same_value states (LoginAt token last) e = ap (with_value states) e
 same_value states (MetadataTokenAt Chain token) e = ap (with_value states) e
 same_value states (MetadataTokenAt Named token) e = ap (with_value states) e
 same_value states (RetrievedAt Chain keys) e = ap (with_value states) e

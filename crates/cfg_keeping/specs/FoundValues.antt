@@ -4,11 +4,12 @@ use Rattle.cfg_token.specs.Histories.{token_in}
 use Rattle.cfg_imds.specs.Tokens.{bare_token}
 use Rattle.cfg_keeping.specs.declared.found.Found.{Found}
 use Rattle.cfg_keeping.specs.declared.found.Found.TheVariants as found
-use Rattle.cfg_keeping.specs.Kinds.{Value, SsoAt, MetadataTokenAt, RetrievedAt}
+use Rattle.cfg_keeping.specs.Kinds.{Value, SsoAt, LoginAt, MetadataTokenAt, RetrievedAt}
 use Rattle.cfg_keeping.specs.Retrieved.{keys_of_retrieved}
 
 -- a found value by itself: of a load its token alone, of retrieved credentials their keys
 abbrev pub bare : Found → Value
 bare (found.Sso load last) = SsoAt (token_in load) last
+bare (found.Login load last) = LoginAt (token_in load) last
 bare (found.ImdsToken place token) = MetadataTokenAt place (option_map bare_token token)
 bare (found.Retrieved place retrieved) = RetrievedAt place (option_map keys_of_retrieved retrieved)

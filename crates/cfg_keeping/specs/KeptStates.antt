@@ -6,7 +6,7 @@ use Rattle.cfg_keeping.specs.declared.kept.Kept.{Kept}
 use Rattle.cfg_keeping.specs.declared.metadata.PlaceState.{PlaceState}
 use Rattle.cfg_keeping.specs.Kinds.{States, PlaceStates}
 use Rattle.cfg_keeping.specs.FoundValues.{bare}
-use Rattle.cfg_keeping.specs.KeyedStates.{key_of, sso_kept}
+use Rattle.cfg_keeping.specs.KeyedStates.{key_of, sso_kept, login_kept}
 use Rattle.cfg_keeping.specs.Holds.{Holdings, held}
 use Rattle.cfg_keeping.specs.Retrieved.{keys_of_retrieved}
 
@@ -16,7 +16,7 @@ bare_place state = record { token = option_map bare_token state.token; retrieved
 
 -- the kept states, receipts left aside
 abbrev pub states_of : Kept → States
-states_of kept = record { sso = sso_kept kept.token.sso; chain = bare_place kept.chain; named = bare_place kept.named }
+states_of kept = record { sso = sso_kept kept.token; login = login_kept kept.token; chain = bare_place kept.chain; named = bare_place kept.named }
 
 -- the found values and the kept states
 abbrev pub kept_holdings : Kept → Holdings

@@ -5,6 +5,7 @@ ghost use Rattle.cfg_keeping.specs.FoundValues.{bare};
 use crate::place::Place;
 use crate::retrieved::Retrieved;
 use cfg_imds::MetadataToken;
+use cfg_login::LoginToken;
 use cfg_token::{CachedSsoToken, Load};
 use cfg_types::{Instant, OutOfMemory};
 
@@ -26,6 +27,11 @@ pub enum Found {
         load: Option<Load<CachedSsoToken>>,
         last: Option<Instant>,
     },
+    /// The same of the section of a token of a sign-in session.
+    Login {
+        load: Option<Load<LoginToken>>,
+        last: Option<Instant>,
+    },
 }
 
 impl Drop for Found {
@@ -37,6 +43,7 @@ impl Drop for Found {
                 retrieved: _,
             } => {}
             Found::Sso { load: _, last: _ } => {}
+            Found::Login { load: _, last: _ } => {}
         }
     }
 }

@@ -3,14 +3,16 @@ ghost use Rattle.std.specs.Prelude.{◌≡◌, Option, Some, None as none, IfSom
 ghost use Rattle.std.specs.Option.{option_copied};
 ghost use Rattle.cfg_token.specs.declared.token_key.TokenKey.{TokenKey as KeyHeld};
 ghost use Rattle.cfg_token.specs.SsoTokens.{sso_rules};
+ghost use Rattle.cfg_login.specs.LoginTokens.{login_rules};
 ghost use Rattle.cfg_token.specs.SectionCalls.{is_memory};
 ghost use Rattle.cfg_imds.specs.Calls.{is_memory as is_metadata_memory};
 ghost use Rattle.cfg_imds.specs.Clients.{endpoint_fault};
 ghost use Rattle.cfg_keeping.specs.Clients.{client_rules};
 ghost use Rattle.cfg_keeping.specs.Kinds.{RetrievedAt};
 ghost use Rattle.cfg_keeping.specs.FoundValues.{bare};
-ghost use Rattle.cfg_keeping.specs.KeyedStates.{is_sso_key};
+ghost use Rattle.cfg_keeping.specs.KeyedStates.{is_sso_key, is_login_key};
 ghost use Rattle.cfg_keeping.specs.Holds.{Holdings, HoldsFollows, HoldsEnds, HoldsBreaks, HoldsFound, leaves_in};
+ghost use Rattle.cfg_keeping.specs.LoginHoldings.{login_holding};
 ghost use Rattle.cfg_keeping.specs.MetadataHoldings.{token_holding};
 ghost use Rattle.cfg_keeping.specs.Retrieved.{keys_of_retrieved};
 ghost use Rattle.cfg_keeping.specs.SsoHoldings.{sso_holding};
@@ -20,9 +22,10 @@ use crate::place::Place;
 use crate::retrieved::Retrieved;
 use cfg_exchange::ClassifyRetry;
 use cfg_imds::Client;
+use cfg_login::LoginToken;
 use cfg_token::{CachedSsoToken, TokenKey};
 use cfg_types::imds::ImdsError;
-use cfg_types::{Bytes, CallSettings, Env, OutOfMemory, SsoTokenProviderError};
+use cfg_types::{Bytes, CallSettings, Env, LoginTokenError, OutOfMemory, SsoTokenProviderError};
 use cfg_world::{Asking, Devices, Stop, World};
 use std::alloc::Global;
 
@@ -46,6 +49,19 @@ pub trait Keeper {
     ) -> Result<Result<CachedSsoToken, SsoTokenProviderError>, Stop>
         requires { is_sso_key (key_held self.old) ≡ true }
         ensures follows { IfSome (key_held self.old) (λ key. HoldsFollows ⟦<A as Asking>⟧ (sso_holding key env.now settings.now) asking.old (holdings self.old) asking.new (holdings self.new) result) }
+        ensures key { key_held self.new ≡ key_held self.old };
+
+    /// A section of the token of a sign-in session, on what is kept of it. A finished section leaves what
+    /// it kept in its place, and one that was stopped leaves it as it was.
+    fn login_section<A: Asking>(
+        &mut self,
+        alloc: Global,
+        env: &Env,
+        settings: &CallSettings,
+        asking: &mut A,
+    ) -> Result<Result<LoginToken, LoginTokenError>, Stop>
+        requires { is_login_key (key_held self.old) ≡ true }
+        ensures follows { IfSome (key_held self.old) (λ key. HoldsFollows ⟦<A as Asking>⟧ (login_holding key env.now settings.now) asking.old (holdings self.old) asking.new (holdings self.new) result) }
         ensures key { key_held self.new ≡ key_held self.old };
 
     /// A session token of a metadata client, on the one that is kept for the place: that one while it is
@@ -108,6 +124,33 @@ pub fn sso_section<P: Keeper, D: Devices>(
     match keeper.sso_section(alloc, env, settings, world) {
         Ok(outcome) => outcome,
         Err(_) => Err(SsoTokenProviderError::OutOfMemory),
+    }
+}
+
+/// Hands out the kept token of a sign-in session while more than 300 seconds of it are left. Else the
+/// token's file is read, and its token refreshed where that is due. The value that was found is added to
+/// the keeper's list, and what comes of the section is kept in its place.
+///
+/// # Errors
+///
+/// That memory ran out is answered where it does. What was found may then be in the list or not, and
+/// what is kept is as it was. Each other error comes exactly where the section gives it over the value
+/// that was found and the journal's new entries.
+pub fn login_section<P: Keeper, D: Devices>(
+    keeper: &mut P,
+    alloc: Global,
+    env: &Env,
+    settings: &CallSettings,
+    world: &mut World<D>,
+) -> Result<LoginToken, LoginTokenError>
+    requires { is_login_key (P.key_held keeper.old) ≡ true }
+    ensures finished { is_memory login_rules result ≡ false → IfSome (P.key_held keeper.old) (λ key. HoldsEnds ⟦<World<D> as Asking>⟧ (login_holding key env.now settings.now) world.old (P.holdings keeper.old) world.new (P.holdings keeper.new) result) }
+    ensures stopped { is_memory login_rules result ≡ true → IfSome (P.key_held keeper.old) (λ key. HoldsBreaks ⟦<World<D> as Asking>⟧ (login_holding key env.now settings.now) world.old (P.holdings keeper.old) world.new (P.holdings keeper.new)) }
+    ensures key { P.key_held keeper.new ≡ P.key_held keeper.old }
+{
+    match keeper.login_section(alloc, env, settings, world) {
+        Ok(outcome) => outcome,
+        Err(_) => Err(LoginTokenError::OutOfMemory),
     }
 }
 

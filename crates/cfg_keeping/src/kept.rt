@@ -2,7 +2,7 @@
 ghost use Rattle.std.specs.Prelude.{◌≡◌, ◌↔◌, [], IsTrue, is_some, option_map};
 ghost use Rattle.std.specs.Option.{option_copied};
 ghost use Rattle.cfg_keeping.specs.Kinds.{no_states, place_states};
-ghost use Rattle.cfg_keeping.specs.KeyedStates.{is_sso_key};
+ghost use Rattle.cfg_keeping.specs.KeyedStates.{is_sso_key, is_login_key, sso_state_in, login_state_in};
 ghost use Rattle.cfg_keeping.specs.KeptStates.{states_of, kept_key};
 ghost use Rattle.cfg_keeping.specs.Retrieved.{keys_of_retrieved};
 
@@ -14,9 +14,10 @@ use crate::place::Place;
 use crate::retrieved::Retrieved;
 use cfg_exchange::ClassifyRetry;
 use cfg_imds::Client;
+use cfg_login::LoginToken;
 use cfg_token::{CachedSsoToken, TokenKey, TokenState};
 use cfg_types::imds::ImdsError;
-use cfg_types::{Bytes, CallSettings, Env, OutOfMemory, SsoTokenProviderError};
+use cfg_types::{Bytes, CallSettings, Env, LoginTokenError, OutOfMemory, SsoTokenProviderError};
 use cfg_world::same::Same;
 use cfg_world::{Asking, Stop};
 use std::alloc::Global;
@@ -70,10 +71,19 @@ impl Kept {
     /// The state of the token of IAM Identity Center, there exactly where the key is of that kind. No
     /// holding.
     pub fn sso_state(&self) -> Option<&TokenState<CachedSsoToken>>
-        ensures is { option_copied result ≡ self.now.token.sso }
+        ensures is { option_copied result ≡ sso_state_in self.now.token }
         ensures there { is_some (option_copied result) ≡ is_sso_key (kept_key self.now) }
     {
         self.token.sso_state()
+    }
+
+    /// The state of the token of a sign-in session, there exactly where the key is of that kind. No
+    /// holding.
+    pub fn login_state(&self) -> Option<&TokenState<LoginToken>>
+        ensures is { option_copied result ≡ login_state_in self.now.token }
+        ensures there { is_some (option_copied result) ≡ is_login_key (kept_key self.now) }
+    {
+        self.token.login_state()
     }
 
     /// The credentials that were retrieved for the place, if any were. No holding.
@@ -127,13 +137,23 @@ impl Keeper for Kept {
 
     fn sso_section<A: Asking>(
         &mut self,
-        alloc: Global,
+        _alloc: Global,
         env: &Env,
         settings: &CallSettings,
         asking: &mut A,
     ) -> Result<Result<CachedSsoToken, SsoTokenProviderError>, Stop> {
+        self.token.hold_sso(&mut self.found, env, settings, asking)
+    }
+
+    fn login_section<A: Asking>(
+        &mut self,
+        _alloc: Global,
+        env: &Env,
+        settings: &CallSettings,
+        asking: &mut A,
+    ) -> Result<Result<LoginToken, LoginTokenError>, Stop> {
         self.token
-            .hold_sso(alloc, &mut self.found, env, settings, asking)
+            .hold_login(&mut self.found, env, settings, asking)
     }
 
     fn imds_token<A: Asking>(

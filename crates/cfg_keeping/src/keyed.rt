@@ -1,165 +1,159 @@
 //! The state of the token of one key.
-ghost use Rattle.std.specs.Prelude.{◌≡◌, ◌++◌, ◌∷◌, [], Some, None, IfSome, IfOk, OnOk, OnErr, true, map, is_some};
+ghost use Rattle.std.specs.Prelude.{◌≡◌, Some, None, IfSome, true, map, is_some};
 ghost use Rattle.std.specs.Option.{option_copied};
-ghost use Rattle.cfg_token.specs.Sections.{answer_of};
-ghost use Rattle.cfg_token.specs.SsoTokens.{is_sso};
 ghost use Rattle.cfg_keeping.specs.FoundValues.{bare};
-ghost use Rattle.cfg_keeping.specs.KeyedStates.{key_of, is_sso_key, sso_kept};
+ghost use Rattle.cfg_keeping.specs.Kinds.{no_token};
+ghost use Rattle.cfg_keeping.specs.KeyedStates.{key_of, is_sso_key, is_login_key, sso_state_in, login_state_in, sso_kept, login_kept};
 ghost use Rattle.cfg_keeping.specs.Holds.{HoldsOne};
-ghost use Rattle.cfg_keeping.specs.SsoHoldings.{kept_of, sso_at, sso_holding};
+ghost use Rattle.cfg_keeping.specs.LoginHoldings.{login_at, login_holding};
+ghost use Rattle.cfg_keeping.specs.SsoHoldings.{sso_at, sso_holding};
 
-use crate::found::{Found, note};
-use cfg_token::history::Loads;
-use cfg_token::state::answer;
+use crate::found::Found;
+use crate::holding::{hold_login, hold_sso};
+use cfg_login::LoginToken;
 use cfg_token::{CachedSsoToken, TokenKey, TokenState};
-use cfg_types::{CallSettings, Env, OutOfMemory, SsoTokenProviderError};
+use cfg_types::{CallSettings, Env, LoginTokenError, SsoTokenProviderError};
 use cfg_world::{Asking, Stop};
 use std::alloc::Global;
 use std::marker::Model;
 
-/// The state of the token of a key, where the key is of a kind whose states are kept, or else the key.
+/// The state of a token of either kind.
+pub enum EitherState {
+    Sso(TokenState<CachedSsoToken>),
+    Login(TokenState<LoginToken>),
+}
+
+impl Drop for EitherState {
+    fn drop(self) {
+        match self {
+            EitherState::Sso(_) => {}
+            EitherState::Login(_) => {}
+        }
+    }
+}
+
+/// The state of the token of a key, where there is a key.
 pub struct KeyedState {
-    sso: Option<TokenState<CachedSsoToken>>,
-    other: Option<TokenKey>,
+    state: Option<EitherState>,
 }
 
 impl Drop for KeyedState {
     fn drop(self) {
-        let KeyedState { sso: _, other: _ } = self;
+        let KeyedState { state: _ } = self;
     }
 }
 
 impl Model for KeyedState {
-    ghost use Rattle.cfg_keeping.specs.KeyedStates.{Keyed, OfKind};
+    ghost use Rattle.std.specs.Prelude.{Option, IfSome};
+    ghost use Rattle.cfg_keeping.specs.declared.keyed.EitherState.{EitherState};
+    ghost use Rattle.cfg_keeping.specs.KeyedStates.{OfKind};
 
-    ghost Value = { Keyed };
+    ghost Value = { Option EitherState };
 
-    ghost view = { λ s. record { sso = s.sso; other = s.other } };
+    ghost view = { λ s. s.state };
 
-    ghost invariant = { λ s. OfKind (record { sso = s.sso; other = s.other }) };
+    ghost invariant = { λ s. IfSome s.state OfKind };
 }
 
 impl KeyedState {
     /// Nothing is kept, and no attempt is noted.
     pub fn new(alloc: Global, key: Option<TokenKey>) -> KeyedState
         ensures key { key_of result ≡ key }
-        ensures nothing { sso_kept result.sso ≡ record { token = None; last = None } }
+        ensures sso { sso_kept result ≡ no_token }
+        ensures login { login_kept result ≡ no_token }
     {
         match key {
             Some(key) => KeyedState::of_key(alloc, key),
-            None => KeyedState {
-                sso: None,
-                other: None,
-            },
+            None => KeyedState { state: None },
         }
     }
 
     fn of_key(alloc: Global, key: TokenKey) -> KeyedState
         ensures key { key_of result ≡ Some key }
-        ensures nothing { sso_kept result.sso ≡ record { token = None; last = None } }
+        ensures sso { sso_kept result ≡ no_token }
+        ensures login { login_kept result ≡ no_token }
     {
-        if is_sso_kind(&key) {
-            KeyedState {
-                sso: Some(TokenState::new(alloc, key)),
-                other: None,
-            }
-        } else {
-            KeyedState {
-                sso: None,
-                other: Some(key),
-            }
-        }
+        let state = match &key {
+            TokenKey::Sso { .. } => EitherState::Sso(TokenState::new(alloc, key)),
+            TokenKey::Login { .. } => EitherState::Login(TokenState::new(alloc, key)),
+        };
+        KeyedState { state: Some(state) }
     }
 
     /// Whose token it is.
     pub fn key(&self) -> Option<&TokenKey>
         ensures { option_copied result ≡ key_of self.now }
     {
-        match &self.sso {
-            Some(state) => Some(state.key()),
-            None => self.other.as_ref(),
+        match &self.state {
+            Some(EitherState::Sso(state)) => Some(state.key()),
+            Some(EitherState::Login(state)) => Some(state.key()),
+            None => None,
         }
     }
 
-    /// The state of the token of IAM Identity Center, where the key is of that kind.
+    /// The state of the token of IAM Identity Center, there exactly where the key is of that kind.
     pub fn sso_state(&self) -> Option<&TokenState<CachedSsoToken>>
-        ensures is { option_copied result ≡ self.now.sso }
+        ensures is { option_copied result ≡ sso_state_in self.now }
         ensures there { is_some (option_copied result) ≡ is_sso_key (key_of self.now) }
     {
-        self.sso.as_ref()
+        match &self.state {
+            Some(EitherState::Sso(state)) => Some(state),
+            _ => None,
+        }
     }
-}
 
-fn is_sso_kind(key: &TokenKey) -> bool
-    ensures { result ≡ is_sso key.now }
-{
-    match key {
-        TokenKey::Sso { .. } => true,
-        TokenKey::Login { .. } => false,
+    /// The state of the token of a sign-in session, there exactly where the key is of that kind.
+    pub fn login_state(&self) -> Option<&TokenState<LoginToken>>
+        ensures is { option_copied result ≡ login_state_in self.now }
+        ensures there { is_some (option_copied result) ≡ is_login_key (key_of self.now) }
+    {
+        match &self.state {
+            Some(EitherState::Login(state)) => Some(state),
+            _ => None,
+        }
     }
 }
 
 impl KeyedState {
-    /// One holding of the token of IAM Identity Center.
+    /// One holding of the token of IAM Identity Center. What is kept of a sign-in session stays.
     pub fn hold_sso<A: Asking>(
         &mut self,
-        alloc: Global,
         found: &mut Vec<Found>,
         env: &Env,
         settings: &CallSettings,
         asking: &mut A,
     ) -> Result<Result<CachedSsoToken, SsoTokenProviderError>, Stop>
         requires { is_sso_key (key_of self.old) ≡ true }
-        ensures one { IfSome (key_of self.old) (λ key. HoldsOne ⟦<A as Asking>⟧ (sso_holding key env.now settings.now) asking.old asking.new (map bare found.old.items) (map bare found.new.items) (sso_at (sso_kept self.old.sso)) (sso_at (sso_kept self.new.sso)) result) }
+        ensures one { IfSome (key_of self.old) (λ key. HoldsOne ⟦<A as Asking>⟧ (sso_holding key env.now settings.now) asking.old asking.new (map bare found.old.items) (map bare found.new.items) (sso_at (sso_kept self.old)) (sso_at (sso_kept self.new)) result) }
+        ensures other { login_kept self.new ≡ login_kept self.old }
         ensures key { key_of self.new ≡ key_of self.old }
     {
-        match &mut self.sso {
-            Some(state) => hold_sso(
-                alloc,
-                found,
-                &state.key,
-                &mut state.loads,
-                env,
-                settings,
-                asking,
-            ),
-            None => unreachable!(),
+        match &mut self.state {
+            Some(EitherState::Sso(state)) => {
+                hold_sso(found, &state.key, &mut state.loads, env, settings, asking)
+            }
+            _ => unreachable!(),
         }
     }
-}
 
-/// One holding of the token of IAM Identity Center, wherever its loads are kept. What was found is
-/// added to the list, before anything is asked.
-pub fn hold_sso<A: Asking>(
-    alloc: Global,
-    found: &mut Vec<Found>,
-    key: &TokenKey,
-    loads: &mut Loads<CachedSsoToken>,
-    env: &Env,
-    settings: &CallSettings,
-    asking: &mut A,
-) -> Result<Result<CachedSsoToken, SsoTokenProviderError>, Stop>
-    requires { is_sso key.now ≡ true }
-    ensures { HoldsOne ⟦<A as Asking>⟧ (sso_holding key.now env.now settings.now) asking.old asking.new (map bare found.old.items) (map bare found.new.items) (sso_at (kept_of loads.old)) (sso_at (kept_of loads.new)) result }
-{
-    note_sso(found, loads)?;
-    let made = loads.follow(key, env, settings, asking)?;
-    Ok(answer(made))
-}
-
-// What is found where these loads are kept, added to the list.
-fn note_sso(found: &mut Vec<Found>, loads: &Loads<CachedSsoToken>) -> Result<(), OutOfMemory>
-    ensures ok { OnOk result (map bare found.new.items ≡ map bare found.old.items ++ sso_at (kept_of loads.now) ∷ []) }
-    ensures err { OnErr result (found.new.items ≡ found.old.items) }
-{
-    let value = sso_value(loads)?;
-    note(found, value)
-}
-
-fn sso_value(loads: &Loads<CachedSsoToken>) -> Result<Found, OutOfMemory>
-    ensures { IfOk result (λ value. bare value ≡ sso_at (kept_of loads.now)) }
-{
-    let load = loads.load()?;
-    let last = loads.last_attempt();
-    Ok(Found::Sso { load, last })
+    /// One holding of the token of a sign-in session. What is kept of IAM Identity Center stays.
+    pub fn hold_login<A: Asking>(
+        &mut self,
+        found: &mut Vec<Found>,
+        env: &Env,
+        settings: &CallSettings,
+        asking: &mut A,
+    ) -> Result<Result<LoginToken, LoginTokenError>, Stop>
+        requires { is_login_key (key_of self.old) ≡ true }
+        ensures one { IfSome (key_of self.old) (λ key. HoldsOne ⟦<A as Asking>⟧ (login_holding key env.now settings.now) asking.old asking.new (map bare found.old.items) (map bare found.new.items) (login_at (login_kept self.old)) (login_at (login_kept self.new)) result) }
+        ensures other { sso_kept self.new ≡ sso_kept self.old }
+        ensures key { key_of self.new ≡ key_of self.old }
+    {
+        match &mut self.state {
+            Some(EitherState::Login(state)) => {
+                hold_login(found, &state.key, &mut state.loads, env, settings, asking)
+            }
+            _ => unreachable!(),
+        }
+    }
 }

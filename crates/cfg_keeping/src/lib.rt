@@ -1,14 +1,15 @@
 //! Kept values: trees of questions that also find what is kept from earlier calls and leave other
-//! values in its place, the rules by which a call follows such a tree, and what keeps the values: the
-//! token of IAM Identity Center, and for each place of a metadata client its session token and the
-//! credentials that were retrieved there. It stands on cfg_world, cfg_token and cfg_imds. The layers
-//! above may use that an inquiry is such a tree that finds and leaves nothing, that kept states which
-//! are told decide with the answers what is found, what is left and what comes out, that after memory
-//! ran out each kept value is as the last finished holding left it, and that retrieved credentials are
-//! those that their receipts tell.
+//! values in its place, chains of such trees, the rules by which a call follows a tree, and what keeps
+//! the values: the token of one key, which is of IAM Identity Center or of a sign-in session, and for
+//! each place of a metadata client its session token and the credentials that were retrieved there. It
+//! stands on cfg_world, cfg_token, cfg_login and cfg_imds. The layers above may use that an inquiry is
+//! such a tree that finds and leaves nothing, that kept states which are told decide with the answers
+//! what is found, what is left and what comes out, that after memory ran out each kept value is as the
+//! last finished holding left it, and that retrieved credentials are those that their receipts tell.
 #![tactic(auto)]
 
 pub mod found;
+pub mod holding;
 pub mod keeper;
 pub mod kept;
 pub mod keyed;
@@ -18,11 +19,12 @@ pub mod place;
 pub mod retrieved;
 pub mod role_document;
 
+pub use cfg_login::{LoginToken, LoginTokenError};
 pub use cfg_token::{
     CachedSsoToken, CachedSsoTokenError, Load, SsoTokenProviderError, TokenKey, TokenState,
 };
 pub use found::Found;
-pub use keeper::{Keeper, imds_token, sso_section};
+pub use keeper::{Keeper, imds_token, login_section, sso_section};
 pub use kept::Kept;
 pub use metadata::PlaceState;
 pub use place::Place;

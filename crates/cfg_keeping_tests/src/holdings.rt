@@ -27,7 +27,7 @@ fn kept(alloc: Global) -> Result<Kept, OutOfMemory>
     Ok(Kept::new(alloc, Some(key)))
 }
 
-fn settings() -> CallSettings {
+pub(crate) fn settings() -> CallSettings {
     CallSettings {
         region: None,
         use_fips: None,
@@ -53,7 +53,10 @@ fn word(entry: &Entry) -> &'static str {
 }
 
 // What the world was asked since the last look.
-fn questions(alloc: Global, world: &mut World<ScriptDevices>) -> Result<String, AllocError> {
+pub(crate) fn questions(
+    alloc: Global,
+    world: &mut World<ScriptDevices>,
+) -> Result<String, AllocError> {
     let mut words = String::new(alloc);
     for entry in world.journal() {
         words.push_str(word(entry))?;
@@ -68,7 +71,7 @@ fn token_words(alloc: Global, token: &CachedSsoToken) -> Result<String, AllocErr
     format!(in alloc; "{text} {end}")
 }
 
-fn seconds(last: Option<Instant>) -> i64 {
+pub(crate) fn seconds(last: Option<Instant>) -> i64 {
     match last {
         Some(last) => last.seconds(),
         None => -1,

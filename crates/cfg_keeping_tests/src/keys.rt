@@ -26,29 +26,25 @@ fn key(alloc: Global, text: &str) -> Result<Option<TokenKey>, OutOfMemory> {
     }
 }
 
-// The key, how much was found, and the state of the token of IAM Identity Center.
+// The key, how much was found, and whether there is a state of IAM Identity Center, and one of a
+// sign-in session.
 fn words_of(alloc: Global, text: &str) -> Result<String, OutOfMemory> {
     let kept = Kept::new(alloc, key(alloc, text)?);
     let key = kept.key();
     let found = kept.found().len();
-    match kept.sso_state() {
-        None => Ok(format!(in alloc; "{key:?} {found} no state")?),
-        Some(state) => {
-            let token = state.kept().is_some();
-            let records = state.records().len();
-            Ok(format!(in alloc; "{key:?} {found} {token} {records}")?)
-        }
-    }
+    let sso = kept.sso_state().is_some();
+    let login = kept.login_state().is_some();
+    Ok(format!(in alloc; "{key:?} {found} {sso} {login}")?)
 }
 
 #[test]
 fn new_keepers(rt: HostRuntime) -> Result<(), Fail> {
     let table: &[(&str, &str)] = &[
-        ("", "None 0 no state"),
-        ("s", r#"Some(Login { session: "s" }) 0 no state"#),
+        ("", "None 0 false false"),
+        ("s", r#"Some(Login { session: "s" }) 0 false true"#),
         (
             "s,r,u",
-            r#"Some(Sso { session: "s", region: "r", start_url: "u" }) 0 false 0"#,
+            r#"Some(Sso { session: "s", region: "r", start_url: "u" }) 0 true false"#,
         ),
     ];
     for (text, want) in table {

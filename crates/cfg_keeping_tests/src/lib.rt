@@ -11,3 +11,5 @@ mod metadata;
 mod retrieved;
 #[cfg(test)]
 mod setup;
+#[cfg(test)]
+mod sign_in;

@@ -59,7 +59,7 @@ fn value_words(alloc: Global, value: &Found) -> Result<String, AllocError> {
             let keys = keys_words(alloc, retrieved)?;
             format!(in alloc; "({place:?} keys {keys})")
         }
-        Found::Sso { load: _, last: _ } => String::from_str(alloc, "(another)"),
+        _ => String::from_str(alloc, "(another)"),
     }
 }
 

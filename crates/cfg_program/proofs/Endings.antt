@@ -1,26 +1,46 @@
--- How a run ends whose calls were made.
-use Rattle.std.proofs.Common.{ℕ, List, Bool, Option, subst, inr}
-use Rattle.cfg_providers.specs.CustomSources.{NamedAnswer}
+-- How a run ends whose calls were made, or that found no script.
+use Rattle.std.proofs.Common.{◌≡◌, ℕ, List, [], ◌++◌, Bool, Option, subst, sym, inl, inr}
+use Rattle.cfg_world.specs.declared.devices.Devices.{Ghosts}
+use Rattle.cfg_world.specs.Fits.{Pair}
+use Rattle.cfg_world.specs.Grows.{Grows, Stopped}
+use Rattle.cfg_world.specs.Held.{Held}
+use Rattle.cfg_world.proofs.Counts.{Counted-none}
+use Rattle.std.proofs.lemmas.List.{append-nil}
 use Rattle.cfg_script.specs.Script.{Plain}
 use Rattle.cfg_program.specs.declared.status.Status.{Status}
 use Rattle.cfg_program.specs.declared.status.Status.TheVariants as status
-use Rattle.cfg_program.specs.Calls.{Answers}
+use Rattle.cfg_program.specs.Local.{Handed, LocalAnswers, LeavesWorld}
 use Rattle.cfg_program.specs.Written.{LinesWritten}
 use Rattle.cfg_program.specs.Generated.{GeneratedAnswers, GeneratedLineWritten, GeneratedWritten}
-use Rattle.cfg_program.specs.Run.{Seen, IsScript, EndsResolving}
+use Rattle.cfg_program.specs.Run.{SourceSeen, SinkSeen, WorldSeen, IsScript, WritesNothing, EndsUnread, EndsReading, LocalLineWritten, EndsLocal}
 
-pub lines_end : (seen : Seen) (sources : List NamedAnswer) (p : Plain) (b : Bool) (lines : List ℕ) (ended : Status) → IsScript seen sources p → Answers sources p b lines
-    → LinesWritten seen.written seen.written_after seen.sink_faults seen.sink_faults_after b lines ended → EndsResolving seen sources ended
-lines_end seen sources p b lines status.Done i a w = record { p = p; input = i; lines = lines; answers = subst (λ x. Answers sources p x lines) w.0 a; written = w.1 }
-lines_end seen sources p b lines status.Refused i a w = record { p = p; input = i; lines = lines; answers = subst (λ x. Answers sources p x lines) w.0 a; written = w.1 }
-lines_end seen sources p b lines status.Words i a w = w
-lines_end seen sources p b lines status.NoScript i a w = absurd w
-lines_end seen sources p b lines status.SourceFault i a w = absurd w
-lines_end seen sources p b lines status.SinkFault i a w = (w.0, record { p = p; input = i; is_credentials = b; lines = lines; answers = a; written = w.1 })
-lines_end seen sources p b lines status.OutOfMemory i a w = inr (record { p = p; input = i; is_credentials = b; lines = lines; answers = a; written = w })
-lines_end seen sources p b lines status.TooLong i a w = absurd w
-lines_end seen sources p b lines status.HistoryDiffers i a w = absurd w
-lines_end seen sources p b lines status.NotBuilt i a w = absurd w
+module _ (source : SourceSeen) (sink : SinkSeen) (reads : List ℕ → Option Plain) (answers : Plain → Bool → List ℕ → Type 0) where
+  -- the lines were written, as far as the sink took them
+  pub lines_end : (p : Plain) (b : Bool) (lines : List ℕ) (ended : Status) → IsScript source reads p → answers p b lines
+      → LinesWritten sink.written sink.written_after sink.faults sink.faults_after b lines ended → EndsReading source sink reads answers ended
+  lines_end p b lines status.Done i a w = record { p = p; input = i; lines = lines; answered = subst (λ x. answers p x lines) w.0 a; written = w.1 }
+  lines_end p b lines status.Refused i a w = record { p = p; input = i; lines = lines; answered = subst (λ x. answers p x lines) w.0 a; written = w.1 }
+  lines_end p b lines status.Words i a w = w
+  lines_end p b lines status.NoScript i a w = absurd w
+  lines_end p b lines status.SourceFault i a w = absurd w
+  lines_end p b lines status.SinkFault i a w = (w.0, record { p = p; input = i; is_ok = b; lines = lines; answered = a; written = w.1 })
+  lines_end p b lines status.OutOfMemory i a w = inr (record { p = p; input = i; is_ok = b; lines = lines; answered = a; written = w })
+  lines_end p b lines status.TooLong i a w = absurd w
+  lines_end p b lines status.HistoryDiffers i a w = absurd w
+  lines_end p b lines status.NotBuilt i a w = absurd w
+
+  -- there is no script, and nothing was written
+  pub unread_ends : (ended : Status) → EndsUnread source reads ended → WritesNothing sink → EndsReading source sink reads answers ended
+  unread_ends status.Done h w = absurd h
+  unread_ends status.Refused h w = absurd h
+  unread_ends status.Words h w = h
+  unread_ends status.NoScript h w = (h, w)
+  unread_ends status.SourceFault h w = (h, w)
+  unread_ends status.SinkFault h w = absurd h
+  unread_ends status.OutOfMemory h w = inl w
+  unread_ends status.TooLong h w = (h, w)
+  unread_ends status.HistoryDiffers h w = h
+  unread_ends status.NotBuilt h w = h
 
 module _ (before after : Option (List ℕ)) (faults faults_after n : ℕ) (b : Bool) (line : List ℕ) (a : GeneratedAnswers n b line) where
   generated_line : (ended : Status) → LinesWritten before after faults faults_after b line ended → GeneratedLineWritten before after faults faults_after n ended
@@ -37,3 +57,48 @@ module _ (before after : Option (List ℕ)) (faults faults_after n : ℕ) (b : B
   generated_ends status.TooLong w = generated_line status.TooLong w
   generated_ends status.HistoryDiffers w = generated_line status.HistoryDiffers w
   generated_ends status.NotBuilt w = generated_line status.NotBuilt w
+
+module _ (sink : SinkSeen) (world : WorldSeen) (handed : Handed) (part : List Pair) (gained : world.journal_after ≡ world.journal ++ part) (b : Bool) (line : List ℕ) (a : LocalAnswers handed part b line) where
+  local_line : (ended : Status) → LinesWritten sink.written sink.written_after sink.faults sink.faults_after b line ended → LocalLineWritten sink world handed ended
+  local_line ended w = record { part = part; gained = gained; is_credentials = b; line = line; answers = a; written = w }
+
+  pub local_ends : (ended : Status) → LinesWritten sink.written sink.written_after sink.faults sink.faults_after b line ended → EndsLocal sink world handed ended
+  local_ends status.Done w = local_line status.Done w
+  local_ends status.Refused w = local_line status.Refused w
+  local_ends status.Words w = local_line status.Words w
+  local_ends status.NoScript w = local_line status.NoScript w
+  local_ends status.SourceFault w = local_line status.SourceFault w
+  local_ends status.SinkFault w = local_line status.SinkFault w
+  local_ends status.OutOfMemory w = inr (local_line status.OutOfMemory w)
+  local_ends status.TooLong w = local_line status.TooLong w
+  local_ends status.HistoryDiffers w = local_line status.HistoryDiffers w
+  local_ends status.NotBuilt w = local_line status.NotBuilt w
+
+module _ {D : Type 0} (d : Ghosts D) where
+  -- a part that was entered in full, where memory ran out behind it
+  pub stopped_behind : (part : List Pair) (before later : Held D) → Grows d part before later → Stopped d before later
+  stopped_behind part before later g = (part, record { journal = g.journal; fits = g.fits; same = g.same; counted = g.counted })
+
+  -- nothing was asked
+  pub stopped_before : (before : Held D) → Stopped d before before
+  stopped_before before = (
+    [],
+    record {
+      journal = sym (append-nil before.journal);
+      fits = tt;
+      same = record { to = λ entries h. h; from = λ entries h. h };
+      counted = Counted-none (d.faults before.devices);
+    },
+  )
+
+  pub leaves_world : (part : List Pair) (before later : Held D) (ended : Status) → Grows d part before later → LeavesWorld d before later ended
+  leaves_world part before later status.Done g = (part, g)
+  leaves_world part before later status.Refused g = (part, g)
+  leaves_world part before later status.Words g = (part, g)
+  leaves_world part before later status.NoScript g = (part, g)
+  leaves_world part before later status.SourceFault g = (part, g)
+  leaves_world part before later status.SinkFault g = (part, g)
+  leaves_world part before later status.OutOfMemory g = stopped_behind part before later g
+  leaves_world part before later status.TooLong g = (part, g)
+  leaves_world part before later status.HistoryDiffers g = (part, g)
+  leaves_world part before later status.NotBuilt g = (part, g)

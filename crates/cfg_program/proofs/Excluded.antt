@@ -1,45 +1,40 @@
 -- What one input comes to: one status and one list of lines, or a fault, or memory runs out.
-use Rattle.std.proofs.Common.{◌≡◌, ℕ, List, [], length, Bool, true, false, Option, Some, None, ◌⊎◌, inl, inr, ◌∙◌, sym, ap, subst, refl, cond}
+use Rattle.std.proofs.Common.{◌≡◌, ℕ, List, [], ◌++◌, length, Bool, true, false, Option, Some, None, ◌⊎◌, inl, inr, ◌∙◌, sym, ap, subst, refl, cond}
 use Rattle.std.specs.Prelude.{◌<◌, IsSome, IfSome, IsTrue, nat_lt}
 use Rattle.std.specs.Io.KnownBytes.{Appends}
 use Rattle.std.proofs.lemmas.Bool.{lt-ltb, le-ltb}
-use Rattle.cfg_providers.specs.CustomSources.{NamedAnswer}
+use Rattle.cfg_world.specs.Fits.{Pair}
 use Rattle.cfg_script.specs.Script.{Plain}
 use Rattle.cfg_script.specs.Reading.{script_of}
 use Rattle.cfg_script.specs.Devices.{lists_of}
 use Rattle.cfg_program.specs.declared.status.Status.{Status}
 use Rattle.cfg_program.specs.declared.status.Status.TheVariants as status
 use Rattle.cfg_program.specs.declared.words.Word.{Word}
-use Rattle.cfg_program.specs.declared.words.Word.TheVariants.{Help, Version, Resolve, Generate}
-use Rattle.cfg_program.specs.declared.lines.LineForm.TheVariants.{Call, Generated}
+use Rattle.cfg_program.specs.declared.words.Word.TheVariants.{Help, Version, Resolve, Why, Region, Local, Generate}
+use Rattle.cfg_program.specs.declared.lines.LineForm.{LineForm}
+use Rattle.cfg_program.specs.declared.lines.LineForm.TheVariants as form
 use Rattle.cfg_program.specs.declared.input.TheConstants.{LIMIT}
 use Rattle.cfg_program.specs.Texts.{help_text, version_text}
 use Rattle.cfg_program.specs.Inputs.{IsTooLong}
+use Rattle.cfg_program.specs.Scripts.{reads_input, script_for, script_of_one_call}
+use Rattle.cfg_program.specs.Regions.{RegionAnswers}
 use Rattle.cfg_program.specs.Calls.{Answers, configuration_of}
-use Rattle.cfg_program.specs.Plans.{plan_is_built}
+use Rattle.cfg_program.specs.Local.{Handed, LocalAnswers, local_configuration}
 use Rattle.cfg_program.specs.Generated.{generated_configuration, generated_lists, GeneratedLineWritten}
-use Rattle.cfg_program.specs.Run.{Seen, IsInput, NeedsMore, WasRead, IsScript, WritesLines, WritesNothing, EndsResolving, EndsForWords, EndsTelling, EndsGenerating, EndsRun}
-use Rattle.cfg_program.specs.Exclusion.{depends_on_input, BytesAreKnown, AppendTheSame, CallsFor}
+use Rattle.cfg_program.specs.Run.{SourceSeen, SinkSeen, WorldSeen, Seen, IsInput, WasRead, IsScript, WritesLines, WritesNothing, EndsReading, EndsForWords, EndsTelling, EndsGenerating, LocalLineWritten, EndsLocal, EndsRun}
+use Rattle.cfg_program.specs.Exclusion.{depends_on_input, BytesAreKnown, AppendTheSame, GainTheSame, CallsFor, comes}
 use Rattle.cfg_program.proofs.Pieces.{none_grown}
 use Rattle.cfg_program.proofs.OneList.{one_list}
-
--- the refusal that bytes call for, if they call for one
-abbrev refused_by : List NamedAnswer → Option Plain → Option Status
-refused_by sources None = Some status.NoScript
-refused_by sources (Some p) = cond (plan_is_built sources p) None (Some status.NotBuilt)
-
-abbrev refused_for : List NamedAnswer → List ℕ → Option Status
-refused_for sources bytes = cond (nat_lt LIMIT (length bytes)) (Some status.TooLong) (refused_by sources (script_of bytes))
-
--- the refusal that a status is, if it is one
-abbrev refusal : Status → Option Status
-refusal status.Done = None
-refusal status.Refused = None
-refusal s = Some s
+use Rattle.cfg_program.proofs.OneLine.{one_line, one_part}
+use Rattle.cfg_program.proofs.OneRegion.{one_region}
 
 -- the status of lines
 abbrev status_of : Bool → Status
-status_of is_credentials = cond is_credentials status.Done status.Refused
+status_of is_ok = cond is_ok status.Done status.Refused
+
+-- both sinks had the same bytes appended
+abbrev BothAppend : SinkSeen → SinkSeen → Type 0
+BothAppend one other = (bytes : List ℕ) × Appends one.written one.written_after bytes × Appends other.written other.written_after bytes
 
 known_is : (left : Option (List ℕ)) (bytes : List ℕ) (P : List ℕ → Type 0) → left ≡ Some bytes → IfSome left P → P bytes
 known_is left bytes P e known = subst (λ o. IfSome o P) e known
@@ -49,200 +44,337 @@ known_of None h = cc
 known_of (Some bytes) h = (bytes, refl)
 
 -- what was read to the end is the input
-was_input : (seen : Seen) (bytes : List ℕ) → WasRead seen bytes → IsInput seen bytes
-was_input seen bytes was = record { all = was.all; short = was.short }
-
--- the bytes of an input call for what their script calls for
-read_is_refused : (sources : List NamedAnswer) (seen : Seen) (all : List ℕ) → seen.left ≡ Some all → (bytes : List ℕ) → IsInput seen bytes → (r : Option Plain) → script_of bytes ≡ r → refused_for sources all ≡ refused_by sources r
-read_is_refused sources seen all e bytes was r is =
-    ap (refused_for sources) (known_is seen.left all (λ b. b ≡ bytes) e was.all)
-    ∙ ap (λ t. cond t (Some status.TooLong) (refused_by sources (script_of bytes))) (le-ltb LIMIT (length bytes) was.short)
-    ∙ ap (refused_by sources) is
-
-built_is : (b : Bool) → b ≡ true → cond b None (Some status.NotBuilt) ≡ None
-built_is b h = ap (λ x. cond x None (Some status.NotBuilt)) h
-
-not_built_is : (b : Bool) → b ≡ false → cond b None (Some status.NotBuilt) ≡ Some status.NotBuilt
-not_built_is b h = ap (λ x. cond x None (Some status.NotBuilt)) h
-
-script_is_not_refused : (sources : List NamedAnswer) (seen : Seen) (all : List ℕ) → seen.left ≡ Some all → (p : Plain) → IsScript seen sources p → refused_for sources all ≡ None
-script_is_not_refused sources seen all e p is = read_is_refused sources seen all e is.bytes (was_input seen is.bytes is.read) (Some p) is.script ∙ built_is (plan_is_built sources p) is.built
-
-not_built_is_refused : (sources : List NamedAnswer) (seen : Seen) (all : List ℕ) → seen.left ≡ Some all → (bytes : List ℕ) → IsInput seen bytes → NeedsMore sources bytes → refused_for sources all ≡ Some status.NotBuilt
-not_built_is_refused sources seen all e bytes was script = read_is_refused sources seen all e bytes was (Some script.0) script.1 ∙ not_built_is (plan_is_built sources script.0) script.2
+was_input : (source : SourceSeen) (bytes : List ℕ) → WasRead source bytes → IsInput source bytes
+was_input source bytes was = record { all = was.all; short = was.short }
 
 is_long : (left left_after : Option (List ℕ)) → IsTooLong left left_after → IfSome left (λ b. LIMIT < length b)
 is_long None after h = tt
 is_long (Some bytes) after h = h.0
 
-long_is_refused : (sources : List NamedAnswer) (seen : Seen) (all : List ℕ) → seen.left ≡ Some all → IfSome seen.left (λ b. LIMIT < length b) → refused_for sources all ≡ Some status.TooLong
-long_is_refused sources seen all e long =
-    ap (λ b. cond b (Some status.TooLong) (refused_by sources (script_of all)))
-    (lt-ltb LIMIT (length all) (known_is seen.left all (λ b. LIMIT < length b) e long))
-
--- a refusal that the input calls for
-called_is_refused : (sources : List NamedAnswer) (seen : Seen) (all : List ℕ) → seen.left ≡ Some all → (cause : Status) → CallsFor seen sources cause → refused_for sources all ≡ Some cause
-called_is_refused sources seen all e status.Done h = absurd h
-called_is_refused sources seen all e status.Refused h = absurd h
-called_is_refused sources seen all e status.Words h = absurd h
-called_is_refused sources seen all e status.NoScript h = read_is_refused sources seen all e h.0 h.1 None h.2
-called_is_refused sources seen all e status.SourceFault h = absurd h
-called_is_refused sources seen all e status.SinkFault h = absurd h
-called_is_refused sources seen all e status.OutOfMemory h = absurd h
-called_is_refused sources seen all e status.TooLong h = long_is_refused sources seen all e h
-called_is_refused sources seen all e status.HistoryDiffers h = absurd h
-called_is_refused sources seen all e status.NotBuilt h = not_built_is_refused sources seen all e h.0 h.1 h.2
-
--- how a run over a known input ends, whose status depends on it alone: with the lines of its script,
--- or with the refusal that it calls for
-record HasLines (sources : List NamedAnswer) (seen : Seen) (all : List ℕ) (ended : Status) : Type 0 where
-  is_credentials : Bool
-  is : ended ≡ status_of is_credentials
-  lines : WritesLines seen sources is_credentials
-  called : refused_for sources all ≡ None
-
-record HasRefusal (sources : List NamedAnswer) (seen : Seen) (all : List ℕ) (ended : Status) : Type 0 where
-  is : refusal ended ≡ Some ended
-  called : refused_for sources all ≡ Some ended
-  nothing : WritesNothing seen
-
-ends_as : (sources : List NamedAnswer) (seen : Seen) (all : List ℕ) → seen.left ≡ Some all → (ended : Status) → IsTrue (depends_on_input ended) → EndsResolving seen sources ended → HasLines sources seen all ended ⊎ HasRefusal sources seen all ended
-ends_as sources seen all e status.Done t ends = inl (record { is_credentials = true; is = refl; lines = ends; called = script_is_not_refused sources seen all e ends.p ends.input })
-ends_as sources seen all e status.Refused t ends = inl (record { is_credentials = false; is = refl; lines = ends; called = script_is_not_refused sources seen all e ends.p ends.input })
-ends_as sources seen all e status.Words t ends = absurd ends
-ends_as sources seen all e status.NoScript t ends = inr (record { is = refl; called = called_is_refused sources seen all e status.NoScript (ends.0.0, was_input seen ends.0.0 ends.0.1, ends.0.2); nothing = ends.1 })
-ends_as sources seen all e status.SourceFault t ends = cc
-ends_as sources seen all e status.SinkFault t ends = cc
-ends_as sources seen all e status.OutOfMemory t ends = cc
-ends_as sources seen all e status.TooLong t ends = inr (record { is = refl; called = called_is_refused sources seen all e status.TooLong (is_long seen.left seen.left_after ends.0); nothing = ends.1 })
-ends_as sources seen all e status.HistoryDiffers t ends = absurd ends
-ends_as sources seen all e status.NotBuilt t ends = inr (record { is = refl; called = called_is_refused sources seen all e status.NotBuilt (ends.0.bytes, was_input seen ends.0.bytes ends.0.read, ends.0.cause); nothing = ends.1 })
-
 -- sinks that hold what they held have nothing more
-nothing_more : (seen : Seen) → WritesNothing seen → Appends seen.written seen.written_after []
-nothing_more seen h = subst (λ o. Appends seen.written o []) (sym h) (none_grown seen.written)
+nothing_more : (sink : SinkSeen) → WritesNothing sink → Appends sink.written sink.written_after []
+nothing_more sink h = subst (λ o. Appends sink.written o []) (sym h) (none_grown sink.written)
 
-both_nothing : (one other : Seen) → WritesNothing one → WritesNothing other → AppendTheSame one other
+both_nothing : (one other : SinkSeen) → WritesNothing one → WritesNothing other → BothAppend one other
 both_nothing one other h k = ([], nothing_more one h, nothing_more other k)
-
--- one input is one script
-one_script : (p q : Plain) → ◌≡◌ {A = Option Plain} (Some p) (Some q) → p ≡ q
-one_script p q h = cc
-
-same_script : (sources : List NamedAnswer) (one other : Seen) (all : List ℕ) → one.left ≡ Some all → other.left ≡ Some all → (p q : Plain) → IsScript one sources p → IsScript other sources q → p ≡ q
-same_script sources one other all e f p q is also =
-    one_script p q
-    (sym is.script ∙ ap script_of (sym (known_is one.left all (λ b. b ≡ is.bytes) e is.read.all) ∙ known_is other.left all (λ b. b ≡ also.bytes) f also.read.all) ∙ also.script)
-
-same_lines : (sources : List NamedAnswer) (one other : Seen) (all : List ℕ) → one.left ≡ Some all → other.left ≡ Some all → (a b : Bool) → WritesLines one sources a → WritesLines other sources b → (a ≡ b) × AppendTheSame one other
-same_lines sources one other all e f a b x y =
-    let script : y.p ≡ x.p = same_script sources other one all f e y.p x.p y.input x.input in
-    let same = one_list (configuration_of x.p) sources (lists_of x.p) x.p.calls Call a b x.lines y.lines x.answers (subst (λ p. Answers sources p b y.lines) script y.answers) in
-    (same.0, (x.lines, x.written, subst (λ l. Appends other.written other.written_after l) (sym same.1) y.written))
 
 none_is_some : {s : Status} → ◌≡◌ {A = Option Status} None (Some s) → ⊥
 none_is_some h = cc
 
-lines_or_refusal : (sources : List NamedAnswer) (all : List ℕ) (ended : Status) → refused_for sources all ≡ None → refused_for sources all ≡ Some ended → ⊥
-lines_or_refusal sources all ended h k = none_is_some (sym h ∙ k)
-
 one_some : (s t : Status) → ◌≡◌ {A = Option Status} (Some s) (Some t) → s ≡ t
 one_some s t h = cc
 
-both_end : (sources : List NamedAnswer) (one other : Seen) (all : List ℕ) → one.left ≡ Some all → other.left ≡ Some all → (s t : Status)
-    → HasLines sources one all s ⊎ HasRefusal sources one all s → HasLines sources other all t ⊎ HasRefusal sources other all t → (s ≡ t) × AppendTheSame one other
-both_end sources one other all e f s t (inl x) (inl y) =
-    let same = same_lines sources one other all e f x.is_credentials y.is_credentials x.lines y.lines in
-    (x.is ∙ ap status_of same.0 ∙ sym y.is, same.1)
-both_end sources one other all e f s t (inl x) (inr y) = absurd (lines_or_refusal sources all t x.called y.called)
-both_end sources one other all e f s t (inr x) (inl y) = absurd (lines_or_refusal sources all s y.called x.called)
-both_end sources one other all e f s t (inr x) (inr y) = (one_some s t (sym x.called ∙ y.called), both_nothing one other x.nothing y.nothing)
+one_script : (p q : Plain) → ◌≡◌ {A = Option Plain} (Some p) (Some q) → p ≡ q
+one_script p q h = cc
 
-alike_resolving : (sources : List NamedAnswer) (one other : Seen) (s t : Status) → BytesAreKnown one → one.left ≡ other.left → IsTrue (depends_on_input s) → IsTrue (depends_on_input t)
-    → EndsResolving one sources s → EndsResolving other sources t → (s ≡ t) × AppendTheSame one other
-alike_resolving sources one other s t known same u v a b =
-    let all = known_of one.left known in
-    let also : other.left ≡ Some all.0 = sym same ∙ all.1 in
-    both_end sources one other all.0 all.1 also s t (ends_as sources one all.0 all.1 s u a) (ends_as sources other all.0 also t v b)
+-- the refusal that a status is, if it is one
+abbrev refusal : Status → Option Status
+refusal status.Done = None
+refusal status.Refused = None
+refusal s = Some s
 
-is_called : (sources : List NamedAnswer) (all : List ℕ) (cause ended : Status) (seen : Seen) → refused_for sources all ≡ Some cause → HasLines sources seen all ended ⊎ HasRefusal sources seen all ended → ended ≡ cause
-is_called sources all cause ended seen h (inl x) = absurd (lines_or_refusal sources all cause x.called h)
-is_called sources all cause ended seen h (inr x) = one_some ended cause (sym x.called ∙ h)
+-- ---- words that read a script
 
-pub comes_where_called_for : (sources : List NamedAnswer) (seen : Seen) (cause ended : Status) → BytesAreKnown seen → CallsFor seen sources cause → IsTrue (depends_on_input ended) → EndsResolving seen sources ended → ended ≡ cause
-comes_where_called_for sources seen cause ended known h t ends =
-    let all = known_of seen.left known in
-    is_called sources all.0 cause ended seen (called_is_refused sources seen all.0 all.1 cause h) (ends_as sources seen all.0 all.1 ended t ends)
+module _ (reads : List ℕ → Option Plain) where
+  -- the refusal that bytes call for, if they call for one
+  abbrev refused_by : Option Plain → Option Status
+  refused_by None = Some status.NoScript
+  refused_by (Some p) = None
+
+  abbrev refused_for : List ℕ → Option Status
+  refused_for bytes = cond (nat_lt LIMIT (length bytes)) (Some status.TooLong) (refused_by (reads bytes))
+
+  -- the bytes of an input call for what their script calls for
+  read_is_refused : (source : SourceSeen) (all : List ℕ) → source.left ≡ Some all → (bytes : List ℕ) → IsInput source bytes → (r : Option Plain) → reads bytes ≡ r → refused_for all ≡ refused_by r
+  read_is_refused source all e bytes was r is =
+      ap refused_for (known_is source.left all (λ b. b ≡ bytes) e was.all)
+      ∙ ap (λ t. cond t (Some status.TooLong) (refused_by (reads bytes))) (le-ltb LIMIT (length bytes) was.short)
+      ∙ ap refused_by is
+
+  script_is_not_refused : (source : SourceSeen) (all : List ℕ) → source.left ≡ Some all → (p : Plain) → IsScript source reads p → refused_for all ≡ None
+  script_is_not_refused source all e p is = read_is_refused source all e is.bytes (was_input source is.bytes is.read) (Some p) is.script
+
+  long_is_refused : (source : SourceSeen) (all : List ℕ) → source.left ≡ Some all → IfSome source.left (λ b. LIMIT < length b) → refused_for all ≡ Some status.TooLong
+  long_is_refused source all e long =
+      ap (λ b. cond b (Some status.TooLong) (refused_by (reads all)))
+      (lt-ltb LIMIT (length all) (known_is source.left all (λ b. LIMIT < length b) e long))
+
+  -- a refusal that the input calls for
+  called_is_refused : (seen : Seen) (all : List ℕ) → seen.source.left ≡ Some all → (cause : Status) → CallsFor seen reads cause → refused_for all ≡ Some cause
+  called_is_refused seen all e status.Done h = absurd h
+  called_is_refused seen all e status.Refused h = absurd h
+  called_is_refused seen all e status.Words h = absurd h
+  called_is_refused seen all e status.NoScript h = read_is_refused seen.source all e h.0 h.1 None h.2
+  called_is_refused seen all e status.SourceFault h = absurd h
+  called_is_refused seen all e status.SinkFault h = absurd h
+  called_is_refused seen all e status.OutOfMemory h = absurd h
+  called_is_refused seen all e status.TooLong h = long_is_refused seen.source all e h
+  called_is_refused seen all e status.HistoryDiffers h = absurd h
+  called_is_refused seen all e status.NotBuilt h = absurd h
+
+  lines_or_refusal : (all : List ℕ) (ended : Status) → refused_for all ≡ None → refused_for all ≡ Some ended → ⊥
+  lines_or_refusal all ended h k = none_is_some (sym h ∙ k)
+
+  module _ (answers : Plain → Bool → List ℕ → Type 0) where
+    -- how a run over a known input ends, whose status depends on it alone: with the lines of its script,
+    -- or with the refusal that it calls for
+    record HasLines (source : SourceSeen) (sink : SinkSeen) (all : List ℕ) (ended : Status) : Type 0 where
+      is_ok : Bool
+      is : ended ≡ status_of is_ok
+      lines : WritesLines source sink reads answers is_ok
+      called : refused_for all ≡ None
+
+    record HasRefusal (sink : SinkSeen) (all : List ℕ) (ended : Status) : Type 0 where
+      is : refusal ended ≡ Some ended
+      called : refused_for all ≡ Some ended
+      nothing : WritesNothing sink
+
+    ends_as : (source : SourceSeen) (sink : SinkSeen) (all : List ℕ) → source.left ≡ Some all → (ended : Status) → IsTrue (depends_on_input ended) → EndsReading source sink reads answers ended → HasLines source sink all ended ⊎ HasRefusal sink all ended
+    ends_as source sink all e status.Done t ends = inl (record { is_ok = true; is = refl; lines = ends; called = script_is_not_refused source all e ends.p ends.input })
+    ends_as source sink all e status.Refused t ends = inl (record { is_ok = false; is = refl; lines = ends; called = script_is_not_refused source all e ends.p ends.input })
+    ends_as source sink all e status.Words t ends = absurd ends
+    ends_as source sink all e status.NoScript t ends = inr (record { is = refl; called = read_is_refused source all e ends.0.0 (was_input source ends.0.0 ends.0.1) None ends.0.2; nothing = ends.1 })
+    ends_as source sink all e status.SourceFault t ends = cc
+    ends_as source sink all e status.SinkFault t ends = cc
+    ends_as source sink all e status.OutOfMemory t ends = cc
+    ends_as source sink all e status.TooLong t ends = inr (record { is = refl; called = long_is_refused source all e (is_long source.left source.left_after ends.0); nothing = ends.1 })
+    ends_as source sink all e status.HistoryDiffers t ends = absurd ends
+    ends_as source sink all e status.NotBuilt t ends = absurd ends
+
+    -- one input is one script
+    same_script : (one other : SourceSeen) (all : List ℕ) → one.left ≡ Some all → other.left ≡ Some all → (p q : Plain) → IsScript one reads p → IsScript other reads q → p ≡ q
+    same_script one other all e f p q is also =
+        one_script p q
+        (sym is.script ∙ ap reads (sym (known_is one.left all (λ b. b ≡ is.bytes) e is.read.all) ∙ known_is other.left all (λ b. b ≡ also.bytes) f also.read.all) ∙ also.script)
+
+    is_called : (source : SourceSeen) (sink : SinkSeen) (all : List ℕ) (cause ended : Status) → refused_for all ≡ Some cause → HasLines source sink all ended ⊎ HasRefusal sink all ended → ended ≡ cause
+    is_called source sink all cause ended h (inl x) = absurd (lines_or_refusal all cause x.called h)
+    is_called source sink all cause ended h (inr x) = one_some ended cause (sym x.called ∙ h)
+
+    comes_where_called : (seen : Seen) (cause ended : Status) → BytesAreKnown seen → CallsFor seen reads cause → IsTrue (depends_on_input ended) → EndsReading seen.source seen.sink reads answers ended → ended ≡ cause
+    comes_where_called seen cause ended known h t ends =
+        let all = known_of seen.source.left known in
+        is_called seen.source seen.sink all.0 cause ended (called_is_refused seen all.0 all.1 cause h) (ends_as seen.source seen.sink all.0 all.1 ended t ends)
+
+    module _ (one_answer : (p : Plain) (a b : Bool) (lines other : List ℕ) → answers p a lines → answers p b other → (a ≡ b) × (lines ≡ other)) (x y : SourceSeen) (u v : SinkSeen) (all : List ℕ) (e : x.left ≡ Some all) (f : y.left ≡ Some all) where
+      same_lines : (a b : Bool) → WritesLines x u reads answers a → WritesLines y v reads answers b → (a ≡ b) × BothAppend u v
+      same_lines a b l m =
+          let script : m.p ≡ l.p = same_script y x all f e m.p l.p m.input l.input in
+          let same = one_answer l.p a b l.lines m.lines l.answered (subst (λ p. answers p b m.lines) script m.answered) in
+          (same.0, (l.lines, l.written, subst (λ t. Appends v.written v.written_after t) (sym same.1) m.written))
+
+      both_end : (s t : Status) → HasLines x u all s ⊎ HasRefusal u all s → HasLines y v all t ⊎ HasRefusal v all t → (s ≡ t) × BothAppend u v
+      both_end s t (inl a) (inl b) =
+          let same = same_lines a.is_ok b.is_ok a.lines b.lines in
+          (a.is ∙ ap status_of same.0 ∙ sym b.is, same.1)
+      both_end s t (inl a) (inr b) = absurd (lines_or_refusal all t a.called b.called)
+      both_end s t (inr a) (inl b) = absurd (lines_or_refusal all s b.called a.called)
+      both_end s t (inr a) (inr b) = (one_some s t (sym a.called ∙ b.called), both_nothing u v a.nothing b.nothing)
+
+    alike_reading : (one_answer : (p : Plain) (a b : Bool) (lines other : List ℕ) → answers p a lines → answers p b other → (a ≡ b) × (lines ≡ other)) (one other : Seen) (s t : Status)
+        → BytesAreKnown one → one.source.left ≡ other.source.left → IsTrue (depends_on_input s) → IsTrue (depends_on_input t)
+        → EndsReading one.source one.sink reads answers s → EndsReading other.source other.sink reads answers t → (s ≡ t) × AppendTheSame one other
+    alike_reading one_answer one other s t known same u v a b =
+        let all = known_of one.source.left known in
+        let also : other.source.left ≡ Some all.0 = sym same ∙ all.1 in
+        both_end one_answer one.source other.source one.sink other.sink all.0 all.1 also s t (ends_as one.source one.sink all.0 all.1 s u a) (ends_as other.source other.sink all.0 also t v b)
+
+-- the calls of a script have one list of lines
+one_answer : (handed : Handed) (form : LineForm) (p : Plain) (a b : Bool) (lines other : List ℕ) → Answers handed.sources form p a lines → Answers handed.sources form p b other → (a ≡ b) × (lines ≡ other)
+one_answer handed form p a b lines other x y = one_list (configuration_of p) handed.sources (lists_of p) p.calls form a b lines other x y
+
+-- ---- the other words
 
 -- a text that was told ends as done
-text_is_done : (seen : Seen) (text : List ℕ) (s : Status) → IsTrue (depends_on_input s) → EndsTelling seen text s → (s ≡ status.Done) × Appends seen.written seen.written_after text
-text_is_done seen text status.Done t ends = (refl, ends)
-text_is_done seen text status.Refused t ends = absurd ends
-text_is_done seen text status.Words t ends = absurd ends
-text_is_done seen text status.NoScript t ends = absurd ends
-text_is_done seen text status.SourceFault t ends = absurd ends
-text_is_done seen text status.SinkFault t ends = cc
-text_is_done seen text status.OutOfMemory t ends = cc
-text_is_done seen text status.TooLong t ends = absurd ends
-text_is_done seen text status.HistoryDiffers t ends = absurd ends
-text_is_done seen text status.NotBuilt t ends = absurd ends
+text_is_done : (sink : SinkSeen) (text : List ℕ) (s : Status) → IsTrue (depends_on_input s) → EndsTelling sink text s → (s ≡ status.Done) × Appends sink.written sink.written_after text
+text_is_done sink text status.Done t ends = (refl, ends)
+text_is_done sink text status.Refused t ends = absurd ends
+text_is_done sink text status.Words t ends = absurd ends
+text_is_done sink text status.NoScript t ends = absurd ends
+text_is_done sink text status.SourceFault t ends = absurd ends
+text_is_done sink text status.SinkFault t ends = cc
+text_is_done sink text status.OutOfMemory t ends = cc
+text_is_done sink text status.TooLong t ends = absurd ends
+text_is_done sink text status.HistoryDiffers t ends = absurd ends
+text_is_done sink text status.NotBuilt t ends = absurd ends
 
-alike_telling : (one other : Seen) (text : List ℕ) (s t : Status) → IsTrue (depends_on_input s) → IsTrue (depends_on_input t) → EndsTelling one text s → EndsTelling other text t → (s ≡ t) × AppendTheSame one other
+alike_telling : (one other : SinkSeen) (text : List ℕ) (s t : Status) → IsTrue (depends_on_input s) → IsTrue (depends_on_input t) → EndsTelling one text s → EndsTelling other text t → (s ≡ t) × BothAppend one other
 alike_telling one other text s t u v a b =
     let first = text_is_done one text s u a in
     let second = text_is_done other text t v b in
     (first.0 ∙ sym second.0, (text, first.1, second.1))
 
-command_is_unknown : (seen : Seen) (s : Status) → EndsForWords seen s → (s ≡ status.Words) × WritesNothing seen
-command_is_unknown seen status.Done ends = absurd ends
-command_is_unknown seen status.Refused ends = absurd ends
-command_is_unknown seen status.Words ends = (refl, ends)
-command_is_unknown seen status.NoScript ends = absurd ends
-command_is_unknown seen status.SourceFault ends = absurd ends
-command_is_unknown seen status.SinkFault ends = absurd ends
-command_is_unknown seen status.OutOfMemory ends = absurd ends
-command_is_unknown seen status.TooLong ends = absurd ends
-command_is_unknown seen status.HistoryDiffers ends = absurd ends
-command_is_unknown seen status.NotBuilt ends = absurd ends
+command_is_unknown : (sink : SinkSeen) (s : Status) → EndsForWords sink s → (s ≡ status.Words) × WritesNothing sink
+command_is_unknown sink status.Done ends = absurd ends
+command_is_unknown sink status.Refused ends = absurd ends
+command_is_unknown sink status.Words ends = (refl, ends)
+command_is_unknown sink status.NoScript ends = absurd ends
+command_is_unknown sink status.SourceFault ends = absurd ends
+command_is_unknown sink status.SinkFault ends = absurd ends
+command_is_unknown sink status.OutOfMemory ends = absurd ends
+command_is_unknown sink status.TooLong ends = absurd ends
+command_is_unknown sink status.HistoryDiffers ends = absurd ends
+command_is_unknown sink status.NotBuilt ends = absurd ends
 
-alike_for_words : (one other : Seen) (s t : Status) → EndsForWords one s → EndsForWords other t → (s ≡ t) × AppendTheSame one other
+alike_for_words : (one other : SinkSeen) (s t : Status) → EndsForWords one s → EndsForWords other t → (s ≡ t) × BothAppend one other
 alike_for_words one other s t a b =
     let first = command_is_unknown one s a in
     let second = command_is_unknown other t b in
     (first.0 ∙ sym second.0, both_nothing one other first.1 second.1)
 
 -- a call over generated profiles ends by its line
-record HasGenerated (seen : Seen) (n : ℕ) (ended : Status) : Type 0 where
-  answered : GeneratedLineWritten seen.written seen.written_after seen.sink_faults seen.sink_faults_after n ended
+record HasGenerated (sink : SinkSeen) (n : ℕ) (ended : Status) : Type 0 where
+  answered : GeneratedLineWritten sink.written sink.written_after sink.faults sink.faults_after n ended
   is : ended ≡ status_of answered.is_credentials
-  written : Appends seen.written seen.written_after answered.line
+  written : Appends sink.written sink.written_after answered.line
 
-generated_ends : (seen : Seen) (n : ℕ) (s : Status) → IsTrue (depends_on_input s) → EndsGenerating seen n s → HasGenerated seen n s
-generated_ends seen n status.Done t ends = record { answered = ends; is = ap status_of (sym ends.written.0); written = ends.written.1 }
-generated_ends seen n status.Refused t ends = record { answered = ends; is = ap status_of (sym ends.written.0); written = ends.written.1 }
-generated_ends seen n status.Words t ends = absurd ends.written
-generated_ends seen n status.NoScript t ends = absurd ends.written
-generated_ends seen n status.SourceFault t ends = absurd ends.written
-generated_ends seen n status.SinkFault t ends = cc
-generated_ends seen n status.OutOfMemory t ends = cc
-generated_ends seen n status.TooLong t ends = absurd ends.written
-generated_ends seen n status.HistoryDiffers t ends = absurd ends.written
-generated_ends seen n status.NotBuilt t ends = absurd ends.written
+generated_ends : (sink : SinkSeen) (n : ℕ) (s : Status) → IsTrue (depends_on_input s) → EndsGenerating sink n s → HasGenerated sink n s
+generated_ends sink n status.Done t ends = record { answered = ends; is = ap status_of (sym ends.written.0); written = ends.written.1 }
+generated_ends sink n status.Refused t ends = record { answered = ends; is = ap status_of (sym ends.written.0); written = ends.written.1 }
+generated_ends sink n status.Words t ends = absurd ends.written
+generated_ends sink n status.NoScript t ends = absurd ends.written
+generated_ends sink n status.SourceFault t ends = absurd ends.written
+generated_ends sink n status.SinkFault t ends = cc
+generated_ends sink n status.OutOfMemory t ends = cc
+generated_ends sink n status.TooLong t ends = absurd ends.written
+generated_ends sink n status.HistoryDiffers t ends = absurd ends.written
+generated_ends sink n status.NotBuilt t ends = absurd ends.written
 
-alike_generating : (one other : Seen) (n : ℕ) (s t : Status) → IsTrue (depends_on_input s) → IsTrue (depends_on_input t) → EndsGenerating one n s → EndsGenerating other n t → (s ≡ t) × AppendTheSame one other
+alike_generating : (one other : SinkSeen) (n : ℕ) (s t : Status) → IsTrue (depends_on_input s) → IsTrue (depends_on_input t) → EndsGenerating one n s → EndsGenerating other n t → (s ≡ t) × BothAppend one other
 alike_generating one other n s t u v a b =
     let x = generated_ends one n s u a in
     let y = generated_ends other n t v b in
-    let same = one_list (generated_configuration n) [] (generated_lists n) 1 (Generated n) x.answered.is_credentials y.answered.is_credentials x.answered.line y.answered.line x.answered.answers y.answered.answers in
+    let same = one_list (generated_configuration n) [] (generated_lists n) 1 (form.Generated n) x.answered.is_credentials y.answered.is_credentials x.answered.line y.answered.line x.answered.answers y.answered.answers in
     (x.is ∙ ap status_of same.0 ∙ sym y.is, (x.answered.line, x.written, subst (λ l. Appends other.written other.written_after l) (sym same.1) y.written))
 
-pub alike : (sources : List NamedAnswer) (one other : Seen) (word : Option Word) (s t : Status) → BytesAreKnown one → one.left ≡ other.left → IsTrue (depends_on_input s) → IsTrue (depends_on_input t)
-    → EndsRun one sources word s → EndsRun other sources word t → (s ≡ t) × AppendTheSame one other
-alike sources one other None s t known same u v a b = alike_for_words one other s t a b
-alike sources one other (Some Help) s t known same u v a b = alike_telling one other help_text s t u v a b
-alike sources one other (Some Version) s t known same u v a b = alike_telling one other version_text s t u v a b
-alike sources one other (Some Resolve) s t known same u v a b = alike_resolving sources one other s t known same u v a b
-alike sources one other (Some (Generate n)) s t known same u v a b = alike_generating one other n s t u v a b
+-- a call over what is handed in ends by its line
+record HasLocal (sink : SinkSeen) (world : WorldSeen) (handed : Handed) (ended : Status) : Type 0 where
+  answered : LocalLineWritten sink world handed ended
+  is : ended ≡ status_of answered.is_credentials
+  written : Appends sink.written sink.written_after answered.line
 
-pub exclude_one_another : (sources : List NamedAnswer) (seen : Seen) (word : Option Word) (one other : Status) → BytesAreKnown seen → IsTrue (depends_on_input one) → IsTrue (depends_on_input other) → EndsRun seen sources word one → EndsRun seen sources word other → one ≡ other
-exclude_one_another sources seen word one other known t u a b = (alike sources seen seen word one other known refl t u a b).0
+local_ends : (sink : SinkSeen) (world : WorldSeen) (handed : Handed) (s : Status) → IsTrue (depends_on_input s) → EndsLocal sink world handed s → HasLocal sink world handed s
+local_ends sink world handed status.Done t ends = record { answered = ends; is = ap status_of (sym ends.written.0); written = ends.written.1 }
+local_ends sink world handed status.Refused t ends = record { answered = ends; is = ap status_of (sym ends.written.0); written = ends.written.1 }
+local_ends sink world handed status.Words t ends = absurd ends.written
+local_ends sink world handed status.NoScript t ends = absurd ends.written
+local_ends sink world handed status.SourceFault t ends = absurd ends.written
+local_ends sink world handed status.SinkFault t ends = cc
+local_ends sink world handed status.OutOfMemory t ends = cc
+local_ends sink world handed status.TooLong t ends = absurd ends.written
+local_ends sink world handed status.HistoryDiffers t ends = absurd ends.written
+local_ends sink world handed status.NotBuilt t ends = absurd ends.written
+
+alike_locally : (handed : Handed) (one other : SinkSeen) (world also : WorldSeen) (part : List Pair) (s t : Status) → IsTrue (depends_on_input s) → IsTrue (depends_on_input t)
+    → world.journal_after ≡ world.journal ++ part → also.journal_after ≡ also.journal ++ part → EndsLocal one world handed s → EndsLocal other also handed t → (s ≡ t) × BothAppend one other
+alike_locally handed one other world also part s t u v g h a b =
+    let x = local_ends one world handed s u a in
+    let y = local_ends other also handed t v b in
+    let first = one_part world.journal world.journal_after x.answered.part part x.answered.gained g in
+    let second = one_part also.journal also.journal_after y.answered.part part y.answered.gained h in
+    let same = one_line (local_configuration handed.variables) handed.sources part x.answered.is_credentials y.answered.is_credentials x.answered.line y.answered.line
+    (subst (λ p. LocalAnswers handed p x.answered.is_credentials x.answered.line) first x.answered.answers)
+    (subst (λ p. LocalAnswers handed p y.answered.is_credentials y.answered.line) second y.answered.answers) in
+    (x.is ∙ ap status_of same.0 ∙ sym y.is, (x.answered.line, x.written, subst (λ l. Appends other.written other.written_after l) (sym same.1) y.written))
+
+-- one run's journal gains one part
+gained_by : (sink : SinkSeen) (world : WorldSeen) (handed : Handed) (s : Status) → IsTrue (depends_on_input s) → EndsLocal sink world handed s → (part : List Pair) × (world.journal_after ≡ world.journal ++ part)
+gained_by sink world handed s t ends = let x = local_ends sink world handed s t ends in (x.answered.part, x.answered.gained)
+
+-- ---- all words
+
+module _ (handed : Handed) where
+  pub alike : (one other : Seen) (word : Option Word) (s t : Status) → BytesAreKnown one → one.source.left ≡ other.source.left → GainTheSame one other → IsTrue (depends_on_input s) → IsTrue (depends_on_input t)
+      → EndsRun one handed word s → EndsRun other handed word t → (s ≡ t) × AppendTheSame one other
+  alike one other None s t known same gain u v a b = alike_for_words one.sink other.sink s t a b
+  alike one other (Some Help) s t known same gain u v a b = alike_telling one.sink other.sink help_text s t u v a b
+  alike one other (Some Version) s t known same gain u v a b = alike_telling one.sink other.sink version_text s t u v a b
+  alike one other (Some Resolve) s t known same gain u v a b = alike_reading script_of (Answers handed.sources form.Call) (one_answer handed form.Call) one other s t known same u v a b
+  alike one other (Some Why) s t known same gain u v a b = alike_reading script_of (Answers handed.sources form.Why) (one_answer handed form.Why) one other s t known same u v a b
+  alike one other (Some Region) s t known same gain u v a b = alike_reading script_of_one_call RegionAnswers one_region one other s t known same u v a b
+  alike one other (Some Local) s t known same gain u v a b = alike_locally handed one.sink other.sink one.world other.world gain.0 s t u v gain.1 gain.2 a b
+  alike one other (Some (Generate n)) s t known same gain u v a b = alike_generating one.sink other.sink n s t u v a b
+
+  pub exclude_one_another : (seen : Seen) (word : Option Word) (one other : Status) → BytesAreKnown seen → IsTrue (depends_on_input one) → IsTrue (depends_on_input other) → EndsRun seen handed word one → EndsRun seen handed word other → one ≡ other
+  exclude_one_another seen None one other known t u a b = (alike_for_words seen.sink seen.sink one other a b).0
+  exclude_one_another seen (Some Help) one other known t u a b = (alike_telling seen.sink seen.sink help_text one other t u a b).0
+  exclude_one_another seen (Some Version) one other known t u a b = (alike_telling seen.sink seen.sink version_text one other t u a b).0
+  exclude_one_another seen (Some Resolve) one other known t u a b = (alike_reading script_of (Answers handed.sources form.Call) (one_answer handed form.Call) seen seen one other known refl t u a b).0
+  exclude_one_another seen (Some Why) one other known t u a b = (alike_reading script_of (Answers handed.sources form.Why) (one_answer handed form.Why) seen seen one other known refl t u a b).0
+  exclude_one_another seen (Some Region) one other known t u a b = (alike_reading script_of_one_call RegionAnswers one_region seen seen one other known refl t u a b).0
+  exclude_one_another seen (Some Local) one other known t u a b =
+      let gain = gained_by seen.sink seen.world handed one t a in
+      (alike_locally handed seen.sink seen.sink seen.world seen.world gain.0 one other t u gain.1 gain.1 a b).0
+  exclude_one_another seen (Some (Generate n)) one other known t u a b = (alike_generating seen.sink seen.sink n one other t u a b).0
+
+  pub comes_where_called_for : (seen : Seen) (word : Word) (cause ended : Status) → BytesAreKnown seen → IsTrue (reads_input word) → CallsFor seen (script_for word) cause → IsTrue (depends_on_input ended) → EndsRun seen handed (Some word) ended → ended ≡ cause
+  comes_where_called_for seen Help cause ended known r h t ends = cc
+  comes_where_called_for seen Version cause ended known r h t ends = cc
+  comes_where_called_for seen Resolve cause ended known r h t ends = comes_where_called script_of (Answers handed.sources form.Call) seen cause ended known h t ends
+  comes_where_called_for seen Why cause ended known r h t ends = comes_where_called script_of (Answers handed.sources form.Why) seen cause ended known h t ends
+  comes_where_called_for seen Region cause ended known r h t ends = comes_where_called script_of_one_call RegionAnswers seen cause ended known h t ends
+  comes_where_called_for seen Local cause ended known r h t ends = cc
+  comes_where_called_for seen (Generate n) cause ended known r h t ends = cc
+
+-- ---- statuses that never come
+
+reading_comes : (source : SourceSeen) (sink : SinkSeen) (reads : List ℕ → Option Plain) (answers : Plain → Bool → List ℕ → Type 0) (s : Status) → EndsReading source sink reads answers s → IsTrue (comes s)
+reading_comes source sink reads answers status.Done ends = refl
+reading_comes source sink reads answers status.Refused ends = refl
+reading_comes source sink reads answers status.Words ends = refl
+reading_comes source sink reads answers status.NoScript ends = refl
+reading_comes source sink reads answers status.SourceFault ends = refl
+reading_comes source sink reads answers status.SinkFault ends = refl
+reading_comes source sink reads answers status.OutOfMemory ends = refl
+reading_comes source sink reads answers status.TooLong ends = refl
+reading_comes source sink reads answers status.HistoryDiffers ends = absurd ends
+reading_comes source sink reads answers status.NotBuilt ends = absurd ends
+
+telling_comes : (sink : SinkSeen) (text : List ℕ) (s : Status) → EndsTelling sink text s → IsTrue (comes s)
+telling_comes sink text status.Done ends = refl
+telling_comes sink text status.SinkFault ends = refl
+telling_comes sink text status.OutOfMemory ends = refl
+telling_comes sink text status.Refused ends = refl
+telling_comes sink text status.Words ends = refl
+telling_comes sink text status.NoScript ends = refl
+telling_comes sink text status.SourceFault ends = refl
+telling_comes sink text status.TooLong ends = refl
+telling_comes sink text status.HistoryDiffers ends = absurd ends
+telling_comes sink text status.NotBuilt ends = absurd ends
+
+words_come : (sink : SinkSeen) (s : Status) → EndsForWords sink s → IsTrue (comes s)
+words_come sink s ends = subst (λ t. IsTrue (comes t)) (sym (command_is_unknown sink s ends).0) refl
+
+generating_comes : (sink : SinkSeen) (n : ℕ) (s : Status) → EndsGenerating sink n s → IsTrue (comes s)
+generating_comes sink n status.Done ends = refl
+generating_comes sink n status.Refused ends = refl
+generating_comes sink n status.Words ends = refl
+generating_comes sink n status.NoScript ends = refl
+generating_comes sink n status.SourceFault ends = refl
+generating_comes sink n status.SinkFault ends = refl
+generating_comes sink n status.OutOfMemory ends = refl
+generating_comes sink n status.TooLong ends = refl
+generating_comes sink n status.HistoryDiffers ends = absurd ends.written
+generating_comes sink n status.NotBuilt ends = absurd ends.written
+
+local_comes : (sink : SinkSeen) (world : WorldSeen) (handed : Handed) (s : Status) → EndsLocal sink world handed s → IsTrue (comes s)
+local_comes sink world handed status.Done ends = refl
+local_comes sink world handed status.Refused ends = refl
+local_comes sink world handed status.Words ends = refl
+local_comes sink world handed status.NoScript ends = refl
+local_comes sink world handed status.SourceFault ends = refl
+local_comes sink world handed status.SinkFault ends = refl
+local_comes sink world handed status.OutOfMemory ends = refl
+local_comes sink world handed status.TooLong ends = refl
+local_comes sink world handed status.HistoryDiffers ends = absurd ends.written
+local_comes sink world handed status.NotBuilt ends = absurd ends.written
+
+pub run_comes : (seen : Seen) (handed : Handed) (word : Option Word) (s : Status) → EndsRun seen handed word s → IsTrue (comes s)
+run_comes seen handed None s ends = words_come seen.sink s ends
+run_comes seen handed (Some Help) s ends = telling_comes seen.sink help_text s ends
+run_comes seen handed (Some Version) s ends = telling_comes seen.sink version_text s ends
+run_comes seen handed (Some Resolve) s ends = reading_comes seen.source seen.sink script_of (Answers handed.sources form.Call) s ends
+run_comes seen handed (Some Why) s ends = reading_comes seen.source seen.sink script_of (Answers handed.sources form.Why) s ends
+run_comes seen handed (Some Region) s ends = reading_comes seen.source seen.sink script_of_one_call RegionAnswers s ends
+run_comes seen handed (Some Local) s ends = local_comes seen.sink seen.world handed s ends
+run_comes seen handed (Some (Generate n)) s ends = generating_comes seen.sink n s ends

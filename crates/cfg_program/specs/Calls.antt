@@ -22,7 +22,6 @@ use Rattle.cfg_chain.specs.Provides.{IsCall}
 use Rattle.cfg_script.specs.Script.{Plain, PlainProfiles, Sections, RefusedSections, Section}
 use Rattle.cfg_script.specs.Devices.{lists_of}
 use Rattle.cfg_program.specs.declared.lines.LineForm.{LineForm}
-use Rattle.cfg_program.specs.declared.lines.LineForm.TheVariants.{Call}
 use Rattle.cfg_program.specs.Lines.{shown_as}
 
 -- a section that a script says, as the chain sees it
@@ -123,6 +122,6 @@ pub record MakesCall (conf : Configuration) (sources : List NamedAnswer) (form :
   pub credentials : is_credentials ≡ is_ok call.out
   pub shows : lines_after ≡ lines ++ shown_as form call.out call.journal
 
--- the calls of a script, with these sources of the caller's own
-abbrev pub Answers : List NamedAnswer → Plain → Bool → List ℕ → Type 0
-Answers sources p is_credentials lines = AnswersOver (configuration_of p) sources (lists_of p) p.calls Call is_credentials lines
+-- the calls of a script, with these sources of the caller's own and lines in this form
+abbrev pub Answers : List NamedAnswer → LineForm → Plain → Bool → List ℕ → Type 0
+Answers sources form p is_credentials lines = AnswersOver (configuration_of p) sources (lists_of p) p.calls form is_credentials lines

@@ -1,31 +1,40 @@
 -- Which statuses tell of the words and of the input, and what in the input causes a refusal.
-use Rattle.std.specs.Prelude.{◌≡◌, ℕ, ◌<◌, List, length, Bool, true, false, None, IsSome, IfSome}
+use Rattle.std.specs.Prelude.{◌≡◌, ℕ, ◌<◌, List, ◌++◌, length, Bool, true, false, Option, None, IsSome, IfSome}
 use Rattle.std.specs.Io.KnownBytes.{Appends}
-use Rattle.cfg_providers.specs.CustomSources.{NamedAnswer}
-use Rattle.cfg_script.specs.Reading.{script_of}
+use Rattle.cfg_world.specs.Fits.{Pair}
+use Rattle.cfg_script.specs.Script.{Plain}
 use Rattle.cfg_program.specs.declared.status.Status.{Status}
 use Rattle.cfg_program.specs.declared.status.Status.TheVariants as status
 use Rattle.cfg_program.specs.declared.input.TheConstants.{LIMIT}
-use Rattle.cfg_program.specs.Run.{Seen, IsInput, NeedsMore}
+use Rattle.cfg_program.specs.Run.{Seen, IsInput}
 
--- whether a status depends on the words and the input alone: all but those of a fault and of memory
+-- whether a status depends on the words, the input and the world's answers alone: all but those of a fault and of memory
 abbrev pub depends_on_input : Status → Bool
 depends_on_input status.SourceFault = false
 depends_on_input status.SinkFault = false
 depends_on_input status.OutOfMemory = false
 depends_on_input _ = true
 
+-- whether a status ever comes: all but those of a history that differs, and of what is not built
+abbrev pub comes : Status → Bool
+comes status.HistoryDiffers = false
+comes status.NotBuilt = false
+comes _ = true
+
 -- the bytes of the input are known
 abbrev pub BytesAreKnown : Seen → Type 0
-BytesAreKnown seen = IsSome seen.left
+BytesAreKnown seen = IsSome seen.source.left
 
 -- both runs append the same bytes to what their sinks hold
 abbrev pub AppendTheSame : Seen → Seen → Type 0
-AppendTheSame one other = (bytes : List ℕ) × Appends one.written one.written_after bytes × Appends other.written other.written_after bytes
+AppendTheSame one other = (bytes : List ℕ) × Appends one.sink.written one.sink.written_after bytes × Appends other.sink.written other.sink.written_after bytes
 
--- the bytes of the input call for this refusal, where the caller has these sources of its own
-abbrev pub CallsFor : Seen → List NamedAnswer → Status → Type 0
-CallsFor seen sources status.NoScript = (bytes : List ℕ) × IsInput seen bytes × (script_of bytes ≡ None)
-CallsFor seen sources status.TooLong = IfSome seen.left (λ b. LIMIT < length b)
-CallsFor seen sources status.NotBuilt = (bytes : List ℕ) × IsInput seen bytes × NeedsMore sources bytes
-CallsFor seen sources _ = ⊥
+-- both runs gain the same for the journals of their worlds
+abbrev pub GainTheSame : Seen → Seen → Type 0
+GainTheSame one other = (part : List Pair) × (one.world.journal_after ≡ one.world.journal ++ part) × (other.world.journal_after ≡ other.world.journal ++ part)
+
+-- the bytes of the input call for this refusal by a word that reads them so
+abbrev pub CallsFor : Seen → (List ℕ → Option Plain) → Status → Type 0
+CallsFor seen reads status.NoScript = (bytes : List ℕ) × IsInput seen.source bytes × (reads bytes ≡ None)
+CallsFor seen reads status.TooLong = IfSome seen.source.left (λ b. LIMIT < length b)
+CallsFor seen reads _ = ⊥

@@ -1,12 +1,15 @@
 pub mod Statuses
 pub mod Words
+pub mod Scripts
 pub mod Texts
 pub mod Streams
 pub mod Inputs
+pub mod CauseLines
 pub mod Lines
 pub mod Calls
-pub mod Plans
 pub mod Written
+pub mod Local
+pub mod Regions
 pub mod Generated
 pub mod Run
 pub mod Exclusion

@@ -1,113 +1,154 @@
 -- How a run ends: by its status, what was read, what was written, and why.
-use Rattle.std.specs.Prelude.{◌≡◌, ℕ, ◌≤◌, List, [], length, Bool, true, false, Option, Some, None, IfSome, ◌⊎◌}
+use Rattle.std.specs.Prelude.{◌≡◌, ℕ, ◌≤◌, List, [], ◌++◌, length, Bool, true, false, Option, Some, None, IfSome, ◌⊎◌, ⊤}
 use Rattle.std.specs.Io.KnownBytes.{Appends}
 use Rattle.cfg_world.specs.Faults.{Rose}
-use Rattle.cfg_providers.specs.CustomSources.{NamedAnswer}
+use Rattle.cfg_world.specs.Fits.{Pair}
 use Rattle.cfg_script.specs.Script.{Plain}
-use Rattle.cfg_script.specs.Reading.{script_of}
 use Rattle.cfg_program.specs.declared.status.Status.{Status}
 use Rattle.cfg_program.specs.declared.status.Status.TheVariants as status
 use Rattle.cfg_program.specs.declared.words.Word.{Word}
-use Rattle.cfg_program.specs.declared.words.Word.TheVariants.{Help, Version, Resolve, Generate}
+use Rattle.cfg_program.specs.declared.words.Word.TheVariants.{Help, Version, Resolve, Why, Region, Local, Generate}
+use Rattle.cfg_program.specs.declared.lines.LineForm.TheVariants as form
 use Rattle.cfg_program.specs.Texts.{help_text, version_text}
 use Rattle.cfg_program.specs.declared.input.TheConstants.{LIMIT}
 use Rattle.cfg_program.specs.Streams.{GrowsByPrefix}
 use Rattle.cfg_program.specs.Inputs.{IsTooLong}
 use Rattle.cfg_program.specs.Calls.{Answers}
-use Rattle.cfg_program.specs.Plans.{plan_is_built}
+use Rattle.cfg_program.specs.Scripts.{script_for}
+use Rattle.cfg_program.specs.Regions.{RegionAnswers}
+use Rattle.cfg_program.specs.Local.{Handed, LocalAnswers}
 use Rattle.cfg_program.specs.Generated.{GeneratedWritten}
-use Rattle.cfg_program.specs.Written.{TextWritten}
+use Rattle.cfg_program.specs.Written.{TextWritten, LinesWritten}
 
--- what a run saw of its source and its sink, before and after
-pub record Seen : Type 0 where
+-- what a run saw of its source, before and after
+pub record SourceSeen : Type 0 where
   pub left : Option (List ℕ)
   pub left_after : Option (List ℕ)
+  pub faults : ℕ
+  pub faults_after : ℕ
+
+abbrev pub source_seen : Option (List ℕ) → Option (List ℕ) → ℕ → ℕ → SourceSeen
+source_seen left left_after faults faults_after = record { left = left; left_after = left_after; faults = faults; faults_after = faults_after }
+
+-- what it saw of its sink
+pub record SinkSeen : Type 0 where
   pub written : Option (List ℕ)
   pub written_after : Option (List ℕ)
-  pub source_faults : ℕ
-  pub source_faults_after : ℕ
-  pub sink_faults : ℕ
-  pub sink_faults_after : ℕ
+  pub faults : ℕ
+  pub faults_after : ℕ
+
+abbrev pub sink_seen : Option (List ℕ) → Option (List ℕ) → ℕ → ℕ → SinkSeen
+sink_seen written written_after faults faults_after = record { written = written; written_after = written_after; faults = faults; faults_after = faults_after }
+
+-- the journal of the world that was handed in
+pub record WorldSeen : Type 0 where
+  pub journal : List Pair
+  pub journal_after : List Pair
+
+abbrev pub world_seen : List Pair → List Pair → WorldSeen
+world_seen journal journal_after = record { journal = journal; journal_after = journal_after }
+
+-- what a run saw, before and after
+pub record Seen : Type 0 where
+  pub source : SourceSeen
+  pub sink : SinkSeen
+  pub world : WorldSeen
 
 -- the sink holds what it held before
-abbrev pub WritesNothing : Seen → Type 0
-WritesNothing seen = seen.written_after ≡ seen.written
+abbrev pub WritesNothing : SinkSeen → Type 0
+WritesNothing sink = sink.written_after ≡ sink.written
 
 -- the input has these bytes, and they are not too many
-pub record IsInput (seen : Seen) (bytes : List ℕ) : Type 0 where
-  pub all : IfSome seen.left (λ b. b ≡ bytes)
+pub record IsInput (source : SourceSeen) (bytes : List ℕ) : Type 0 where
+  pub all : IfSome source.left (λ b. b ≡ bytes)
   pub short : length bytes ≤ LIMIT
 
 -- The input has these bytes, and they are not too many. All of them were read: none is left.
-pub record WasRead (seen : Seen) (bytes : List ℕ) : Type 0 where
-  pub all : IfSome seen.left (λ b. b ≡ bytes)
-  pub none_left : IfSome seen.left_after (λ b. b ≡ [])
+pub record WasRead (source : SourceSeen) (bytes : List ℕ) : Type 0 where
+  pub all : IfSome source.left (λ b. b ≡ bytes)
+  pub none_left : IfSome source.left_after (λ b. b ≡ [])
   pub short : length bytes ≤ LIMIT
 
--- the input is this script, and its plan is built, where the caller has these sources of its own
-pub record IsScript (seen : Seen) (sources : List NamedAnswer) (p : Plain) : Type 0 where
+-- the input is this script, as a word reads it
+pub record IsScript (source : SourceSeen) (reads : List ℕ → Option Plain) (p : Plain) : Type 0 where
   pub bytes : List ℕ
-  pub read : WasRead seen bytes
-  pub script : script_of bytes ≡ Some p
-  pub built : plan_is_built sources p ≡ true
+  pub read : WasRead source bytes
+  pub script : reads bytes ≡ Some p
 
--- the bytes are a script whose plan is not built
-abbrev pub NeedsMore : List NamedAnswer → List ℕ → Type 0
-NeedsMore sources bytes = (p : Plain) × (script_of bytes ≡ Some p) × (plan_is_built sources p ≡ false)
-
--- the input was read, and needs what is not built
-pub record IsNotBuilt (seen : Seen) (sources : List NamedAnswer) : Type 0 where
-  pub bytes : List ℕ
-  pub read : WasRead seen bytes
-  pub cause : NeedsMore sources bytes
+-- how a word ends that finds no script
+abbrev pub EndsUnread : SourceSeen → (List ℕ → Option Plain) → Status → Type 0
+EndsUnread source reads status.NoScript = (bytes : List ℕ) × WasRead source bytes × (reads bytes ≡ None)
+EndsUnread source reads status.SourceFault = Rose source.faults source.faults_after
+EndsUnread source reads status.OutOfMemory = ⊤
+EndsUnread source reads status.TooLong = IsTooLong source.left source.left_after
+EndsUnread source reads _ = ⊥
 
 -- the lines of the script's own calls were written
-pub record WritesLines (seen : Seen) (sources : List NamedAnswer) (is_credentials : Bool) : Type 0 where
+pub record WritesLines (source : SourceSeen) (sink : SinkSeen) (reads : List ℕ → Option Plain) (answers : Plain → Bool → List ℕ → Type 0) (is_ok : Bool) : Type 0 where
   pub p : Plain
-  pub input : IsScript seen sources p
+  pub input : IsScript source reads p
   pub lines : List ℕ
-  pub answers : Answers sources p is_credentials lines
-  pub written : Appends seen.written seen.written_after lines
+  pub answered : answers p is_ok lines
+  pub written : Appends sink.written sink.written_after lines
 
 -- a prefix of those lines was written
-pub record WritesPrefix (seen : Seen) (sources : List NamedAnswer) : Type 0 where
+pub record WritesPrefix (source : SourceSeen) (sink : SinkSeen) (reads : List ℕ → Option Plain) (answers : Plain → Bool → List ℕ → Type 0) : Type 0 where
   pub p : Plain
-  pub input : IsScript seen sources p
-  pub is_credentials : Bool
+  pub input : IsScript source reads p
+  pub is_ok : Bool
   pub lines : List ℕ
-  pub answers : Answers sources p is_credentials lines
-  pub written : GrowsByPrefix seen.written seen.written_after lines
+  pub answered : answers p is_ok lines
+  pub written : GrowsByPrefix sink.written sink.written_after lines
+
+-- How a word ends that reads a script: by what it reads bytes as, and by what the calls of a script answer,
+-- that is, whether the last one gave what it was asked for, and their lines.
+abbrev pub EndsReading : SourceSeen → SinkSeen → (List ℕ → Option Plain) → (Plain → Bool → List ℕ → Type 0) → Status → Type 0
+EndsReading source sink reads answers status.Done = WritesLines source sink reads answers true
+EndsReading source sink reads answers status.Refused = WritesLines source sink reads answers false
+EndsReading source sink reads answers status.Words = ⊥
+EndsReading source sink reads answers status.NoScript = EndsUnread source reads status.NoScript × WritesNothing sink
+EndsReading source sink reads answers status.SourceFault = EndsUnread source reads status.SourceFault × WritesNothing sink
+EndsReading source sink reads answers status.SinkFault = Rose sink.faults sink.faults_after × WritesPrefix source sink reads answers
+EndsReading source sink reads answers status.OutOfMemory = WritesNothing sink ⊎ WritesPrefix source sink reads answers
+EndsReading source sink reads answers status.TooLong = EndsUnread source reads status.TooLong × WritesNothing sink
+EndsReading source sink reads answers status.HistoryDiffers = ⊥
+EndsReading source sink reads answers status.NotBuilt = ⊥
 
 -- how telling a text ends
-abbrev pub EndsTelling : Seen → List ℕ → Status → Type 0
-EndsTelling seen text ended = TextWritten seen.written seen.written_after seen.sink_faults seen.sink_faults_after text ended
-
--- how resolving a script ends, with these sources of the caller's own
-abbrev pub EndsResolving : Seen → List NamedAnswer → Status → Type 0
-EndsResolving seen sources status.Done = WritesLines seen sources true
-EndsResolving seen sources status.Refused = WritesLines seen sources false
-EndsResolving seen sources status.Words = ⊥
-EndsResolving seen sources status.NoScript = ((bytes : List ℕ) × WasRead seen bytes × (script_of bytes ≡ None)) × WritesNothing seen
-EndsResolving seen sources status.SourceFault = Rose seen.source_faults seen.source_faults_after × WritesNothing seen
-EndsResolving seen sources status.SinkFault = Rose seen.sink_faults seen.sink_faults_after × WritesPrefix seen sources
-EndsResolving seen sources status.OutOfMemory = WritesNothing seen ⊎ WritesPrefix seen sources
-EndsResolving seen sources status.TooLong = IsTooLong seen.left seen.left_after × WritesNothing seen
-EndsResolving seen sources status.HistoryDiffers = ⊥
-EndsResolving seen sources status.NotBuilt = IsNotBuilt seen sources × WritesNothing seen
+abbrev pub EndsTelling : SinkSeen → List ℕ → Status → Type 0
+EndsTelling sink text ended = TextWritten sink.written sink.written_after sink.faults sink.faults_after text ended
 
 -- how generating ends
-abbrev pub EndsGenerating : Seen → ℕ → Status → Type 0
-EndsGenerating seen n ended = GeneratedWritten seen.written seen.written_after seen.sink_faults seen.sink_faults_after n ended
+abbrev pub EndsGenerating : SinkSeen → ℕ → Status → Type 0
+EndsGenerating sink n ended = GeneratedWritten sink.written sink.written_after sink.faults sink.faults_after n ended
+
+-- The world's journal gained a call's questions, and the call's line was written, or a prefix of it, by the
+-- status that says how it ended.
+pub record LocalLineWritten (sink : SinkSeen) (world : WorldSeen) (handed : Handed) (ended : Status) : Type 0 where
+  pub part : List Pair
+  pub gained : world.journal_after ≡ world.journal ++ part
+  pub is_credentials : Bool
+  pub line : List ℕ
+  pub answers : LocalAnswers handed part is_credentials line
+  pub written : LinesWritten sink.written sink.written_after sink.faults sink.faults_after is_credentials line ended
+
+-- how the call over what is handed in ends: by that line, or with nothing where memory ran out before it
+abbrev pub EndsLocal : SinkSeen → WorldSeen → Handed → Status → Type 0
+EndsLocal sink world handed status.OutOfMemory = WritesNothing sink ⊎ LocalLineWritten sink world handed status.OutOfMemory
+EndsLocal sink world handed ended = LocalLineWritten sink world handed ended
 
 -- an unknown command
-abbrev pub EndsForWords : Seen → Status → Type 0
-EndsForWords seen status.Words = WritesNothing seen
-EndsForWords seen _ = ⊥
+abbrev pub EndsForWords : SinkSeen → Status → Type 0
+EndsForWords sink status.Words = WritesNothing sink
+EndsForWords sink _ = ⊥
 
--- how a run ends, with these sources, that is asked for this, or for nothing that is known
-abbrev pub EndsRun : Seen → List NamedAnswer → Option Word → Status → Type 0
-EndsRun seen sources None ended = EndsForWords seen ended
-EndsRun seen sources (Some Help) ended = EndsTelling seen help_text ended
-EndsRun seen sources (Some Version) ended = EndsTelling seen version_text ended
-EndsRun seen sources (Some Resolve) ended = EndsResolving seen sources ended
-EndsRun seen sources (Some (Generate n)) ended = EndsGenerating seen n ended
+-- how a run ends to which this is handed, and that is asked for this, or for nothing that is known
+abbrev pub EndsRun : Seen → Handed → Option Word → Status → Type 0
+EndsRun seen handed None ended = EndsForWords seen.sink ended
+EndsRun seen handed (Some Help) ended = EndsTelling seen.sink help_text ended
+EndsRun seen handed (Some Version) ended = EndsTelling seen.sink version_text ended
+EndsRun seen handed (Some Resolve) ended = EndsReading seen.source seen.sink (script_for Resolve) (Answers handed.sources form.Call) ended
+EndsRun seen handed (Some Why) ended = EndsReading seen.source seen.sink (script_for Why) (Answers handed.sources form.Why) ended
+EndsRun seen handed (Some Region) ended = EndsReading seen.source seen.sink (script_for Region) RegionAnswers ended
+EndsRun seen handed (Some Local) ended = EndsLocal seen.sink seen.world handed ended
+EndsRun seen handed (Some (Generate n)) ended = EndsGenerating seen.sink n ended

@@ -4,8 +4,10 @@ ghost use Rattle.cfg_world.specs.Script.{AllFit};
 ghost use Rattle.cfg_program.specs.Generated.{generated_reply as reply_of, generated_lists as lists_of, GeneratedAnswers};
 ghost use Rattle.cfg_program.specs.declared.words.TheConstants.{MOST_PROFILES};
 
+use crate::configuration::configured_with;
 use crate::lines::LineForm;
-use crate::resolve::{Answered, answer_over, configured_with};
+use crate::outcome::Answered;
+use crate::resolve::answer_over;
 use cfg_chain::ProfileSource;
 use cfg_profile::generated_set;
 use cfg_types::{FailKind, Instant, OutOfMemory, Reply, Seq, StsCredentials, StsReply, Text};

@@ -1,5 +1,6 @@
 //! Laws of runs, each on a call that carries it.
 ghost use Rattle.std.specs.Prelude.{◌≡◌, ℕ, List, Bool, Option, Some, IsSome, IsTrue};
+ghost use Rattle.cfg_world.specs.Fits.{Pair};
 ghost use Rattle.cfg_world.specs.declared.script.DeviceLists.{DeviceLists as Lists};
 ghost use Rattle.cfg_profile.specs.Configuration.{Configuration};
 ghost use Rattle.cfg_providers.specs.CustomSources.{NamedAnswer};
@@ -7,11 +8,13 @@ ghost use Rattle.cfg_script.specs.Script.{Plain};
 ghost use Rattle.cfg_program.specs.declared.status.Status.{Status as Ended};
 ghost use Rattle.cfg_program.specs.declared.words.Word.{Word as Asked};
 ghost use Rattle.cfg_program.specs.declared.lines.LineForm.{LineForm as Form};
-ghost use Rattle.cfg_program.specs.declared.words.Word.TheVariants.{Resolve};
 ghost use Rattle.cfg_program.specs.Calls.{AnswersOver, Answers};
 ghost use Rattle.cfg_program.specs.Generated.{GeneratedAnswers};
 ghost use Rattle.cfg_program.specs.Run.{Seen, EndsRun};
-ghost use Rattle.cfg_program.specs.Exclusion.{BytesAreKnown, AppendTheSame, CallsFor, depends_on_input};
+ghost use Rattle.cfg_program.specs.Scripts.{reads_input, script_for};
+ghost use Rattle.cfg_program.specs.Regions.{RegionAnswers};
+ghost use Rattle.cfg_program.specs.Local.{Handed, LocalAnswers};
+ghost use Rattle.cfg_program.specs.Exclusion.{BytesAreKnown, AppendTheSame, GainTheSame, CallsFor, depends_on_input, comes};
 
 /// So many calls over one configuration, the same sources of the caller's own and one script of devices
 /// have one list of lines in a form, and one status.
@@ -20,10 +23,22 @@ pub fn calls_have_one_list_of_lines()
         AnswersOver conf sources lists count form is_credentials lines → AnswersOver conf sources lists count form is_other other → (is_credentials ≡ is_other) × (lines ≡ other) }
 {}
 
-/// A script has one list of lines, and one status, where the caller's own sources are the same.
+/// A script has one list of lines in a form, and one status, where the caller's own sources are the same.
 pub fn one_script_has_one_list_of_lines()
-    ensures { (sources : List NamedAnswer) (script : Plain) (is_credentials is_other : Bool) (lines other : List ℕ) →
-        Answers sources script is_credentials lines → Answers sources script is_other other → (is_credentials ≡ is_other) × (lines ≡ other) }
+    ensures { (sources : List NamedAnswer) (form : Form) (script : Plain) (is_credentials is_other : Bool) (lines other : List ℕ) →
+        Answers sources form script is_credentials lines → Answers sources form script is_other other → (is_credentials ≡ is_other) × (lines ≡ other) }
+{}
+
+/// A script has one line of its default region chain, and one status.
+pub fn one_script_has_one_region()
+    ensures { (script : Plain) (is_there is_other : Bool) (line other : List ℕ) →
+        RegionAnswers script is_there line → RegionAnswers script is_other other → (is_there ≡ is_other) × (line ≡ other) }
+{}
+
+/// The call over what is handed in has one line, and one status, for what the world's journal gained.
+pub fn one_journal_has_one_line()
+    ensures { (handed : Handed) (part : List Pair) (is_credentials is_other : Bool) (line other : List ℕ) →
+        LocalAnswers handed part is_credentials line → LocalAnswers handed part is_other other → (is_credentials ≡ is_other) × (line ≡ other) }
 {}
 
 /// A number has one line, and one status.
@@ -32,23 +47,29 @@ pub fn one_number_has_one_line()
         GeneratedAnswers n is_credentials line → GeneratedAnswers n is_other other → (is_credentials ≡ is_other) × (line ≡ other) }
 {}
 
-/// Of the statuses that depend on the words and the input alone, one run meets the case of one.
+/// Of the statuses that depend on the words, the input and the world's answers alone, one run meets the case of one.
 pub fn statuses_exclude_one_another()
-    ensures { (seen : Seen) (sources : List NamedAnswer) (word : Option Asked) (one other : Ended) → BytesAreKnown seen → IsTrue (depends_on_input one) → IsTrue (depends_on_input other)
-        → EndsRun seen sources word one → EndsRun seen sources word other → one ≡ other }
+    ensures { (seen : Seen) (handed : Handed) (word : Option Asked) (one other : Ended) → BytesAreKnown seen → IsTrue (depends_on_input one) → IsTrue (depends_on_input other)
+        → EndsRun seen handed word one → EndsRun seen handed word other → one ≡ other }
 {}
 
-/// Two runs over the same input and the same sources, whatever their sinks held, end with the same status and write the
-/// same bytes, where the status of both depends on the words and the input alone.
+/// Two runs over the same input to which the same is handed, whatever their sinks held, end with the same status and write
+/// the same bytes, where the journals of their worlds gain the same, and the status of both depends on the words, the
+/// input and the world's answers alone.
 pub fn runs_over_one_input_are_alike()
-    ensures { (one other : Seen) (sources : List NamedAnswer) (word : Option Asked) (ended ended_other : Ended) → BytesAreKnown one → one.left ≡ other.left
+    ensures { (one other : Seen) (handed : Handed) (word : Option Asked) (ended ended_other : Ended) → BytesAreKnown one → one.source.left ≡ other.source.left → GainTheSame one other
         → IsTrue (depends_on_input ended) → IsTrue (depends_on_input ended_other)
-        → EndsRun one sources word ended → EndsRun other sources word ended_other → (ended ≡ ended_other) × AppendTheSame one other }
+        → EndsRun one handed word ended → EndsRun other handed word ended_other → (ended ≡ ended_other) × AppendTheSame one other }
 {}
 
-/// Where the bytes of the input call for a refusal (no script, too long, not built), whatever was
-/// written, a run over them ends with it, or with a fault, or memory runs out.
+/// Where the bytes of the input call for a refusal (no script, or too long), whatever was written, a run of a
+/// word that reads them ends with it, or with a fault, or memory runs out.
 pub fn a_refusal_comes_where_the_input_calls_for_it()
-    ensures { (seen : Seen) (sources : List NamedAnswer) (cause ended : Ended) → BytesAreKnown seen → CallsFor seen sources cause → IsTrue (depends_on_input ended)
-        → EndsRun seen sources (Some Resolve) ended → ended ≡ cause }
+    ensures { (seen : Seen) (handed : Handed) (word : Asked) (cause ended : Ended) → BytesAreKnown seen → IsTrue (reads_input word) → CallsFor seen (script_for word) cause → IsTrue (depends_on_input ended)
+        → EndsRun seen handed (Some word) ended → ended ≡ cause }
+{}
+
+/// No run ends as one over a history that differs, or as one that needs what is not built.
+pub fn two_statuses_never_come()
+    ensures { (seen : Seen) (handed : Handed) (word : Option Asked) (ended : Ended) → EndsRun seen handed word ended → IsTrue (comes ended) }
 {}

@@ -1,9 +1,10 @@
 ghost use Rattle.std.specs.Prelude.{◌≡◌, ◌<◌, ◌++◌, OnOk};
 ghost use Rattle.std.specs.List.{flat_map};
 ghost use Rattle.std.specs.Fmt.{decimal, signed_decimal};
-ghost use Rattle.cfg_program.specs.Lines.{shown_text, three_digits as three_digits_of, nine_digits as nine_digits_of, shown_expiry, name_of_question, name_of_request, kind as kind_of, later_kind, kinds as kinds_of, shown_credentials, shown_outcome, shown, is_assume_role as is_assume_role_of, exchanges as exchanges_of, shown_generated, shown_as};
+ghost use Rattle.cfg_program.specs.Lines.{shown_text, three_digits as three_digits_of, nine_digits as nine_digits_of, shown_expiry, name_of_question, name_of_request, kind as kind_of, later_kind, kinds as kinds_of, shown_credentials, shown_outcome, shown, shown_why, is_assume_role as is_assume_role_of, exchanges as exchanges_of, shown_generated, shown_as};
 
-use cfg_types::{Credentials, CredentialsError, Instant, Request};
+use crate::causes::write_causes;
+use cfg_types::{Credentials, CredentialsError, Instant, OutOfMemory, Request};
 use cfg_world::{Answer, Entry, Question};
 use percent_encoding::{AsciiSet, CONTROLS, ascii_set, percent_encode};
 use std::alloc::AllocError;
@@ -17,26 +18,44 @@ pub const ESCAPED: AsciiSet = ascii_set!(CONTROLS.add(b' ').add(b'%'));
 pub enum LineForm {
     /// What the call came to, and the questions that it asked.
     Call,
+    /// The same, and below the line of an error what the error comes of.
+    Why,
     /// This number of profiles, how many roles were asked for, and the id of the last key.
     Generated(u64),
 }
 
-/// Writes the line of a call's outcome and of the questions that it asked, in this form. An error has one
-/// form alone.
+/// Writes the line of a call's outcome and of the questions that it asked, in this form.
 pub fn write_call(
     line: &mut Vec<u8>,
     form: LineForm,
     outcome: &Result<Credentials, CredentialsError>,
     journal: &[Entry],
-) -> Result<(), AllocError>
+) -> Result<(), OutOfMemory>
     ensures { OnOk result (line.new.items ≡ line.old.items ++ shown_as form outcome.now journal.now) }
 {
     match form {
-        LineForm::Call => write_asked(line, outcome, journal),
+        LineForm::Call => write_asked(line, outcome, journal)?,
+        LineForm::Why => write_why(line, outcome, journal)?,
         LineForm::Generated(n) => match outcome {
-            Ok(credentials) => write_generated(line, n, credentials, journal),
-            Err(_) => write_asked(line, outcome, journal),
+            Ok(credentials) => write_generated(line, n, credentials, journal)?,
+            Err(_) => write_asked(line, outcome, journal)?,
         },
+    }
+    Ok(())
+}
+
+// The line, and below it what an error comes of.
+fn write_why(
+    line: &mut Vec<u8>,
+    outcome: &Result<Credentials, CredentialsError>,
+    journal: &[Entry],
+) -> Result<(), OutOfMemory>
+    ensures { OnOk result (line.new.items ≡ line.old.items ++ shown_why outcome.now journal.now) }
+{
+    write_asked(line, outcome, journal)?;
+    match outcome {
+        Ok(_) => Ok(()),
+        Err(error) => write_causes(line, error),
     }
 }
 
@@ -126,7 +145,7 @@ fn write_credentials(line: &mut Vec<u8>, credentials: &Credentials) -> Result<()
     Ok(())
 }
 
-fn write_kinds(line: &mut Vec<u8>, journal: &[Entry]) -> Result<(), AllocError>
+pub fn write_kinds(line: &mut Vec<u8>, journal: &[Entry]) -> Result<(), AllocError>
     ensures { OnOk result (line.new.items ≡ line.old.items ++ kinds_of journal.now) }
 {
     match journal.split_first() {
@@ -188,14 +207,14 @@ fn request_name(request: &Request) -> &'static [u8]
     }
 }
 
-fn write_word(line: &mut Vec<u8>, word: &[u8]) -> Result<(), AllocError>
+pub fn write_word(line: &mut Vec<u8>, word: &[u8]) -> Result<(), AllocError>
     ensures { OnOk result (line.new.items ≡ line.old.items ++ word.now) }
 {
     line.extend_from_slice(word)
 }
 
 // `=` and the bytes of the text, those that are escaped as `%` and two digits.
-fn write_text(line: &mut Vec<u8>, text: &str) -> Result<(), AllocError>
+pub fn write_text(line: &mut Vec<u8>, text: &str) -> Result<(), AllocError>
     ensures { OnOk result (line.new.items ≡ line.old.items ++ shown_text text.now) }
 {
     line.push(b'=')?;
@@ -204,7 +223,7 @@ fn write_text(line: &mut Vec<u8>, text: &str) -> Result<(), AllocError>
 }
 
 // Seconds, `.` and nine digits, or `none`.
-fn write_expiry(line: &mut Vec<u8>, expiry: Option<Instant>) -> Result<(), AllocError>
+pub fn write_expiry(line: &mut Vec<u8>, expiry: Option<Instant>) -> Result<(), AllocError>
     ensures { OnOk result (line.new.items ≡ line.old.items ++ shown_expiry expiry) }
 {
     let Some(moment) = expiry else {

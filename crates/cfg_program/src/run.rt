@@ -1,58 +1,74 @@
-ghost use Rattle.std.specs.Prelude.{◌≡◌, ◌≢◌, ◌≤◌, Some, None, map, string_bytes};
+ghost use Rattle.std.specs.Prelude.{◌≡◌, ◌≤◌, IsTrue, None, false, IfOk, MatchResult, map, string_bytes};
+ghost use Rattle.cfg_values.specs.TextMap.{named};
+ghost use Rattle.cfg_world.specs.Script.{AllFit};
 ghost use Rattle.cfg_chain.specs.Sources.{named_sources};
+ghost use Rattle.cfg_script.specs.Script.{plain};
+ghost use Rattle.cfg_script.specs.Devices.{lists_of};
 ghost use Rattle.cfg_script.specs.Reading.{script_of};
-ghost use Rattle.cfg_program.specs.Words.{word_named};
+ghost use Rattle.cfg_program.specs.Words.{word_named, is_word};
+ghost use Rattle.cfg_program.specs.Scripts.{reads_input, script_of_one_call};
 ghost use Rattle.cfg_program.specs.Written.{TextWritten, LinesWritten};
-ghost use Rattle.cfg_program.specs.Run.{EndsRun, EndsResolving};
+ghost use Rattle.cfg_program.specs.Calls.{Answers};
+ghost use Rattle.cfg_program.specs.Regions.{RegionAnswers};
+ghost use Rattle.cfg_program.specs.Local.{LeavesWorld, WorldAfter};
+ghost use Rattle.cfg_program.specs.Run.{EndsRun, EndsReading, EndsUnread, EndsLocal, IsScript, source_seen, sink_seen, world_seen};
+ghost use Rattle.cfg_program.specs.Exclusion.{comes};
 ghost use Rattle.cfg_program.specs.Generated.{GeneratedWritten};
 ghost use Rattle.cfg_program.specs.declared.words.TheConstants.{MOST_PROFILES};
 
 use crate::generated::generate;
 use crate::input::{InputError, read_all};
+use crate::lines::LineForm;
+use crate::local::call_locally;
+use crate::outcome::Answered;
 use crate::output::write_all;
-use crate::resolve::{Answered, Unresolved, resolve};
+use crate::region::find_region;
+use crate::resolve::resolve;
 use crate::status::Status;
 use crate::words::{HELP, VERSION, Word, word_of};
 use cfg_chain::CustomSource;
-use cfg_script::{ScriptError, read_script};
+use cfg_script::{Script, ScriptError, read_script};
 use cfg_types::{EnvText, OutOfMemory};
 use cfg_world::{Devices, Sink, Source, StreamFault, World};
 use std::alloc::Global;
 
 /// Does what the words ask for: tells a text, or reads a script from the source and writes the lines
-/// of its calls to the sink, or writes the line of the call over a set of profiles that comes from a
-/// number. The words are tested first: without `resolve` the source stays as it was, and for an
-/// unknown command the sink too. Nothing is written before the script was read to its end. A script's
-/// profiles find the sources in `custom` by `credential_source`; other words leave them aside. `_env` and
-/// `world` are for words that are not built yet: nothing is asked of them.
+/// of its calls, or of its default region chain, to the sink, or writes the line of the call over a set of profiles that comes from a
+/// number, or of the call over `env` and the world. The words are tested first: without one that reads a
+/// script the source stays as it was, and for an unknown command the sink too. Nothing is written before
+/// the script was read to its end. Profiles find the sources in `custom` by `credential_source`, but for
+/// those of `generate`. The word `local` alone asks the world, whose journal gains its questions; without
+/// it `env` is left aside, and the world stays as it was.
 pub fn run<S: Source, K: Sink, D: Devices>(
     alloc: Global,
     words: &[String],
     source: &mut S,
     sink: &mut K,
-    _env: Vec<(String, EnvText)>,
+    env: Vec<(String, EnvText)>,
     world: &mut World<D>,
     custom: &[CustomSource],
 ) -> Status
-    ensures ends { EndsRun (record {
-      left = S.left source.old;
-      left_after = S.left source.new;
-      written = K.written sink.old;
-      written_after = K.written sink.new;
-      source_faults = S.faults source.old;
-      source_faults_after = S.faults source.new;
-      sink_faults = K.faults sink.old;
-      sink_faults_after = K.faults sink.new;
-    }) (named_sources value custom.now) (word_named (map (λ w. string_bytes w) words.now)) result }
-    ensures unread { word_named (map (λ w. string_bytes w) words.now) ≢ Some Word.Resolve → source.new ≡ source.old }
+    ensures ends { EndsRun
+        (record {
+          source = source_seen (S.left source.old) (S.left source.new) (S.faults source.old) (S.faults source.new);
+          sink = sink_seen (K.written sink.old) (K.written sink.new) (K.faults sink.old) (K.faults sink.new);
+          world = world_seen world.old.journal world.new.journal;
+        })
+        (record { sources = named_sources value custom.now; variables = map named env.items })
+        (word_named (map (λ w. string_bytes w) words.now)) result }
+    ensures unread { is_word reads_input (word_named (map (λ w. string_bytes w) words.now)) ≡ false → source.new ≡ source.old }
     ensures unwritten { word_named (map (λ w. string_bytes w) words.now) ≡ None → sink.new ≡ sink.old }
-    ensures world { world.new ≡ world.old }
+    ensures world { WorldAfter ⟦<D as Devices>⟧ (word_named (map (λ w. string_bytes w) words.now)) world.old world.new result }
+    ensures comes { IsTrue (comes result) }
 {
     match word_of(words) {
         None => Status::Words,
         Some(Word::Help) => tell(sink, HELP),
         Some(Word::Version) => tell(sink, VERSION),
-        Some(Word::Resolve) => resolve_script(alloc, source, sink, custom),
+        Some(Word::Resolve) => resolve_script(alloc, source, sink, custom, LineForm::Call),
+        Some(Word::Why) => resolve_script(alloc, source, sink, custom, LineForm::Why),
+        Some(Word::Region) => region_line(alloc, source, sink),
+        Some(Word::Local) => local_line(alloc, sink, env, world, custom),
         Some(Word::Generate(n)) => generate_line(alloc, n, sink),
     }
 }
@@ -68,41 +84,88 @@ fn tell<K: Sink>(sink: &mut K, text: &str) -> Status
     }
 }
 
-// Reads a script, makes its calls, and writes their lines.
+// Reads a script, makes its calls, and writes their lines in this form.
 fn resolve_script<S: Source, K: Sink>(
     alloc: Global,
     source: &mut S,
     sink: &mut K,
     custom: &[CustomSource],
+    form: LineForm,
 ) -> Status
-    ensures { EndsResolving (record {
-      left = S.left source.old;
-      left_after = S.left source.new;
-      written = K.written sink.old;
-      written_after = K.written sink.new;
-      source_faults = S.faults source.old;
-      source_faults_after = S.faults source.new;
-      sink_faults = K.faults sink.old;
-      sink_faults_after = K.faults sink.new;
-    }) (named_sources value custom.now) result }
+    ensures { EndsReading (source_seen (S.left source.old) (S.left source.new) (S.faults source.old) (S.faults source.new)) (sink_seen (K.written sink.old) (K.written sink.new) (K.faults sink.old) (K.faults sink.new)) script_of (Answers (named_sources value custom.now) form) result }
+{
+    match script_in(alloc, source) {
+        Ok(script) => match resolve(alloc, script, custom, form) {
+            Ok(answered) => write_lines(sink, &answered),
+            Err(OutOfMemory) => Status::OutOfMemory,
+        },
+        Err(ended) => ended,
+    }
+}
+
+// Reads a script of one call, makes the call of its default region chain, and writes its line.
+fn region_line<S: Source, K: Sink>(alloc: Global, source: &mut S, sink: &mut K) -> Status
+    ensures { EndsReading (source_seen (S.left source.old) (S.left source.new) (S.faults source.old) (S.faults source.new)) (sink_seen (K.written sink.old) (K.written sink.new) (K.faults sink.old) (K.faults sink.new)) script_of_one_call RegionAnswers result }
+{
+    match one_call_in(alloc, source) {
+        Ok(script) => match find_region(alloc, script) {
+            Ok(answered) => write_lines(sink, &answered),
+            Err(OutOfMemory) => Status::OutOfMemory,
+        },
+        Err(ended) => ended,
+    }
+}
+
+// The script of one call that the source has, or how a run ends that finds none.
+fn one_call_in<S: Source>(alloc: Global, source: &mut S) -> Result<Script, Status>
+    ensures read { let seen = source_seen (S.left source.old) (S.left source.new) (S.faults source.old) (S.faults source.new) in MatchResult result (λ script. IsScript seen script_of_one_call (plain script)) (λ ended. EndsUnread seen script_of_one_call ended) }
+    ensures fit { IfOk result (λ script. AllFit (lists_of (plain script))) }
+{
+    match script_in(alloc, source) {
+        Ok(script) => {
+            if script.calls == 1 {
+                Ok(script)
+            } else {
+                Err(Status::NoScript)
+            }
+        }
+        Err(ended) => Err(ended),
+    }
+}
+
+// The script that the source has, or how a run ends that finds none.
+fn script_in<S: Source>(alloc: Global, source: &mut S) -> Result<Script, Status>
+    ensures read { let seen = source_seen (S.left source.old) (S.left source.new) (S.faults source.old) (S.faults source.new) in MatchResult result (λ script. IsScript seen script_of (plain script)) (λ ended. EndsUnread seen script_of ended) }
+    ensures fit { IfOk result (λ script. AllFit (lists_of (plain script))) }
 {
     let bytes = match read_all(alloc, source) {
         Ok(bytes) => bytes,
-        Err(InputError::Fault) => return Status::SourceFault,
-        Err(InputError::OutOfMemory) => return Status::OutOfMemory,
-        Err(InputError::TooLong) => return Status::TooLong,
+        Err(InputError::Fault) => return Err(Status::SourceFault),
+        Err(InputError::OutOfMemory) => return Err(Status::OutOfMemory),
+        Err(InputError::TooLong) => return Err(Status::TooLong),
     };
-    let script = match read_script(alloc, bytes.as_slice()) {
-        Ok(script) => script,
-        Err(ScriptError::NoScript) => return Status::NoScript,
-        Err(ScriptError::OutOfMemory) => return Status::OutOfMemory,
-    };
-    let answered = match resolve(alloc, script, custom) {
-        Ok(answered) => answered,
-        Err(Unresolved::NotBuilt) => return Status::NotBuilt,
-        Err(Unresolved::OutOfMemory) => return Status::OutOfMemory,
-    };
-    write_lines(sink, &answered)
+    match read_script(alloc, bytes.as_slice()) {
+        Ok(script) => Ok(script),
+        Err(ScriptError::NoScript) => Err(Status::NoScript),
+        Err(ScriptError::OutOfMemory) => Err(Status::OutOfMemory),
+    }
+}
+
+// Makes the call over what is handed in, and writes its line.
+fn local_line<K: Sink, D: Devices>(
+    alloc: Global,
+    sink: &mut K,
+    env: Vec<(String, EnvText)>,
+    world: &mut World<D>,
+    custom: &[CustomSource],
+) -> Status
+    ensures ends { EndsLocal (sink_seen (K.written sink.old) (K.written sink.new) (K.faults sink.old) (K.faults sink.new)) (world_seen world.old.journal world.new.journal) (record { sources = named_sources value custom.now; variables = map named env.items }) result }
+    ensures leaves { LeavesWorld ⟦<D as Devices>⟧ world.old world.new result }
+{
+    match call_locally(alloc, env, custom, world) {
+        Ok(answered) => write_lines(sink, &answered),
+        Err(OutOfMemory) => Status::OutOfMemory,
+    }
 }
 
 // Makes the call over the set of n profiles, and writes its line.

@@ -22,7 +22,7 @@ pub enum Status {
     TooLong,
     /// The questions differ from a given history. Nothing has a history yet, so no run ends so.
     HistoryDiffers,
-    /// The plan of the script's profiles is not built yet.
+    /// What is asked for is not built. Everything is, so no run ends so.
     NotBuilt,
 }
 

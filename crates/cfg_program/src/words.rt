@@ -6,7 +6,14 @@ ghost use Rattle.cfg_program.specs.Words.{word_named, count_of};
 pub enum Word {
     Help,
     Version,
+    /// The calls that a script describes.
     Resolve,
+    /// The same, and what each error comes of.
+    Why,
+    /// The region that a script's default region chain gives.
+    Region,
+    /// One call over the variables and the world that are handed in.
+    Local,
     /// The call over a set of so many profiles.
     Generate(u64),
 }
@@ -22,6 +29,9 @@ pub const HELP: &str = "\
 bujerova: AWS credentials by a script, as the SDK's default chain finds them
 
 usage: bujerova resolve < SCRIPT     a line for each call that the script describes
+       bujerova why < SCRIPT         the same, and below an error what it comes of
+       bujerova region < SCRIPT      a line for the region of the script's default region chain
+       bujerova local                one line for a call over the variables and files here
        bujerova generate N           one line for a call over N profiles, 1 to 1000
        bujerova --help | --version
 
@@ -32,6 +42,9 @@ and the statuses that the program ends with.
 /// What is told of an unknown command, on standard error.
 pub const USAGE: &str = "\
 usage: bujerova resolve < SCRIPT
+       bujerova why < SCRIPT
+       bujerova region < SCRIPT
+       bujerova local
        bujerova generate N
        bujerova --help | --version";
 
@@ -53,6 +66,12 @@ fn named(word: &str) -> Option<Word>
 {
     if word == "resolve" {
         Some(Word::Resolve)
+    } else if word == "why" {
+        Some(Word::Why)
+    } else if word == "region" {
+        Some(Word::Region)
+    } else if word == "local" {
+        Some(Word::Local)
     } else if word == "--help" {
         Some(Word::Help)
     } else if word == "--version" {

@@ -5,3 +5,5 @@
 mod own;
 #[cfg(test)]
 mod program;
+#[cfg(test)]
+mod words;

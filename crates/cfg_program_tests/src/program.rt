@@ -20,7 +20,7 @@ fn world(alloc: Global) -> Result<World<ScriptDevices>, OutOfMemory> {
     Ok(World::new(alloc, devices))
 }
 
-fn words_in(alloc: Global, given: &[&str]) -> Result<Vec<String>, AllocError> {
+pub(crate) fn words_in(alloc: Global, given: &[&str]) -> Result<Vec<String>, AllocError> {
     let mut words = Vec::new(alloc);
     for word in given {
         words.push(String::from_str(alloc, word)?)?;
@@ -28,8 +28,8 @@ fn words_in(alloc: Global, given: &[&str]) -> Result<Vec<String>, AllocError> {
     Ok(words)
 }
 
-// A status, and what was written.
-fn ending(alloc: Global, status: Status, written: &[u8]) -> Result<String, AllocError> {
+/// A status, and what was written.
+pub(crate) fn ending(alloc: Global, status: Status, written: &[u8]) -> Result<String, AllocError> {
     match str::from_utf8(written) {
         Ok(text) => format!(in alloc; "{status:?} {text}"),
         Err(_) => format!(in alloc; "{status:?} {written:?}"),
@@ -87,7 +87,12 @@ fn generated(alloc: Global, number: &str) -> Result<String, OutOfMemory> {
 }
 
 fn resolved(alloc: Global, script: &str) -> Result<String, OutOfMemory> {
-    run_in_pieces(alloc, &["resolve"], script.as_bytes(), 4096, 0, 0)
+    told_by(alloc, "resolve", script)
+}
+
+/// How a run of this word over a script ends.
+pub(crate) fn told_by(alloc: Global, word: &str, script: &str) -> Result<String, OutOfMemory> {
+    run_in_pieces(alloc, &[word], script.as_bytes(), 4096, 0, 0)
 }
 
 // What the crate answers, of which this port is one, on the same scripts.
@@ -340,6 +345,15 @@ fn scripts_with_an_error(rt: HostRuntime) -> Result<(), Fail> {
             r#"{"variables":[["HOME","/home/u"]],"profiles":[["default",[["sso_session","abc"],["sso_account_id","1"],["sso_role_name","r"]]]],"sessions":[["abc",[["sso_region","us-east-1"],["sso_start_url","u"]]]]}"#,
             "Refused error ProviderError now,read!\n",
         ),
+        // A sign-in session without its file, alone and over two calls.
+        (
+            r#"{"variables":[["HOME","/home/u"]],"profiles":[["default",[["login_session","x"]]]]}"#,
+            "Refused error ProviderError now,read!\n",
+        ),
+        (
+            r#"{"calls":2,"profiles":[["default",[["login_session","x"]]]]}"#,
+            "Refused error ProviderError now\nerror ProviderError now\n",
+        ),
         // A session that is not there.
         (
             r#"{"profiles":[["default",[["sso_session","abc"],["sso_account_id","1"],["sso_role_name","r"]]]]}"#,
@@ -366,18 +380,6 @@ fn scripts_without_a_call(rt: HostRuntime) -> Result<(), Fail> {
         (r#"{"calls":2,"bogus":1}"#, "NoScript "),
         (r#"{"selected":1,"sleep":true}"#, "NoScript "),
         (r#"{"replies":{"http":[],"bogus":1}}"#, "NoScript "),
-        (
-            r#"{"profiles":[["default",[["login_session","x"]]]]}"#,
-            "NotBuilt ",
-        ),
-        (
-            r#"{"calls":2,"profiles":[["default",[["login_session","x"]]]]}"#,
-            "NotBuilt ",
-        ),
-        (
-            r#"{"variables":[["AWS_ACCESS_KEY_ID","K"],["AWS_SECRET_ACCESS_KEY","S"]],"profiles":[["default",[["role_arn","r"],["source_profile","b"]]],["b",[["login_session","x"]]]]}"#,
-            "NotBuilt ",
-        ),
     ];
     for (script, want) in table {
         let told = resolved(rt.alloc(), script)?;
@@ -545,6 +547,9 @@ fn unknown_commands_come_before_the_input(rt: HostRuntime) -> Result<(), Fail> {
         &["resolve", ""],
         &["resolve", "resolve"],
         &["resolve", "1"],
+        &["why", "1"],
+        &["region", "x"],
+        &["local", ""],
         &["generate"],
         &["generate", "1", "1"],
         &["Generate", "1"],

@@ -23,7 +23,8 @@ use Rattle.cfg_token.specs.SsoTokens.{Given, sso_rules}
 use Rattle.cfg_keeping.specs.Kinds.{Spot, SsoSection, Value, States, spot_of, sso_in}
 use Rattle.cfg_keeping.specs.KeptInquiry.{KeptInquiry, Gives, Puts, Finds, Leaves, Runs, Reads, leave, lift, onwards}
 use Rattle.cfg_keeping.specs.Holds.{left_by, holding}
-use Rattle.cfg_keeping.specs.SsoHoldings.{section_leaves, sso_section_on, sso_at, sso_holding}
+use Rattle.cfg_keeping.specs.SectionHoldings.{section_leaves, kept_section}
+use Rattle.cfg_keeping.specs.SsoHoldings.{sso_at, sso_holding}
 use Rattle.cfg_keeping.proofs.Splits.{split_onwards, lowered}
 use Rattle.cfg_sso.specs.declared.config.SsoProviderConfig.{SsoProviderConfig}
 use Rattle.cfg_sso.specs.RoleKeys.{Answer, keys_with, keys_in, role_keys, or_unhandled, role_answer, exchange}
@@ -101,7 +102,7 @@ read_of_run (Leaves v p) old new found part out h = read_of_run p (leave old v) 
 section_part : (conf : Configuration) (key : TokenKey) (found : List Value) (part : List Pair) (given : Given CachedSsoToken) → Reads (section_of conf key) found part given → IsSectionPart conf key found part given
 unfolding sso_holding
 section_part conf key found part given h =
-    let p = holding_part SsoSection sso_at (λ f. sso_section_on key conf.environment (settings_of conf) (sso_in f)) found part given h in
+    let p = holding_part SsoSection sso_at (λ f. kept_section sso_rules key conf.environment (settings_of conf) (sso_in f)) found part given h in
     let was = sso_in p.value in
     let a = asked_then (section sso_rules key conf.environment (settings_of conf) was.token was.last) (λ made. (answer_of made, section_leaves was made)) part (given, p.left) p.reads in
     record { value = p.value; spot = p.at_spot; finds = p.finds; made = a.0; reads = a.1; gives = sym (ap (λ r. r.0) a.2) }

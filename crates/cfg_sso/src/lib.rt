@@ -15,4 +15,4 @@ pub mod token;
 
 pub use config::SsoProviderConfig;
 pub use credentials::{SsoCredentialsProvider, follow_sso};
-pub use token::SsoTokenProvider;
+pub use token::{SsoTokenProvider, follow_bearer};

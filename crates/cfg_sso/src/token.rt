@@ -246,8 +246,9 @@ impl SsoTokenProvider {
     }
 }
 
-// One section of the token of this key, which the keeper has, as a bearer token.
-fn follow_bearer<P: Keeper, A: Asking>(
+/// One section of the token of this key, which the keeper has, as a bearer token: the body of
+/// [`SsoTokenProvider::follow`].
+pub fn follow_bearer<P: Keeper, A: Asking>(
     alloc: Global,
     config: &ProviderConfig,
     key: &TokenKey,

@@ -5,8 +5,8 @@ use Rattle.std.specs.List.{last_or}
 use Rattle.std.specs.Result.{result_err}
 use Rattle.cfg_types.specs.Replies.{sts_in}
 use Rattle.cfg_types.specs.declared.errors.CredentialsError.{CredentialsError}
-use Rattle.cfg_types.specs.declared.errors.CredentialsError.TheVariants.{InvalidConfiguration, ProviderError}
-use Rattle.cfg_types.specs.declared.errors.ConfigCause.TheVariants as config
+use Rattle.cfg_types.specs.declared.errors.CredentialsError.TheVariants.{ProviderError}
+use Rattle.cfg_types.specs.declared.errors.ProfileFileError.TheVariants as plan_error
 use Rattle.cfg_types.specs.declared.errors.ProviderCause.TheVariants as cause
 use Rattle.cfg_world.specs.declared.ask.Question.{Question}
 use Rattle.cfg_world.specs.declared.ask.Question.TheVariants.{Send}
@@ -15,6 +15,8 @@ use Rattle.cfg_world.specs.Fits.{Pair}
 use Rattle.cfg_keeping.specs.Kinds.{Value}
 use Rattle.cfg_keeping.specs.KeptInquiry.{Reads}
 use Rattle.cfg_metadata.specs.Causes.{CauseMetadata}
+use Rattle.cfg_sign_in.specs.declared.asked_by.AskedBy.TheVariants as by
+use Rattle.cfg_sign_in.specs.SignInCauses.{SignInCause}
 use Rattle.cfg_sso.specs.SsoCauses.{SsoCause}
 use Rattle.cfg_world.specs.Leaves.{granted_of}
 use Rattle.cfg_exchange.specs.ContainerCauses.{why_container}
@@ -28,39 +30,37 @@ use Rattle.cfg_providers.specs.EnvironmentCauses.{why_environment}
 use Rattle.cfg_providers.specs.Processes.{why_process}
 use Rattle.cfg_providers.specs.WebIdentities.{why_entry}
 use Rattle.cfg_chain.specs.Settings.{Setting, names_of, container_settings, named_metadata}
-use Rattle.cfg_chain.specs.profile.Plans.{Planned, plan, not_built}
+use Rattle.cfg_chain.specs.profile.Plans.{Planned, plan, refusal}
 use Rattle.cfg_chain.specs.profile.Bases.{base_tree, signed_on}
-use Rattle.cfg_chain.specs.profile.Profiles.{refusal}
 
 -- why a container gives no credentials, over its part
 abbrev pub why_by_container : Setting → List Pair → Option CredentialsError
 why_by_container s part = why_container s.configuration.environment (container_settings s.configuration) s.container part
 
-abbrev pub why_not_built : Option CredentialsError
-why_not_built = Some (InvalidConfiguration (config.Profile not_built))
-
--- by whether the name is that of the environment, of a container, of instance metadata
-abbrev pub BuiltInCause : Setting → Bool → Bool → Bool → List Value → List Pair → Answer → Type 0
-BuiltInCause s true container metadata found part given = result_err given ≡ why_environment s.configuration.environment
-BuiltInCause s false true metadata found part given = result_err given ≡ why_by_container s part
-BuiltInCause s false false true found part given = CauseMetadata (named_metadata s) found part given
-BuiltInCause s false false false found part given = result_err given ≡ why_not_built
+-- By whether the name is that of the environment, of a container, of instance metadata. No plan names
+-- another.
+abbrev pub BuiltInCause : Setting → List ℕ → Bool → Bool → Bool → List Value → List Pair → Answer → Type 0
+BuiltInCause s name true container metadata found part given = result_err given ≡ why_environment s.configuration.environment
+BuiltInCause s name false true metadata found part given = result_err given ≡ why_by_container s part
+BuiltInCause s name false false true found part given = CauseMetadata (named_metadata s) found part given
+BuiltInCause s name false false false found part given = result_err given ≡ Some (refusal (plan_error.UnknownProvider name))
 
 -- one of the caller's own sources by its own answer
 abbrev pub SourceCause : Setting → List ℕ → Option Answer → List Value → List Pair → Answer → Type 0
 SourceCause s name (Some answer) found part given = result_err given ≡ result_err answer
 SourceCause s name None found part given =
-    BuiltInCause s (is_alike name (codes "Environment")) (is_alike name (codes "EcsContainer")) (is_alike name (codes "Ec2InstanceMetadata")) found part given
+    BuiltInCause s name (is_alike name (codes "Environment")) (is_alike name (codes "EcsContainer")) (is_alike name (codes "Ec2InstanceMetadata")) found part given
 
 -- Why a base gives no credentials, over what it found and its part, by the rule of its provider: a line
--- for each.
+-- for each. No plan has IAM Identity Center without an account or a role.
 abbrev pub BaseCause : Setting → BaseProvider → List Value → List Pair → Answer → Type 0
 BaseCause s (base.AccessKey keys) found part given = result_err given ≡ None
 BaseCause s (base.NamedSource name) found part given = SourceCause s name (last_named name s.sources) found part given
 BaseCause s (base.WebIdentityTokenRole arn file session) found part given = result_err given ≡ option_and_then why_entry (last_or None part)
 BaseCause s (base.CredentialProcess command account) found part given = result_err given ≡ why_process account part
 BaseCause s (base.Sso session region url (Some account) (Some role)) found part given = SsoCause s.configuration (signed_on session region url account role) found part given
-BaseCause s _ found part given = result_err given ≡ why_not_built
+BaseCause s (base.LoginSession session) found part given = SignInCause s.configuration session by.Profile found part given
+BaseCause s _ found part given = result_err given ≡ Some (refusal plan_error.TokenProviderConfig)
 
 -- why the exchange of an entry gives no credentials: it failed, was refused, or its reply cannot be used
 abbrev pub exchange_failure : Question → Given → Option CredentialsError

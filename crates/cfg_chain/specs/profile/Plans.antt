@@ -1,8 +1,11 @@
--- What the selected profile gives credentials by, as far as it is built.
-use Rattle.std.specs.Prelude.{ℕ, List, [], Bool, true, false, not, Option, None, Result, Ok, Err, codes, if◌then◌else◌}
-use Rattle.cfg_values.specs.Gives.{◌>>=◌}
+-- What the selected profile gives credentials by.
+use Rattle.std.specs.Prelude.{ℕ, List, [], Bool, true, false, Option, Some, None, Result, Ok, Err, if◌then◌else◌}
+use Rattle.cfg_types.specs.declared.errors.ConfigCause.TheVariants as config
+use Rattle.cfg_types.specs.declared.errors.CredentialsError.{CredentialsError}
+use Rattle.cfg_types.specs.declared.errors.CredentialsError.TheVariants as error
+use Rattle.cfg_types.specs.declared.errors.NotLoadedCause.TheVariants as not_loaded
 use Rattle.cfg_types.specs.declared.errors.ProfileFileError.{ProfileFileError}
-use Rattle.cfg_types.specs.declared.errors.ProfileFileError.TheVariants.{InvalidProfile, FeatureNotEnabled}
+use Rattle.cfg_types.specs.declared.errors.ProfileFileError.TheVariants as plan_error
 use Rattle.cfg_profile.specs.declared.sections.ProfileSource.{ProfileSource}
 use Rattle.cfg_profile.specs.declared.sections.ProfileSource.TheVariants.{Sections, Refused}
 use Rattle.cfg_profile.specs.declared.chain.BaseProvider.{BaseProvider}
@@ -14,6 +17,7 @@ use Rattle.cfg_profile.specs.Selected.{selected_name}
 use Rattle.cfg_profile.proofs.PlanLaws.{the_plan}
 use Rattle.cfg_sso.specs.Tokens.{key_by}
 use Rattle.cfg_token.specs.declared.token_key.TokenKey.{TokenKey}
+use Rattle.cfg_token.specs.declared.token_key.TokenKey.TheVariants.{Login}
 
 abbrev pub Planned : Type 0
 Planned = Result ProfileChain ProfileFileError
@@ -23,44 +27,38 @@ Planned = Result ProfileChain ProfileFileError
 unfoldable pub profile_plan : SectionSets → List ℕ → List (List ℕ) → Planned
 profile_plan sets name sources = (the_plan sets name sources).answer
 
--- The answer where the base is not built yet: as of a feature that is not there.
-abbrev pub not_built : ProfileFileError
-not_built = FeatureNotEnabled (codes "profile-providers") None
-
--- whether a base is built: all but a sign-in
-abbrev pub is_built_base : BaseProvider → Bool
-is_built_base (base.LoginSession arn) = false
-is_built_base _ = true
-
--- a plan whose base is built
-abbrev pub built : ProfileChain → Planned
-built chain = if is_built_base chain.base then Ok chain else Err not_built
-
 abbrev pub plan_in : ProfileSource → List ℕ → List (List ℕ) → Planned
-plan_in (Refused reason) name sources = Err (InvalidProfile reason)
-plan_in (Sections sets) name sources = profile_plan sets name sources >>= built
+plan_in (Refused reason) name sources = Err (plan_error.InvalidProfile reason)
+plan_in (Sections sets) name sources = profile_plan sets name sources
 
 -- what the selected profile gives credentials by, or why it gives none
 unfoldable pub plan : Configuration → List (List ℕ) → Planned
 plan conf sources = plan_in conf.profiles (selected_name conf) sources
 
-abbrev pub is_not_built_error : ProfileFileError → Bool
-is_not_built_error (FeatureNotEnabled feature message) = true
-is_not_built_error _ = false
+-- ---- where there is no plan
 
-abbrev pub is_built_plan : Planned → Bool
-is_built_plan (Ok p) = true
-is_built_plan (Err e) = not (is_not_built_error e)
+-- The errors of a profile that is not there, that has no credentials, or that gives a token in place
+-- of credentials.
+abbrev pub is_not_loaded_error : ProfileFileError → Bool
+is_not_loaded_error plan_error.NoProfilesDefined = true
+is_not_loaded_error (plan_error.ProfileDidNotContainCredentials name) = true
+is_not_loaded_error (plan_error.MissingProfile name message) = true
+is_not_loaded_error plan_error.TokenProviderConfig = true
+is_not_loaded_error _ = false
 
--- whether the plan is one that is built
-abbrev pub is_built : Configuration → List (List ℕ) → Bool
-is_built conf sources = is_built_plan (plan conf sources)
+-- What the provider of profiles answers where there is no plan: not loaded, or a fault of the
+-- configuration.
+abbrev pub refusal : ProfileFileError → CredentialsError
+refusal plan_error.OutOfMemory = error.OutOfMemory
+refusal e = if is_not_loaded_error e then error.CredentialsNotLoaded (not_loaded.Profile e) else error.InvalidConfiguration (config.Profile e)
 
 -- ---- whose token is kept
 
--- whose token a base needs: that of a session of IAM Identity Center, where it names one
+-- whose token a base needs: that of a session of IAM Identity Center, where it names one, or that of a
+-- sign-in session
 abbrev pub key_of_base : BaseProvider → Option TokenKey
 key_of_base (base.Sso session region url account role) = key_by session region url
+key_of_base (base.LoginSession session) = Some (Login session)
 key_of_base _ = None
 
 abbrev pub key_of_plan : Planned → Option TokenKey

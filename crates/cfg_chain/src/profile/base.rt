@@ -10,14 +10,15 @@ ghost use Rattle.cfg_providers.specs.CustomSources.{last_named};
 ghost use Rattle.cfg_providers.specs.Processes.{credential_process as credential_process_of};
 ghost use Rattle.cfg_providers.specs.Provides.{is_memory as is_memory_of};
 ghost use Rattle.cfg_providers.specs.WebIdentities.{no_policies, assumes_by_web_identity};
+ghost use Rattle.cfg_sign_in.specs.SignIns.{sign_in_credentials};
 ghost use Rattle.cfg_sso.specs.Tokens.{HasKey, key_by};
 ghost use Rattle.cfg_sso.specs.SsoCredentials.{sso_credentials};
 ghost use Rattle.cfg_chain.specs.Settings.{setting, container_settings as settings_of_container};
 ghost use Rattle.cfg_chain.specs.Sources.{named_sources, services_in};
-ghost use Rattle.cfg_chain.specs.profile.Bases.{base_not_built as base_not_built_of, by_container, built_in_source, named_source, profile_session, signed_on, base_tree, in_base as in_base_of, based};
+ghost use Rattle.cfg_chain.specs.profile.Bases.{unknown_source as unknown_source_of, by_container, built_in_source, named_source, profile_session, signed_on, without_role as without_role_of, base_tree, in_base as in_base_of, based};
 ghost use Rattle.cfg_chain.specs.profile.Plans.{key_of_base};
 
-use crate::profile::plan::not_built;
+use crate::profile::plan::refusal;
 use crate::services::Services;
 use cfg_exchange::{ContainerSettings, ContainerUri, follow_container};
 use cfg_imds::{Client, is_disabled};
@@ -28,10 +29,11 @@ use cfg_providers::{
     CustomSource, SessionPolicies, WebIdentity, assume_by_web_identity, credential_process,
     follow_environment, provide_by_name,
 };
+use cfg_sign_in::{AskedBy, follow_login};
 use cfg_sso::{SsoProviderConfig, follow_sso};
 use cfg_types::{
-    AccountId, Boxed, CommandWithSensitiveArgs, ConfigCause, Credentials, CredentialsError,
-    OutOfMemory, ProviderCause, Region, Text, TryCopy, copy_option,
+    AccountId, Boxed, CommandWithSensitiveArgs, Credentials, CredentialsError, OutOfMemory,
+    ProfileFileError, ProviderCause, Region, Text, TryCopy, copy_option,
 };
 use cfg_world::{Asking, Stop};
 use std::alloc::Global;
@@ -119,11 +121,19 @@ fn follow_base<P: Keeper, A: Asking>(
             let sso = sign_on(alloc, session, region, url, account, role)?;
             follow_sso(alloc, config, &sso, keeper, asking)
         }
-        _ => {
-            let answer = base_not_built(alloc)?;
-            Ok(answer)
-        }
+        BaseProvider::LoginSession {
+            login_session_arn: session,
+        } => follow_login(alloc, config, session, AskedBy::Profile, keeper, asking),
+        _ => Ok(without_role()),
     }
+}
+
+// IAM Identity Center without an account or a role, as it is answered where the plan is made.
+#[tactic(auto, unfolding(crate::specs::profile::Bases::without_role))]
+fn without_role() -> Result<Credentials, CredentialsError>
+    ensures { without_role_of ≡ result }
+{
+    Err(refusal(ProfileFileError::TokenProviderConfig))
 }
 
 // What IAM Identity Center is asked for.
@@ -144,14 +154,6 @@ fn sign_on(
         start_url: url.copy(alloc)?,
         session_name: copy_option(alloc, session)?,
     })
-}
-
-#[tactic(auto, unfolding(crate::specs::profile::Bases::base_not_built))]
-fn base_not_built(alloc: Global) -> Result<Result<Credentials, CredentialsError>, OutOfMemory>
-    ensures { IfOk result (λ r. base_not_built_of ≡ r) }
-{
-    let error = not_built(alloc)?;
-    Ok(Err(CredentialsError::InvalidConfiguration(ConfigCause::Profile(error))))
 }
 
 #[tactic(auto, using(cfg_world::proofs::Inquiries::asking_steps))]
@@ -283,8 +285,20 @@ fn follow_built_in<P: Keeper, A: Asking>(
         let place = Place::Named;
         return ask_metadata(alloc, config, services.named_client, place, keeper, asking);
     }
-    let answer = base_not_built(alloc)?;
+    let answer = unknown_source(alloc, name)?;
     Ok(answer)
+}
+
+// A source that nobody has, as it is answered where the plan is made.
+#[tactic(auto, unfolding(crate::specs::profile::Bases::unknown_source))]
+fn unknown_source(
+    alloc: Global,
+    name: &Text,
+) -> Result<Result<Credentials, CredentialsError>, OutOfMemory>
+    ensures { IfOk result (λ r. unknown_source_of name.now ≡ r) }
+{
+    let name = name.copy(alloc)?;
+    Ok(Err(refusal(ProfileFileError::UnknownProvider { name })))
 }
 
 /// The credentials of the role that the instance metadata service lists.

@@ -5,18 +5,15 @@ ghost use Rattle.cfg_sso.specs.Tokens.{HasKey};
 ghost use Rattle.cfg_chain.specs.Settings.{setting};
 ghost use Rattle.cfg_chain.specs.Sources.{named_sources, services_in};
 ghost use Rattle.cfg_chain.specs.profile.Plans.{key_of_base, key_of};
-ghost use Rattle.cfg_chain.specs.profile.Profiles.{refusal as refusal_of, by_profile, marked as marked_of, derived, follows_planned, profile};
+ghost use Rattle.cfg_chain.specs.profile.Profiles.{by_profile, marked as marked_of, derived, follows_planned, profile};
 
 use crate::profile::base::follow_based;
-use crate::profile::plan::plan_of;
+use crate::profile::plan::{plan_of, refusal};
 use crate::services::Services;
 use cfg_keeping::Keeper;
 use cfg_profile::{ProfileChain, ProviderConfig, RoleArn};
 use cfg_providers::{CustomSource, assume_roles, names_of};
-use cfg_types::{
-    AwsCredentialFeature, ConfigCause, Credentials, CredentialsError, NotLoadedCause, OutOfMemory,
-    ProfileFileError,
-};
+use cfg_types::{AwsCredentialFeature, Credentials, CredentialsError, OutOfMemory};
 use cfg_world::{Asking, Halt, Stop};
 use std::alloc::Global;
 
@@ -99,20 +96,4 @@ fn mark(credentials: Credentials) -> Result<Credentials, OutOfMemory>
     let mut credentials = credentials;
     credentials.add_feature(AwsCredentialFeature::CredentialsProfile)?;
     Ok(credentials)
-}
-
-// What the provider answers where there is no plan.
-fn refusal(error: ProfileFileError) -> CredentialsError
-    ensures { result ≡ refusal_of error }
-{
-    match &error {
-        ProfileFileError::OutOfMemory => CredentialsError::OutOfMemory,
-        ProfileFileError::NoProfilesDefined
-        | ProfileFileError::ProfileDidNotContainCredentials { .. }
-        | ProfileFileError::MissingProfile { .. }
-        | ProfileFileError::TokenProviderConfig => {
-            CredentialsError::CredentialsNotLoaded(NotLoadedCause::Profile(error))
-        }
-        _ => CredentialsError::InvalidConfiguration(ConfigCause::Profile(error)),
-    }
 }

@@ -1,7 +1,15 @@
--- A member answered, was passed over, or was passed over and memory ran out.
+-- A member stopped, answered, was passed over, or was passed over and memory ran out.
 use Rattle.std.proofs.Common.{◌∙◌}
-use Rattle.cfg_chain.proofs.ChainSteps.{chain_answers, chain_passed, chain_breaks_later}
+use Rattle.cfg_keeping.proofs.ChainSteps.{chain_answers, chain_passed, chain_breaks_later}
+use Rattle.std.proofs.lemmas.Result.{err_from_is_err_and}
+use Rattle.cfg_chain.proofs.ChainHalts.{chain_halts}
 use Rattle.cfg_chain.proofs.chain.follow_chain.Goals as goal
+
+pub returns-in_err-outcome-clause-follows : goal.returns-in_err-outcome-clause-follows
+returns-in_err-outcome-clause-follows g c =
+    let p = err_from_is_err_and c.from_residual.result c.from_residual.ensures.1 in
+    rw (p.1, p.2) (chain_halts _ c.args.members.now c.loop-member.member-index _ c.loop-member.attempts.items _ _ c.in_err-outcome.field-0.0
+    c.loop-member.invariant.leads c.loop-member-test.true c.in_err-outcome.ensures.follows)
 
 pub returns-in-Answers-clause-follows : goal.returns-in-Answers-clause-follows
 returns-in-Answers-clause-follows g c =

@@ -3,7 +3,7 @@ use Rattle.std.proofs.Common.{◌≡◌, [], drop}
 use Rattle.cfg_keeping.proofs.HoldingSteps.{HoldsLeads}
 use Rattle.cfg_chain.specs.Settings.{setting}
 use Rattle.cfg_chain.specs.Sources.{named_sources, services_in}
-use Rattle.cfg_chain.specs.Chains.{chain}
+use Rattle.cfg_keeping.specs.Chains.{chain}
 use Rattle.cfg_chain.specs.Members.{credentials_chain}
 use Rattle.cfg_chain.proofs.chain.follow_chain.Given as goal
 

@@ -1,0 +1,5 @@
+pub mod OneSession
+pub mod TokenCauses
+pub mod TokenCalls
+pub mod DefaultSteps
+pub mod MemberLists

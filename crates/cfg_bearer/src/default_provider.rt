@@ -1,0 +1,3 @@
+//! The default chains.
+
+pub mod token;

@@ -1,0 +1,20 @@
+//! Bearer tokens: the selected profile's, a caller's own, and chains of them. It stands on cfg_members,
+//! cfg_sso and cfg_profile. The layers above may use that a chain's journal is the parts of its members in
+//! order, up to the first that was not passed over, whose answer is the chain's, and that each part has its
+//! cause.
+#![tactic(auto)]
+
+pub mod chain;
+pub mod custom;
+pub mod default_provider;
+pub mod laws;
+pub mod member;
+pub mod profile;
+mod session;
+
+pub use cfg_sso::SsoTokenProvider;
+pub use chain::TokenProviderChain;
+pub use custom::{CustomToken, ProvideToken};
+pub use default_provider::token::DefaultTokenChain;
+pub use member::TokenMember;
+pub use profile::token::ProfileFileTokenProvider;

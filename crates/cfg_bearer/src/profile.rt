@@ -1,0 +1,3 @@
+//! The selected profile.
+
+pub mod token;

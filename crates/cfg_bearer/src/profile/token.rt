@@ -1,0 +1,250 @@
+//! The token of the selected profile.
+ghost use Rattle.std.specs.Prelude.{◌≡◌, IfOk, Some, true, false, codes, unwrap_or};
+ghost use Rattle.std.specs.Option.{option_copied};
+ghost use Rattle.cfg_keeping.specs.Holds.{HoldsFollows};
+ghost use Rattle.cfg_keeping.specs.KeptStates.{kept_holdings, kept_key, states_of};
+ghost use Rattle.cfg_keeping.specs.Kinds.{no_states};
+ghost use Rattle.cfg_sso.specs.BearerTokens.{is_memory};
+ghost use Rattle.cfg_sso.specs.Tokens.{HasKey};
+ghost use Rattle.cfg_bearer.specs.Provides.{ProvidesToken, InterruptedToken};
+ghost use Rattle.cfg_bearer.specs.ProfileTokens.{profile_token, ProfileTokenCause};
+ghost use Rattle.cfg_bearer.specs.Sessions.{session_key};
+
+use crate::session::{session_of, token_key_of};
+use cfg_keeping::{Keeper, Kept};
+use cfg_profile::{ProfileSource, ProviderConfig};
+use cfg_sso::follow_bearer;
+use cfg_token::TokenKey;
+use cfg_types::{OutOfMemory, Token, TokenError, TryCopy, copy_option};
+use cfg_world::{Asking, Devices, Stop, World};
+use std::alloc::Global;
+use std::marker::Model;
+
+/// The token of the selected profile: that of the session of IAM Identity Center with which its path ends.
+/// Contracts see the configuration. It keeps nothing between its calls.
+pub struct ProfileFileTokenProvider {
+    alloc: Global,
+    config: ProviderConfig,
+    token_key: Option<TokenKey>,
+}
+
+impl Drop for ProfileFileTokenProvider {
+    fn drop(self) {
+        let ProfileFileTokenProvider {
+            alloc: _,
+            config: _,
+            token_key: _,
+        } = self;
+    }
+}
+
+impl Model for ProfileFileTokenProvider {
+    ghost use Rattle.std.specs.Prelude.{◌≡◌};
+    ghost use Rattle.cfg_profile.specs.Configuration.{Configuration, configuration_code};
+    ghost use Rattle.cfg_bearer.specs.Sessions.{session_key};
+
+    ghost Value = { Configuration };
+
+    ghost coded = { configuration_code };
+
+    ghost view = { λ p. p.config };
+
+    ghost invariant = { λ p. p.token_key ≡ session_key p.config };
+}
+
+impl ProfileFileTokenProvider {
+    ghost use Rattle.cfg_bearer.specs.Setups.{nothing_set};
+
+    /// A builder with no variables and no sections.
+    pub fn builder(alloc: Global) -> Result<Builder, OutOfMemory>
+        ensures { IfOk result (λ b. b ≡ nothing_set) }
+    {
+        Builder::new(alloc)
+    }
+
+    // A provider over this configuration. Whose token it needs is read from the selected profile now.
+    pub(crate) fn of(
+        alloc: Global,
+        config: ProviderConfig,
+    ) -> Result<ProfileFileTokenProvider, OutOfMemory>
+        ensures { IfOk result (λ p. p ≡ config) }
+    {
+        let token_key = token_key_of(alloc, &config)?;
+        Ok(ProfileFileTokenProvider {
+            alloc,
+            config,
+            token_key,
+        })
+    }
+
+    /// Whose token the provider needs: that of the profile's session, where it has one.
+    pub fn token_key(&self) -> Option<&TokenKey>
+        ensures { option_copied result ≡ session_key self.now }
+    {
+        self.token_key.as_ref()
+    }
+
+    /// What the provider keeps between calls, with nothing kept.
+    pub fn new_kept(&self) -> Result<Kept, OutOfMemory>
+        ensures nothing { IfOk result (λ kept. states_of kept ≡ no_states) }
+        ensures key { IfOk result (λ kept. kept_key kept ≡ session_key self.now) }
+    {
+        let key = copy_option(self.alloc, &self.token_key)?;
+        Ok(Kept::new(self.alloc, key))
+    }
+
+    /// The body of [`Self::provide_token`], over anything that can be asked. Where a question is left
+    /// open it stops there, and taken up again with one answer more it comes to the next.
+    #[tactic(auto, using(cfg_keeping::proofs::HoldingSteps::holding_steps), unfolding(crate::specs::ProfileTokens::profile_token))]
+    pub fn follow<P: Keeper, A: Asking>(
+        &self,
+        keeper: &mut P,
+        asking: &mut A,
+    ) -> Result<Result<Token, TokenError>, Stop>
+        requires { HasKey (session_key self.now) (P.key_held keeper.old) }
+        ensures follows { HoldsFollows ⟦<A as Asking>⟧ (profile_token self.now) asking.old (P.holdings keeper.old) asking.new (P.holdings keeper.new) result }
+        ensures key { P.key_held keeper.new ≡ P.key_held keeper.old }
+    {
+        match session_of(self.alloc, &self.config)? {
+            Ok(key) => follow_bearer(self.alloc, &self.config, &key, keeper, asking),
+            Err(error) => Ok(Err(error)),
+        }
+    }
+
+    /// One section of the token of the profile's session, on what is kept of it, which is that of a
+    /// provider with this key, as [`Self::new_kept`] makes it. The token has the access token as its
+    /// text, and its expiry.
+    ///
+    /// The world's journal gains the section's part and nothing else. The list of the values that were
+    /// found is that of this call alone.
+    ///
+    /// # Errors
+    ///
+    /// - `InvalidConfiguration` where the sections were refused, or the path of the selected profile has
+    ///   an error, which it holds.
+    /// - `TokenNotLoaded(NoSession)` where the path ends with something else than IAM Identity Center, or
+    ///   with IAM Identity Center without a session.
+    /// - `ProviderError` around the section's error, where it gives no token.
+    /// - `OutOfMemory` where memory runs out. The journal then has gained the beginning of such a part,
+    ///   and what is kept is as it was, or as the finished section left it.
+    pub fn provide_token<D: Devices>(
+        &self,
+        kept: &mut Kept,
+        world: &mut World<D>,
+    ) -> Result<Token, TokenError>
+        requires { kept_key kept.old ≡ session_key self.now }
+        ensures provides { is_memory result ≡ false → ProvidesToken (profile_token self.now) (ProfileTokenCause self.now) ⟦<D as Devices>⟧ (states_of kept.old) (states_of kept.new) (kept_holdings kept.new).found world.old world.new result }
+        ensures stays { is_memory result ≡ true → InterruptedToken ⟦<D as Devices>⟧ (profile_token self.now) (states_of kept.old) (states_of kept.new) (kept_holdings kept.new).found world.old world.new }
+        ensures key { kept_key kept.new ≡ kept_key kept.old }
+    {
+        kept.clear_found();
+        match self.follow(kept, world) {
+            Ok(outcome) => outcome,
+            Err(_) => Err(TokenError::OutOfMemory),
+        }
+    }
+}
+
+/// Sets up a provider of a profile's token. Contracts see its configuration, and the name and the sections
+/// that are in place of the configuration's. A setter changes its field alone.
+pub struct Builder {
+    alloc: Global,
+    config: ProviderConfig,
+    profile_name: Option<String>,
+    profiles: Option<ProfileSource>,
+}
+
+impl Drop for Builder {
+    fn drop(self) {
+        let Builder {
+            alloc: _,
+            config: _,
+            profile_name: _,
+            profiles: _,
+        } = self;
+    }
+}
+
+impl Model for Builder {
+    ghost use Rattle.std.specs.Prelude.{option_map, string_bytes};
+    ghost use Rattle.cfg_bearer.specs.Setups.{ProfileSetup, profile_setup_code};
+
+    ghost Value = { ProfileSetup };
+
+    ghost coded = { profile_setup_code };
+
+    ghost view = { λ b. record {
+      configuration = b.config;
+      profile_name = option_map (λ s. string_bytes s) b.profile_name;
+      profiles = b.profiles;
+    } };
+}
+
+impl Builder {
+    ghost use Rattle.cfg_bearer.specs.Setups.{nothing_set, profile_configured};
+
+    /// A builder with no variables and no sections.
+    pub fn new(alloc: Global) -> Result<Builder, OutOfMemory>
+        ensures { IfOk result (λ b. b ≡ nothing_set) }
+    {
+        let config = ProviderConfig::without_region(alloc)?;
+        Ok(Builder {
+            alloc,
+            config,
+            profile_name: None,
+            profiles: None,
+        })
+    }
+
+    /// With a copy of this configuration, in place of the one that it had.
+    pub fn configure(mut self, config: &ProviderConfig) -> Result<Builder, OutOfMemory>
+        ensures { IfOk result (λ b. b ≡ record self { configuration = config.now }) }
+    {
+        self.config = config.copy(self.alloc)?;
+        Ok(self)
+    }
+
+    /// The profile of this name, whatever the configuration says.
+    pub fn profile_name(mut self, name: &str) -> Result<Builder, OutOfMemory>
+        ensures { IfOk result (λ b. b ≡ record self { profile_name = Some name.now }) }
+    {
+        self.profile_name = Some(String::from_str(self.alloc, name)?);
+        Ok(self)
+    }
+
+    /// With these sections, or their refusal, whatever the configuration has.
+    pub fn profiles(mut self, profiles: ProfileSource) -> Builder
+        ensures { result ≡ record self { profiles = Some profiles } }
+    {
+        self.profiles = Some(profiles);
+        self
+    }
+
+    /// The provider. Whose token it needs is read from the selected profile now.
+    pub fn build(self) -> Result<ProfileFileTokenProvider, OutOfMemory>
+        ensures { IfOk result (λ p. p ≡ profile_configured self) }
+    {
+        let Builder {
+            alloc,
+            config,
+            profile_name,
+            profiles,
+        } = self;
+        let config = with_profiles(config, profiles);
+        let config = match profile_name {
+            None => config,
+            Some(name) => config.with_profile_name(alloc, name.as_str())?,
+        };
+        ProfileFileTokenProvider::of(alloc, config)
+    }
+}
+
+// With these sections in place of the configuration's, where there are some.
+fn with_profiles(config: ProviderConfig, profiles: Option<ProfileSource>) -> ProviderConfig
+    ensures { result ≡ record config { profiles = unwrap_or profiles config.profiles } }
+{
+    match profiles {
+        None => config,
+        Some(profiles) => config.with_profiles(profiles),
+    }
+}

@@ -1,0 +1,2 @@
+pub mod ChainFolds
+pub mod ShownNames

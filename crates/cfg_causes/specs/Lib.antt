@@ -1,0 +1,5 @@
+pub mod Lines
+pub mod Words
+pub mod Parts
+pub mod CredentialsCauses
+pub mod TokenCauses

@@ -1,0 +1,6 @@
+pub mod PassedMembers
+pub mod MemberSteps
+pub mod FirstAnswers
+pub mod OneCall
+pub mod FallbackSteps
+pub mod Mapped

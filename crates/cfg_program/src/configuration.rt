@@ -1,0 +1,85 @@
+//! What a script configures.
+ghost use Rattle.std.specs.Prelude.{◌≡◌, IfOk, map, option_map, string_bytes};
+ghost use Rattle.cfg_values.specs.Text.{characters};
+ghost use Rattle.cfg_values.specs.TextMap.{named};
+ghost use Rattle.cfg_script.specs.Script.{plain_profiles, section_bytes};
+ghost use Rattle.cfg_program.specs.Calls.{section_parts, source_of, configured_by};
+
+use cfg_chain::{ProfileSet, ProfileSource, ProviderConfig, Section};
+use cfg_script::ScriptProfiles;
+use cfg_types::{Env, EnvText, OutOfMemory, Region};
+use std::alloc::Global;
+
+/// What the script configures, but for its region.
+pub fn configuration(
+    alloc: Global,
+    variables: Vec<(String, EnvText)>,
+    profiles: ScriptProfiles,
+    selected: Option<String>,
+    sleep: bool,
+) -> Result<ProviderConfig, OutOfMemory>
+    ensures { IfOk result (λ c. c ≡ configured_by (map named variables.items) (source_of (plain_profiles profiles)) (option_map (λ t. string_bytes t) selected) sleep) }
+{
+    let source = source(alloc, profiles)?;
+    configured_with(alloc, variables, source, selected, sleep)
+}
+
+// The sections that the script says, or their refusal.
+fn source(alloc: Global, profiles: ScriptProfiles) -> Result<ProfileSource, OutOfMemory>
+    ensures { IfOk result (λ s. s ≡ source_of (plain_profiles profiles)) }
+{
+    match profiles {
+        ScriptProfiles::Refused(reason) => Ok(ProfileSource::Refused(reason)),
+        ScriptProfiles::Sections { profiles, sessions } => {
+            let profiles = sections(alloc, profiles)?;
+            let sessions = sections(alloc, sessions)?;
+            let set = ProfileSet::new(alloc, profiles, sessions, "default")?;
+            Ok(ProfileSource::Sections(set))
+        }
+    }
+}
+
+/// These variables, sections and selected name, and whether providers may sleep. The region comes to
+/// the chain as an override.
+pub fn configured_with(
+    alloc: Global,
+    variables: Vec<(String, EnvText)>,
+    source: ProfileSource,
+    selected: Option<String>,
+    sleep: bool,
+) -> Result<ProviderConfig, OutOfMemory>
+    ensures { IfOk result (λ c. c ≡ configured_by (map named variables.items) source (option_map (λ t. string_bytes t) selected) sleep) }
+{
+    let env = Env::new(alloc, variables)?;
+    let config = ProviderConfig::without_region(alloc)?;
+    let config = config.with_env(env);
+    let config = config.with_profiles(source);
+    let config = config.with_sleep_impl(sleep);
+    match selected {
+        None => Ok(config),
+        Some(name) => config.with_profile_name(alloc, name.as_str()),
+    }
+}
+
+fn sections(
+    alloc: Global,
+    profiles: Vec<(String, Vec<(String, String)>)>,
+) -> Result<Vec<Section>, OutOfMemory>
+    ensures { IfOk result (λ v. v.items ≡ map section_parts (map section_bytes profiles.items)) }
+{
+    let mut sections = Vec::new(alloc);
+    for (name, properties) in profiles {
+        sections.push(Section::of(name, properties))?;
+    }
+    Ok(sections)
+}
+
+/// The region of this name, or none.
+pub fn region_named(alloc: Global, name: Option<String>) -> Result<Option<Region>, OutOfMemory>
+    ensures { IfOk result (λ r. r ≡ option_map characters (option_map (λ t. string_bytes t) name)) }
+{
+    match name {
+        None => Ok(None),
+        Some(name) => Ok(Some(Region::new(alloc, name.as_str())?)),
+    }
+}

@@ -1,0 +1,56 @@
+//! The call over the variables and the world that are handed in.
+ghost use Rattle.std.specs.Prelude.{IfOk, OnErr, map};
+ghost use Rattle.cfg_values.specs.TextMap.{named};
+ghost use Rattle.cfg_world.specs.Grows.{Stopped};
+ghost use Rattle.cfg_chain.specs.Sources.{named_sources};
+ghost use Rattle.cfg_program.specs.Local.{local_configuration, GrowsByCall};
+
+use crate::lines::LineForm;
+use crate::outcome::{Answered, Outcome, tell};
+use crate::resolve::chain_of;
+use cfg_chain::{CustomSource, DefaultCredentialsChain, ProviderConfig};
+use cfg_types::{Env, EnvText, OutOfMemory};
+use cfg_world::{Devices, World};
+use std::alloc::Global;
+
+/// Makes one call of the default chain over these variables, the caller's own sources and this world, without
+/// sections and without a region. The world's journal gains the questions of the call.
+pub fn call_locally<D: Devices>(
+    alloc: Global,
+    variables: Vec<(String, EnvText)>,
+    custom: &[CustomSource],
+    world: &mut World<D>,
+) -> Result<Answered, OutOfMemory>
+    ensures made { IfOk result (λ a. GrowsByCall ⟦<D as Devices>⟧ (local_configuration (map named variables.items)) (named_sources value custom.now) world.old world.new a.is_ok a.lines.items) }
+    ensures stopped { OnErr result (Stopped ⟦<D as Devices>⟧ world.old world.new) }
+{
+    let env = Env::new(alloc, variables)?;
+    let config = ProviderConfig::without_region(alloc)?.with_env(env);
+    let chain = chain_of(alloc, config, None, world)?;
+    call(alloc, &chain, custom, world)
+}
+
+// One call of the chain, and its line. The entries that the journal had before are not among its questions.
+fn call<D: Devices>(
+    alloc: Global,
+    chain: &DefaultCredentialsChain,
+    custom: &[CustomSource],
+    world: &mut World<D>,
+) -> Result<Answered, OutOfMemory>
+    ensures made { IfOk result (λ a. GrowsByCall ⟦<D as Devices>⟧ chain.now (named_sources value custom.now) world.old world.new a.is_ok a.lines.items) }
+    ensures stopped { OnErr result (Stopped ⟦<D as Devices>⟧ world.old world.new) }
+{
+    let before = world.journal().len();
+    let mut kept = chain.new_kept()?;
+    let outcome = Outcome {
+        answer: chain.provide_credentials(custom, None, &mut kept, world),
+    };
+    let mut lines = Vec::new(alloc);
+    let is_ok = tell(
+        &mut lines,
+        LineForm::Call,
+        &outcome.answer,
+        &world.journal()[before..],
+    )?;
+    Ok(Answered { is_ok, lines })
+}

@@ -1,0 +1,53 @@
+//! What a call answered, and its line.
+ghost use Rattle.std.specs.Prelude.{◌≡◌, ◌++◌, false, is_ok, IfOk};
+ghost use Rattle.cfg_providers.specs.Provides.{is_memory};
+ghost use Rattle.cfg_program.specs.Lines.{shown_as};
+
+use crate::lines::{LineForm, write_call};
+use cfg_types::{Credentials, CredentialsError, OutOfMemory};
+use cfg_world::Entry;
+
+/// What calls answered: whether the last one gave what it was asked for, and their lines.
+#[derive(Drop)]
+pub struct Answered {
+    pub is_ok: bool,
+    pub lines: Vec<u8>,
+}
+
+/// What a call answered. A caller that lets it go drops it by one call.
+pub struct Outcome {
+    pub answer: Result<Credentials, CredentialsError>,
+}
+
+impl Drop for Outcome {
+    fn drop(self) {
+        let Outcome { answer: _ } = self;
+    }
+}
+
+/// Writes the line of a call behind the others, and tells whether it gave credentials.
+pub fn tell(
+    lines: &mut Vec<u8>,
+    form: LineForm,
+    outcome: &Result<Credentials, CredentialsError>,
+    journal: &[Entry],
+) -> Result<bool, OutOfMemory>
+    ensures memory { IfOk result (λ b. is_memory outcome.now ≡ false) }
+    ensures credentials { IfOk result (λ b. b ≡ is_ok outcome.now) }
+    ensures line { IfOk result (λ b. lines.new.items ≡ lines.old.items ++ shown_as form outcome.now journal.now) }
+{
+    if is_out_of_memory(outcome) {
+        return Err(OutOfMemory);
+    }
+    write_call(lines, form, outcome, journal)?;
+    Ok(outcome.is_ok())
+}
+
+fn is_out_of_memory(outcome: &Result<Credentials, CredentialsError>) -> bool
+    ensures { result ≡ is_memory outcome.now }
+{
+    match outcome {
+        Err(CredentialsError::OutOfMemory) => true,
+        _ => false,
+    }
+}

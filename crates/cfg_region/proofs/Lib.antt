@@ -1,0 +1,5 @@
+pub mod ProfileRegions
+pub mod Chains
+pub mod RegionSteps
+pub mod Loads
+pub mod OneSource

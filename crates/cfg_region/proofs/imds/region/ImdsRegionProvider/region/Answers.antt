@@ -1,0 +1,13 @@
+-- The journal gained what was asked for the region.
+use Rattle.std.proofs.Common.{sym}
+use Rattle.cfg_region.proofs.Loads.{off_asks, got_asks, got_breaks}
+use Rattle.cfg_region.proofs.imds.region.ImdsRegionProvider.region.Goals as goal
+
+pub returns-then-is_disabled-clause-asks : goal.returns-then-is_disabled-clause-asks
+returns-then-is_disabled-clause-asks g c = off_asks _ _ _ _ (sym c.if-is_disabled.ensures)
+
+pub returns-clause-asks : goal.returns-clause-asks
+returns-clause-asks g c = got_asks _ _ _ _ _ _ _ c.get-got.result _ c.region_got.result (sym c.if-is_disabled.ensures) c.get-got.ensures.gets c.region_got.ensures
+
+pub returns-clause-breaks : goal.returns-clause-breaks
+returns-clause-breaks g c = got_breaks _ _ _ _ _ _ _ c.get-got.result _ c.region_got.result (sym c.if-is_disabled.ensures) c.get-got.ensures.gets c.get-got.ensures.memory

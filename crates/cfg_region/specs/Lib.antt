@@ -1,0 +1,13 @@
+pub mod Clients
+pub mod Environments
+pub mod Profiles
+pub mod ProfileSetups
+pub mod Metadata
+pub mod MetadataSetups
+pub mod Chains
+pub mod ChainParts
+pub mod Defaults
+pub mod DefaultSetups
+pub mod Sources
+pub mod SourceLists
+pub mod Calls

@@ -1,0 +1,2 @@
+//! The default chain.
+pub mod region;

@@ -1,0 +1,2 @@
+//! Instance metadata.
+pub mod region;

@@ -1,0 +1,53 @@
+//! Laws of regions, each on a call that carries it.
+ghost use Rattle.std.specs.Prelude.{◌≡◌, ◌↔◌, ℕ, List, Option, None};
+ghost use Rattle.cfg_values.specs.TextMap.{Named};
+ghost use Rattle.cfg_world.specs.declared.script.DeviceLists.{DeviceLists as Lists};
+ghost use Rattle.cfg_world.specs.Fits.{Pair};
+ghost use Rattle.cfg_world.specs.Inquiry.{Inquiry, Reads, Begun};
+ghost use Rattle.cfg_world.specs.Script.{Place, Given};
+ghost use Rattle.cfg_profile.specs.Configuration.{Configuration};
+ghost use Rattle.cfg_profile.specs.SectionParts.{SectionParts};
+ghost use Rattle.cfg_profile.specs.Regions.{IsRegion};
+ghost use Rattle.cfg_region.specs.Calls.{IsAsked};
+ghost use Rattle.cfg_region.specs.Chains.{first_given};
+ghost use Rattle.cfg_region.specs.ChainParts.{AreParts, NoneGives, AreBegunParts};
+ghost use Rattle.cfg_region.specs.Profiles.{named_region};
+ghost use Rattle.cfg_region.specs.Sources.{Source};
+
+/// The journal of a chain is the parts of its sources in order, up to the first that gave a value, and the
+/// other way round: whatever its sources and values are, the chain asks what its sources ask.
+pub fn a_chain_is_its_sources<R>()
+    ensures { (trees : List (Inquiry (Option R))) (journal : List Pair) (out : Option R) →
+        Reads (first_given trees) journal out ↔ AreParts trees journal out }
+{}
+
+/// A chain gives nothing exactly where none of its sources gave anything, over the parts of all of them.
+pub fn a_chain_gives_nothing_where_no_source_does<R>()
+    ensures { (trees : List (Inquiry (Option R))) (journal : List Pair) →
+        AreParts trees journal None ↔ NoneGives trees journal }
+{}
+
+/// A chain that was interrupted has begun its sources in order: those before the last are whole and gave
+/// nothing.
+pub fn an_interrupted_chain_is_its_sources<R>()
+    ensures { (trees : List (Inquiry (Option R))) (journal : List Pair) →
+        Begun (first_given trees) journal ↔ AreBegunParts trees journal }
+{}
+
+/// Over one script of devices, from one place, a chain has one journal and one answer.
+pub fn one_script_one_region<R>()
+    ensures { (trees : List (Inquiry (Option R))) (lists : Lists) (place : Place) (one other : List Pair) (x y : Option R) →
+        AreParts trees one x → AreParts trees other y → Given lists place one → Given lists place other → (one ≡ other) × (x ≡ y) }
+{}
+
+/// A configuration asks one source for its region: the one that is given, else its default chain, which asks
+/// instance metadata where the configuration says.
+pub fn a_configuration_asks_one_source()
+    ensures { (given : Option Source) (conf : Configuration) (one other : Source) → IsAsked given conf one → IsAsked given conf other → one ≡ other }
+{}
+
+/// The region of a profile is that of its path, and there is no other such answer.
+pub fn the_region_of_a_profile_is_that_of_its_path()
+    ensures path { (profiles : Named SectionParts) (name : List ℕ) → IsRegion profiles name (named_region profiles name) }
+    ensures only { (profiles : Named SectionParts) (name : List ℕ) (answer : Option (List ℕ)) → IsRegion profiles name answer → named_region profiles name ≡ answer }
+{}

@@ -1,0 +1,24 @@
+//! Regions: the environment's, a profile's, that of instance metadata, a caller's own, and chains of them.
+//! It stands on cfg_imds and cfg_profile. The layers above may use that a chain's journal is the parts of
+//! its sources up to the first that gave a region, and that a configuration is given the region of one
+//! source, none included, and nothing else.
+#![tactic(auto)]
+
+pub mod chain;
+pub mod custom;
+pub mod default_provider;
+pub mod environment;
+pub mod imds;
+pub mod laws;
+pub mod load;
+pub mod profile;
+pub mod source;
+
+pub use chain::RegionProviderChain;
+pub use custom::{CustomRegion, ProvideRegion};
+pub use default_provider::region::DefaultRegionChain;
+pub use environment::region::EnvironmentVariableRegionProvider;
+pub use imds::region::ImdsRegionProvider;
+pub use load::{load_default_region, with_default_region, with_region_from};
+pub use profile::region::ProfileFileRegionProvider;
+pub use source::RegionSource;

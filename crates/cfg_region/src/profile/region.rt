@@ -1,0 +1,185 @@
+//! The region of the selected profile.
+ghost use Rattle.std.specs.Prelude.{◌≡◌, IfOk, Some, option_map, unwrap_or};
+ghost use Rattle.cfg_region.specs.Profiles.{region_in, profile_region};
+
+use cfg_profile::{ProfileSource, ProviderConfig, region_of_profile, selected_name};
+use cfg_types::{OutOfMemory, Region, TryCopy};
+use std::alloc::Global;
+use std::marker::Model;
+
+/// The region of the profile of this name: its own, else that of its `source_profile`, and so on. A path of
+/// sources that comes back, or that leads to no profile, has none, and refused sections have none.
+pub fn region_by_name(
+    alloc: Global,
+    profiles: &ProfileSource,
+    name: &str,
+) -> Result<Option<Region>, OutOfMemory>
+    ensures { IfOk result (λ region. region ≡ region_in profiles.now name.now) }
+{
+    match profiles {
+        ProfileSource::Refused(_) => Ok(None),
+        ProfileSource::Sections(set) => {
+            let region = region_of_profile(alloc, set, name)?;
+            Ok(region)
+        }
+    }
+}
+
+/// The region of the selected profile. Contracts see the configuration.
+pub struct ProfileFileRegionProvider {
+    alloc: Global,
+    config: ProviderConfig,
+}
+
+impl Drop for ProfileFileRegionProvider {
+    fn drop(self) {
+        let ProfileFileRegionProvider {
+            alloc: _,
+            config: _,
+        } = self;
+    }
+}
+
+impl Model for ProfileFileRegionProvider {
+    ghost use Rattle.cfg_profile.specs.Configuration.{Configuration, configuration_code};
+
+    ghost Value = { Configuration };
+
+    ghost coded = { configuration_code };
+
+    ghost view = { λ p. p.config };
+}
+
+impl ProfileFileRegionProvider {
+    ghost use Rattle.cfg_region.specs.ProfileSetups.{no_profile_set};
+
+    /// A provider over this configuration.
+    pub fn new(alloc: Global, config: ProviderConfig) -> ProfileFileRegionProvider
+        ensures { result ≡ config }
+    {
+        ProfileFileRegionProvider { alloc, config }
+    }
+
+    /// A builder with no variables and no sections.
+    pub fn builder(alloc: Global) -> Result<Builder, OutOfMemory>
+        ensures { IfOk result (λ b. b ≡ no_profile_set) }
+    {
+        Builder::new(alloc)
+    }
+
+    /// The region of the selected profile, by the rule of [`region_by_name`]. Selected is the profile whose
+    /// name the configuration was given, else that of a readable `AWS_PROFILE`, else `default`.
+    pub fn region(&self) -> Result<Option<Region>, OutOfMemory>
+        ensures { IfOk result (λ region. region ≡ profile_region self.now) }
+    {
+        region_by_name(
+            self.alloc,
+            self.config.profiles(),
+            selected_name(&self.config),
+        )
+    }
+}
+
+/// Sets up a provider of a profile's region. Contracts see its configuration, and the name and the sections
+/// that are in place of the configuration's. A setter changes its field alone.
+pub struct Builder {
+    alloc: Global,
+    config: ProviderConfig,
+    profile_name: Option<String>,
+    profiles: Option<ProfileSource>,
+}
+
+impl Drop for Builder {
+    fn drop(self) {
+        let Builder {
+            alloc: _,
+            config: _,
+            profile_name: _,
+            profiles: _,
+        } = self;
+    }
+}
+
+impl Model for Builder {
+    ghost use Rattle.std.specs.Prelude.{option_map, string_bytes};
+    ghost use Rattle.cfg_region.specs.ProfileSetups.{ProfileSetup, profile_setup_code};
+
+    ghost Value = { ProfileSetup };
+
+    ghost coded = { profile_setup_code };
+
+    ghost view = { λ b. record {
+      configuration = b.config;
+      profile_name = option_map (λ s. string_bytes s) b.profile_name;
+      profiles = b.profiles;
+    } };
+}
+
+impl Builder {
+    ghost use Rattle.cfg_region.specs.ProfileSetups.{no_profile_set, profile_configured};
+
+    /// A builder with no variables and no sections.
+    pub fn new(alloc: Global) -> Result<Builder, OutOfMemory>
+        ensures { IfOk result (λ b. b ≡ no_profile_set) }
+    {
+        let config = ProviderConfig::without_region(alloc)?;
+        Ok(Builder {
+            alloc,
+            config,
+            profile_name: None,
+            profiles: None,
+        })
+    }
+
+    /// With a copy of this configuration, in place of the one that it had.
+    pub fn configure(mut self, config: &ProviderConfig) -> Result<Builder, OutOfMemory>
+        ensures { IfOk result (λ b. b ≡ record self { configuration = config.now }) }
+    {
+        self.config = config.copy(self.alloc)?;
+        Ok(self)
+    }
+
+    /// The profile of this name, whatever the configuration says.
+    pub fn profile_name(mut self, name: &str) -> Result<Builder, OutOfMemory>
+        ensures { IfOk result (λ b. b ≡ record self { profile_name = Some name.now }) }
+    {
+        self.profile_name = Some(String::from_str(self.alloc, name)?);
+        Ok(self)
+    }
+
+    /// With these sections, or their refusal, whatever the configuration has.
+    pub fn profiles(mut self, profiles: ProfileSource) -> Builder
+        ensures { result ≡ record self { profiles = Some profiles } }
+    {
+        self.profiles = Some(profiles);
+        self
+    }
+
+    /// The provider.
+    pub fn build(self) -> Result<ProfileFileRegionProvider, OutOfMemory>
+        ensures { IfOk result (λ p. p ≡ profile_configured self) }
+    {
+        let Builder {
+            alloc,
+            config,
+            profile_name,
+            profiles,
+        } = self;
+        let config = with_profiles(config, profiles);
+        let config = match profile_name {
+            None => config,
+            Some(name) => config.with_profile_name(alloc, name.as_str())?,
+        };
+        Ok(ProfileFileRegionProvider { alloc, config })
+    }
+}
+
+// With these sections in place of the configuration's, where there are some.
+fn with_profiles(config: ProviderConfig, profiles: Option<ProfileSource>) -> ProviderConfig
+    ensures { result ≡ record config { profiles = unwrap_or profiles config.profiles } }
+{
+    match profiles {
+        None => config,
+        Some(profiles) => config.with_profiles(profiles),
+    }
+}

@@ -1,0 +1,5 @@
+pub mod SignInSteps
+pub mod SignInCauses
+pub mod LastReadings
+pub mod InTime
+pub mod SessionKeys

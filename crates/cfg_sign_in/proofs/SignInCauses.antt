@@ -1,0 +1,126 @@
+-- Why there are no credentials, by the part of a call.
+use Rattle.std.proofs.Common.{◌≡◌, ℕ, List, [], ◌∷◌, ◌++◌, false, Option, Ok, Err, refl, sym, ap, ◌∙◌, subst, append-nil}
+use denote.Hole.Carrier as carrier
+use Rattle.cfg_types.specs.declared.errors.CredentialsError as errors
+use Rattle.cfg_types.specs.declared.errors.login.LoginTokenError.{LoginTokenError}
+use Rattle.cfg_types.specs.declared.errors.login.LoginTokenError.TheVariants as login
+use Rattle.cfg_world.specs.Fits.{Pair}
+use Rattle.cfg_world.specs.Inquiry as low
+use Rattle.cfg_world.specs.Inquiry.{Inquiry, Done, Ask, after}
+use Rattle.cfg_profile.specs.Configuration.{Configuration}
+use Rattle.cfg_profile.specs.Settings.{settings_of}
+use Rattle.cfg_token.specs.declared.token_key.TokenKey.TheVariants.{Login}
+use Rattle.cfg_token.specs.Sections.{section, answer_of}
+use Rattle.cfg_login.specs.declared.login_token.LoginToken.{LoginToken}
+use Rattle.cfg_login.specs.LoginTokens.{Given, login_rules}
+use Rattle.cfg_keeping.specs.Kinds.{Spot, LoginSection, Value, States, spot_of, login_in}
+use Rattle.cfg_keeping.specs.KeptInquiry.{KeptInquiry, Gives, Puts, Finds, Leaves, Runs, Reads, leave, lift, onwards}
+use Rattle.cfg_keeping.specs.Holds.{left_by, holding}
+use Rattle.cfg_keeping.specs.SectionHoldings.{section_leaves, kept_section}
+use Rattle.cfg_keeping.specs.LoginHoldings.{login_at, login_holding}
+use Rattle.cfg_keeping.proofs.Splits.{split_onwards, lowered}
+use Rattle.cfg_sign_in.specs.declared.asked_by.AskedBy.{AskedBy}
+use Rattle.cfg_sign_in.specs.SignIns.{Answer, told, section_of, credentials_in, sign_in_credentials, is_not_loaded}
+use Rattle.cfg_sign_in.specs.SignInCauses.{IsSectionPart, SignInCause}
+
+-- ---- trees with one step behind them
+
+given_alone : {R : Type 0} (r : R) (found : List Value) (part : List Pair) (out : R) → Reads (Gives r) found part out → (found ≡ []) × (part ≡ []) × (r ≡ out)
+given_alone r [] [] out h = (refl, refl, h.0)
+given_alone r [] (e ∷ part) out h = absurd h
+given_alone r (f ∷ found) part out h = absurd h
+
+left_alone : {R T : Type 0} (at : T → Value) (made : R × T) (found : List Value) (part : List Pair) (out : R) → Reads (left_by at made) found part out → (found ≡ []) × (part ≡ []) × (made.0 ≡ out)
+left_alone at made [] [] out h = (refl, refl, h.0)
+left_alone at made [] (e ∷ part) out h = absurd h
+left_alone at made (f ∷ found) part out h = absurd h
+
+-- a tree, and a reading of its outcome
+given_then : {A B : Type 0} (p : KeptInquiry A) (g : A → B) (found : List Value) (part : List Pair) (out : B) → Reads (onwards p (λ x. Gives (g x))) found part out → (x : A) × Reads p found part x × (out ≡ g x)
+given_then p g found part out h =
+    let s = split_onwards p (λ x. Gives (g x)) found part out h in
+    let a = given_alone (g s.middle) s.found_then s.rest out s.then in (
+      s.middle,
+      subst (λ f. Reads p f part s.middle) (sym (s.finds ∙ ap (λ t. s.found_first ++ t) a.0 ∙ append-nil s.found_first))
+          (subst (λ J. Reads p s.found_first J s.middle) (sym (s.parts ∙ ap (λ t. s.part ++ t) a.1 ∙ append-nil s.part)) s.first),
+      sym a.2,
+    )
+
+asked_then : {A B : Type 0} (p : Inquiry A) (g : A → B) (part : List Pair) (out : B) → low.Reads (after p (λ x. Done (g x))) part out → (x : A) × low.Reads p part x × (g x ≡ out)
+asked_then (Done x) g [] out h = (x, refl, h)
+asked_then (Done x) g (e ∷ part) out h = absurd h
+asked_then (Ask q n) g [] out h = absurd h
+asked_then (Ask q n) g (e ∷ part) out h = let r = asked_then (n e.1) g part out h.1 in (r.0, (h.0, r.1), r.2)
+
+-- the part of one holding
+record HoldingPart {R T : Type 0} (spot : Spot) (asks : Value → Inquiry (R × T)) (found : List Value) (part : List Pair) (out : R) : Type 0 where
+  value : Value
+  at_spot : spot_of value ≡ spot
+  finds : found ≡ value ∷ []
+  left : T
+  reads : low.Reads (asks value) part (out, left)
+
+holding_part : {R T : Type 0} (spot : Spot) (at : T → Value) (asks : Value → Inquiry (R × T)) (found : List Value) (part : List Pair) (out : R) → Reads (holding spot at asks) found part out → HoldingPart spot asks found part out
+unfolding holding
+holding_part spot at asks [] part out h = absurd h
+holding_part spot at asks (f ∷ found) part out h =
+    let s = split_onwards (lift (asks f)) (left_by at) found part out h.2 in
+    let l = lowered (asks f) s.found_first s.part s.middle s.first in
+    let a = left_alone at s.middle s.found_then s.rest out s.then in
+    record {
+      value = f;
+      at_spot = h.0;
+      finds = ap (λ t. f ∷ t) (s.finds ∙ ap (λ t. t ++ s.found_then) l.0 ∙ a.0);
+      left = s.middle.1;
+      reads = subst (λ J. low.Reads (asks f) J (out, s.middle.1)) (sym (s.parts ∙ ap (λ t. s.part ++ t) a.1 ∙ append-nil s.part))
+          (subst (λ o. low.Reads (asks f) s.part (o, s.middle.1)) a.2 l.1);
+    }
+
+-- what is kept decides nothing of what a run reads
+pub read_of_run : {R : Type 0} (p : KeptInquiry R) (old new : Option States) (found : List Value) (part : List Pair) (out : R) → Runs p old found part out new → Reads p found part out
+read_of_run (Gives r) old new [] [] out h = (h.0, refl)
+read_of_run (Gives r) old new [] (e ∷ part) out h = absurd h
+read_of_run (Gives r) old new (f ∷ found) part out h = absurd h
+read_of_run (Puts q n) old new found [] out h = absurd h
+read_of_run (Puts q n) old new found (e ∷ part) out h = (h.0, read_of_run (n e.1) old new found part out h.1)
+read_of_run (Finds spot n) old new [] part out h = absurd h
+read_of_run (Finds spot n) old new (f ∷ found) part out h = (h.0, tt, read_of_run (n f) old new found part out h.2)
+read_of_run (Leaves v p) old new found part out h = read_of_run p (leave old v) new found part out h
+
+-- ---- the section, and what it gives
+
+section_part : (conf : Configuration) (session : List ℕ) (found : List Value) (part : List Pair) (given : Given LoginToken) → Reads (section_of conf session) found part given → IsSectionPart conf session found part given
+unfolding login_holding
+section_part conf session found part given h =
+    let p = holding_part LoginSection login_at (λ f. kept_section login_rules (Login session) conf.environment (settings_of conf) (login_in f)) found part given h in
+    let was = login_in p.value in
+    let a = asked_then (section login_rules (Login session) conf.environment (settings_of conf) was.token was.last) (λ made. (answer_of made, section_leaves was made)) part (given, p.left) p.reads in
+    record { value = p.value; spot = p.at_spot; finds = p.finds; made = a.0; reads = a.1; gives = sym (ap (λ r. r.0) a.2) }
+
+pub sign_in_cause : (conf : Configuration) (session : List ℕ) (by : AskedBy) (found : List Value) (part : List Pair) (out : Answer) → Reads (sign_in_credentials conf session by) found part out → SignInCause conf session by found part out
+unfolding sign_in_credentials
+sign_in_cause conf session by found part out h =
+    let g = given_then (section_of conf session) (credentials_in by) found part out h in
+    record { given = g.0; of_section = section_part conf session found part g.0 g.1; tells = g.2 }
+
+-- ---- no error says that nothing was there to be loaded
+
+told_loaded : (e : LoginTokenError) → is_not_loaded (Err (told e)) ≡ false
+unfolding errors.out-CredentialsError carrier.out
+told_loaded login.FailedToFormatDateTime = refl
+told_loaded (login.IoError what path) = refl
+told_loaded (login.JsonError fault) = refl
+told_loaded (login.MissingField f) = refl
+told_loaded login.NoHomeDirectory = refl
+told_loaded login.ExpiredToken = refl
+told_loaded (login.RefreshFailed message) = refl
+told_loaded (login.Other text) = refl
+told_loaded login.OutOfMemory = refl
+
+answer_loaded : (by : AskedBy) (given : Given LoginToken) → is_not_loaded (credentials_in by given) ≡ false
+unfolding credentials_in
+answer_loaded by (Ok token) = refl
+answer_loaded by (Err e) = told_loaded e
+
+pub never_not_loaded : (conf : Configuration) (session : List ℕ) (by : AskedBy) (found : List Value) (part : List Pair) (out : Answer) → SignInCause conf session by found part out → is_not_loaded out ≡ false
+never_not_loaded conf session by found part out c = ap is_not_loaded c.tells ∙ answer_loaded by c.given

@@ -1,0 +1,7 @@
+pub mod SignIns
+pub mod SignInCauses
+pub mod LastReadings
+pub mod InNoWay
+pub mod Provides
+pub mod SignInSetups
+pub mod SessionKeys

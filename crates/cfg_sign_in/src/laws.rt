@@ -1,0 +1,36 @@
+//! Laws, each on a call that carries it.
+ghost use Rattle.std.specs.Prelude.{◌≡◌, ℕ, List, [], ◌∷◌, true, false, is_ok, IfOk};
+ghost use Rattle.cfg_world.specs.Fits.{Pair, EachFits};
+ghost use Rattle.cfg_profile.specs.Configuration.{Configuration};
+ghost use Rattle.cfg_keeping.specs.Kinds.{Value};
+ghost use Rattle.cfg_keeping.specs.KeptInquiry.{Reads};
+ghost use Rattle.cfg_sign_in.specs.declared.asked_by.AskedBy.{AskedBy as Asker};
+ghost use Rattle.cfg_sign_in.specs.SignIns.{Answer, feature_of, is_not_loaded, sign_in_credentials};
+ghost use Rattle.cfg_sign_in.specs.SignInCauses.{SignInCause};
+ghost use Rattle.cfg_sign_in.specs.LastReadings.{last_reading, EndsAfter};
+ghost use Rattle.cfg_sign_in.specs.SessionKeys.{IsOfSession, FindsSession};
+ghost use Rattle.cfg_sign_in.specs.InNoWay.{NothingInTheWay};
+
+/// Each answer has its cause: over any part, it is an error exactly where the section gives one, and
+/// tells of that. No error says that there was nothing to be loaded.
+pub fn answers_have_their_causes()
+    ensures loaded { (conf : Configuration) (session : List ℕ) (by : Asker) (found : List Value) (part : List Pair) (out : Answer) → Reads (sign_in_credentials conf session by) found part out → is_not_loaded out ≡ false }
+    ensures cause { (conf : Configuration) (session : List ℕ) (by : Asker) (found : List Value) (part : List Pair) (out : Answer) → Reads (sign_in_credentials conf session by) found part out → SignInCause conf session by found part out }
+{}
+
+/// Credentials end after the last reading of the clock in their section.
+pub fn credentials_have_not_expired()
+    ensures { (conf : Configuration) (session : List ℕ) (by : Asker) (found : List Value) (part : List Pair) (out : Answer) → EachFits part → Reads (sign_in_credentials conf session by) found part out → IfOk out (λ keys. EndsAfter (last_reading part) keys.expiry) }
+{}
+
+/// Credentials are named `Login`, have a session token, an end and an account, and the one feature that
+/// tells who asked. A kept token that is handed out has to have come of a session.
+pub fn credentials_are_of_a_session()
+    ensures { (conf : Configuration) (session : List ℕ) (by : Asker) (found : List Value) (part : List Pair) (out : Answer) → FindsSession found → Reads (sign_in_credentials conf session by) found part out → IfOk out (IsOfSession (feature_of by ∷ [])) }
+{}
+
+/// Where a folder is known, the file holds a token that is not refused, and a refresh that is due is
+/// granted, there are credentials.
+pub fn nothing_in_the_way_gives_credentials()
+    ensures { (conf : Configuration) (session : List ℕ) (by : Asker) (found : List Value) (part : List Pair) (out : Answer) → Reads (sign_in_credentials conf session by) found part out → NothingInTheWay conf found part → is_ok out ≡ true }
+{}

@@ -1,0 +1,203 @@
+//! Credentials of sign-in sessions.
+ghost use Rattle.std.specs.Prelude.{◌≡◌, IfOk, Some, true, false};
+ghost use Rattle.std.specs.Option.{option_copied};
+ghost use Rattle.cfg_values.specs.Text.{characters};
+ghost use Rattle.cfg_token.specs.declared.token_key.TokenKey.TheVariants.{Login};
+ghost use Rattle.cfg_keeping.specs.Holds.{HoldsFollows, HoldsBreaks};
+ghost use Rattle.cfg_profile.specs.Configuration.{nothing_configured};
+ghost use Rattle.cfg_sign_in.specs.SignIns.{sign_in_credentials, is_memory};
+ghost use Rattle.cfg_sign_in.specs.SignInSetups.{session_alone};
+ghost use Rattle.cfg_sign_in.specs.Provides.{ProvidesSignIn};
+
+use crate::asked_by::AskedBy;
+use crate::section::{credentials_in, section};
+use cfg_keeping::Keeper;
+use cfg_profile::ProviderConfig;
+use cfg_token::TokenKey;
+use cfg_types::{Credentials, CredentialsError, OutOfMemory, Text, TryCopy};
+use cfg_world::{Asking, Devices, Stop, World};
+use std::alloc::Global;
+use std::marker::Model;
+
+/// The credentials of one section of the keeper's token, whose key has to be that of this session.
+/// Their feature tells who asks.
+#[tactic(auto, using(cfg_keeping::proofs::HoldingSteps::holding_steps), unfolding(crate::specs::SignIns::sign_in_credentials))]
+pub fn follow_login<P: Keeper, A: Asking>(
+    alloc: Global,
+    config: &ProviderConfig,
+    session: &Text,
+    by: AskedBy,
+    keeper: &mut P,
+    asking: &mut A,
+) -> Result<Result<Credentials, CredentialsError>, Stop>
+    requires { P.key_held keeper.old ≡ Some (Login session.now) }
+    ensures follows { HoldsFollows ⟦<A as Asking>⟧ (sign_in_credentials config.now session.now by) asking.old (P.holdings keeper.old) asking.new (P.holdings keeper.new) result }
+    ensures key { P.key_held keeper.new ≡ P.key_held keeper.old }
+{
+    let given = section(alloc, config, session, keeper, asking)?;
+    let outcome = credentials_in(alloc, by, given)?;
+    Ok(outcome)
+}
+
+/// Sets up a provider of a session's credentials. Contracts see its configuration and its session.
+pub struct Builder {
+    alloc: Global,
+    config: ProviderConfig,
+    session: Text,
+}
+
+impl Drop for Builder {
+    fn drop(self) {
+        let Builder {
+            alloc: _,
+            config: _,
+            session: _,
+        } = self;
+    }
+}
+
+impl Model for Builder {
+    ghost use Rattle.cfg_sign_in.specs.SignInSetups.{SignInSetup, sign_in_setup_code};
+
+    ghost Value = { SignInSetup };
+
+    ghost coded = { sign_in_setup_code };
+
+    ghost view = { λ b. record { configuration = b.config; session = b.session } };
+}
+
+impl Builder {
+    /// With a copy of this configuration, in place of the one that it had.
+    pub fn configure(mut self, config: &ProviderConfig) -> Result<Builder, OutOfMemory>
+        ensures { IfOk result (λ b. b ≡ record self { configuration = config.now }) }
+    {
+        self.config = config.copy(self.alloc)?;
+        Ok(self)
+    }
+
+    /// The provider.
+    pub fn build(self) -> Result<LoginCredentialsProvider, OutOfMemory>
+        ensures { IfOk result (λ p. p ≡ self) }
+    {
+        let Builder {
+            alloc,
+            config,
+            session,
+        } = self;
+        let key = TokenKey::Login {
+            session: session.copy(alloc)?,
+        };
+        Ok(LoginCredentialsProvider {
+            alloc,
+            config,
+            session,
+            key,
+        })
+    }
+}
+
+/// Credentials of a sign-in session, as `aws login` begins one. Contracts see its configuration and its
+/// session. It keeps nothing between its calls.
+pub struct LoginCredentialsProvider {
+    alloc: Global,
+    config: ProviderConfig,
+    session: Text,
+    key: TokenKey,
+}
+
+impl Drop for LoginCredentialsProvider {
+    fn drop(self) {
+        let LoginCredentialsProvider {
+            alloc: _,
+            config: _,
+            session: _,
+            key: _,
+        } = self;
+    }
+}
+
+impl Model for LoginCredentialsProvider {
+    ghost use Rattle.std.specs.Prelude.{◌≡◌};
+    ghost use Rattle.cfg_token.specs.declared.token_key.TokenKey.TheVariants.{Login};
+    ghost use Rattle.cfg_sign_in.specs.SignInSetups.{SignInSetup, sign_in_setup_code};
+
+    ghost Value = { SignInSetup };
+
+    ghost coded = { sign_in_setup_code };
+
+    ghost view = { λ p. record { configuration = p.config; session = p.session } };
+
+    ghost invariant = { λ p. p.key ≡ Login p.session };
+}
+
+impl LoginCredentialsProvider {
+    /// A builder for this session, which is named by an ARN like `arn:aws:iam::0123456789012:user/Admin`.
+    /// It has no variables and no region of its calls.
+    pub fn builder(alloc: Global, session: &str) -> Result<Builder, OutOfMemory>
+        ensures { IfOk result (λ b. b ≡ session_alone (nothing_configured true) (characters session.now)) }
+    {
+        Ok(Builder {
+            alloc,
+            config: ProviderConfig::without_region(alloc)?,
+            session: Text::of(alloc, session)?,
+        })
+    }
+
+    /// Whose token is needed: the session's. It is there.
+    pub fn token_key(&self) -> Option<&TokenKey>
+        ensures { option_copied result ≡ Some (Login self.now.session) }
+    {
+        Some(&self.key)
+    }
+
+    /// The body of [`Self::provide_credentials`], over anything that can be asked. Where a question is
+    /// left open it stops there, and taken up again with one answer more it comes to the next.
+    pub fn follow<P: Keeper, A: Asking>(
+        &self,
+        keeper: &mut P,
+        asking: &mut A,
+    ) -> Result<Result<Credentials, CredentialsError>, Stop>
+        requires { P.key_held keeper.old ≡ Some (Login self.now.session) }
+        ensures follows { HoldsFollows ⟦<A as Asking>⟧ (sign_in_credentials self.now.configuration self.now.session AskedBy.Caller) asking.old (P.holdings keeper.old) asking.new (P.holdings keeper.new) result }
+        ensures key { P.key_held keeper.new ≡ P.key_held keeper.old }
+    {
+        let by = AskedBy::Caller;
+        follow_login(self.alloc, &self.config, &self.session, by, keeper, asking)
+    }
+
+    /// The credentials of one section of the keeper's token, whose key has to be [`Self::token_key`].
+    /// The value that was found is added to the keeper's list, and what comes of the section is kept in
+    /// its place. The file of the token stands in the folder that `AWS_LOGIN_CACHE_DIRECTORY` names, or
+    /// else in `.aws/login/cache` below `HOME`.
+    ///
+    /// The credentials are named `Login`, and have the token's expiry, session token and account. That
+    /// a new token could not be written to its file is no error.
+    ///
+    /// # Errors
+    ///
+    /// They hold the section's error, as `LoginToken`.
+    ///
+    /// - `InvalidConfiguration`: the file lacks a member (`MissingField`).
+    /// - `ProviderError`: a refresh that was due failed (`RefreshFailed`), with what the user can do
+    ///   where the refusal tells it.
+    /// - `Unhandled`: no folder is known (`NoHomeDirectory`), the file could not be read (`IoError`)
+    ///   or holds no token (`JsonError`, `Other`), or the token has expired and the last attempt to
+    ///   refresh it is less than 30 seconds ago (`ExpiredToken`).
+    /// - `OutOfMemory` where memory runs out. The journal then has gained the beginning of such a part,
+    ///   and what is kept is as it was, or as the finished section left it.
+    pub fn provide_credentials<P: Keeper, D: Devices>(
+        &self,
+        keeper: &mut P,
+        world: &mut World<D>,
+    ) -> Result<Credentials, CredentialsError>
+        requires { P.key_held keeper.old ≡ Some (Login self.now.session) }
+        ensures provides { is_memory result ≡ false → ProvidesSignIn ⟦<World<D> as Asking>⟧ self.now.configuration self.now.session AskedBy.Caller world.old (P.holdings keeper.old) world.new (P.holdings keeper.new) result }
+        ensures stays { is_memory result ≡ true → HoldsBreaks ⟦<World<D> as Asking>⟧ (sign_in_credentials self.now.configuration self.now.session AskedBy.Caller) world.old (P.holdings keeper.old) world.new (P.holdings keeper.new) }
+        ensures key { P.key_held keeper.new ≡ P.key_held keeper.old }
+    {
+        match self.follow(keeper, world) {
+            Ok(outcome) => outcome,
+            Err(_) => Err(CredentialsError::OutOfMemory),
+        }
+    }
+}
