@@ -1,6 +1,6 @@
 -- What a builder of a role's provider was set to, and what it builds.
 use Rattle.std.specs.Option.{option_or}
-use Rattle.std.specs.Prelude.{◌≡◌, ℕ, List, Bool, Option, None, true, is_some, codes, String, string_bytes, refl}
+use Rattle.std.specs.Prelude.{◌≡◌, ◌⊎◌, ◌++◌, ℕ, List, Option, Some, None, true, option_map, codes, String, string_bytes, refl}
 use Rattle.std.specs.Coded.{Coded, code_by, coded×, coded_ℕ, coded_list, coded_option}
 use Rattle.cfg_values.specs.Text.{characters}
 use Rattle.cfg_types.specs.declared.request.sts.Tag.{Tag}
@@ -8,9 +8,12 @@ use Rattle.cfg_world.specs.declared.devices.Devices.{Ghosts}
 use Rattle.cfg_world.specs.Fits.{Pair}
 use Rattle.cfg_world.specs.Held.{Held}
 use Rattle.cfg_world.specs.Grows.{Grows, Stays}
-use Rattle.cfg_world.specs.Inquiry.{Inquiry, Reads, Begun}
+use Rattle.cfg_world.specs.Inquiry.{Inquiry, Reads, Begun, after}
 use Rattle.cfg_profile.specs.Configuration.{Configuration, configuration_code, nothing_configured}
 use Rattle.cfg_providers.specs.SessionNames.{session_name}
+use Rattle.cfg_region.specs.Calls.{IsAsked}
+use Rattle.cfg_region.specs.Environments.{Told}
+use Rattle.cfg_region.specs.Sources.{Source, Given, tree}
 use Rattle.cfg_assume_role.specs.declared.call.RoleSession.{RoleSession}
 use Rattle.cfg_assume_role.specs.declared.call.RoleCall.{RoleCall}
 use Rattle.cfg_assume_role.specs.contracts.call.RoleSession as session
@@ -36,21 +39,17 @@ role_alone arn = record { role_arn = arn; external_id = None; policy = None; pol
 abbrev pub for_role : List ℕ → RoleSetup
 for_role arn = record { configuration = nothing_configured true; region = None; session_name = None; session = role_alone arn }
 
--- the region of the builder, or else the configuration's
-abbrev pub region_of : RoleSetup → Option (List ℕ)
-region_of s = option_or s.region s.configuration.region
-
--- whether there is one
-abbrev pub is_region_set : RoleSetup → Bool
-is_region_set s = is_some (region_of s)
-
--- what the provider is configured by
+-- the configuration, with the region of the builder in place of its own, where one was set
 abbrev pub configured : RoleSetup → Configuration
-configured s = record s.configuration { region = region_of s }
+configured s = record s.configuration { region = option_or s.region s.configuration.region }
 
--- what the provider sends, for a session of this name
-abbrev pub call_of : RoleSetup → List ℕ → RoleCall
-call_of s name = record { config = configured s; session_name = name; session = s.session }
+-- what the provider sends by this configuration, for a session of this name
+abbrev pub call_by : RoleSetup → Configuration → List ℕ → RoleCall
+call_by s conf name = record { config = conf; session_name = name; session = s.session }
+
+-- what the provider sends in this region
+abbrev pub call_of : RoleSetup → Option (List ℕ) → List ℕ → RoleCall
+call_of s region name = call_by s (record (configured s) { region = region }) name
 
 -- a pair of strings as a tag
 abbrev pub tag_of : {Y Z : Type 0} → String Y × String Z → Tag
@@ -64,16 +63,37 @@ provider_session = codes "assume-role-provider"
 abbrev pub naming : RoleSetup → Inquiry (List ℕ)
 naming s = session_name provider_session s.session_name
 
--- The journal grew by a reading of the clock exactly where no name was given, and this is what is sent.
-pub record Builds {D : Type 0} (d : Ghosts D) (s : RoleSetup) (before later : Held D) (call : RoleCall) : Type 0 where
-  pub part : List Pair
-  pub grows : Grows d part before later
-  pub name : List ℕ
-  pub reads : Reads (naming s) part name
-  pub is_call : call ≡ call_of s name
+-- where the region comes from: a configuration's own is given, where it has one
+abbrev pub own_region : Configuration → Option Source
+own_region conf = option_map (λ region. Given (Some region)) conf.region
 
--- Memory ran out: it grew by the beginning of such a part.
-pub record BuildStops {D : Type 0} (d : Ghosts D) (s : RoleSetup) (before later : Held D) : Type 0 where
+-- the source of the region, and then the name
+abbrev pub asks : RoleSetup → Source → Inquiry (List ℕ)
+asks s source = after (tree source) (λ region. naming s)
+
+-- The journal grew by the part of the region's source, which is empty where a region was set and else that
+-- of the default region chain, and then by a reading of the clock exactly where no name was given. This is
+-- what is sent.
+pub record Builds {D : Type 0} (d : Ghosts D) (s : RoleSetup) (before later : Held D) (call : RoleCall) : Type 0 where
+  pub source : Source
+  pub asked : IsAsked (own_region (configured s)) (configured s) source
+  pub region_part : List Pair
+  pub name_part : List Pair
+  pub grows : Grows d (region_part ++ name_part) before later
+  pub region : Told
+  pub region_reads : Reads (tree source) region_part region
+  pub name : List ℕ
+  pub name_reads : Reads (naming s) name_part name
+  pub is_call : call ≡ call_of s region name
+
+-- It grew by the beginning of such parts.
+pub record BuildBegun {D : Type 0} (d : Ghosts D) (s : RoleSetup) (before later : Held D) : Type 0 where
+  pub source : Source
+  pub asked : IsAsked (own_region (configured s)) (configured s) source
   pub part : List Pair
   pub stays : Stays d part before later
-  pub begun : Begun (naming s) part
+  pub begun : Begun (asks s source) part
+
+-- Memory ran out: before anything was asked, or over the beginning of such parts.
+abbrev pub BuildStops : {D : Type 0} → Ghosts D → RoleSetup → Held D → Held D → Type 0
+BuildStops d s before later = (later ≡ before) ⊎ BuildBegun d s before later

@@ -1,11 +1,14 @@
 //! Sets up a provider of a role's credentials.
 ghost use Rattle.std.specs.Option.{option_or};
-ghost use Rattle.std.specs.Prelude.{◌≡◌, IfOk, Some, false, true, is_ok, map, string_bytes};
+ghost use Rattle.std.specs.Prelude.{◌≡◌, [], IfOk, OnErr, Some, map, string_bytes};
 ghost use Rattle.cfg_values.specs.Text.{characters};
 ghost use Rattle.cfg_world.specs.Follows.{Follows};
+ghost use Rattle.cfg_world.specs.Grows.{Grows, Stays};
 ghost use Rattle.cfg_providers.specs.SessionNames.{session_name as session_name_of};
 ghost use Rattle.cfg_assume_role.specs.Bases.{base_of, ByDefault};
-ghost use Rattle.cfg_assume_role.specs.Setups.{for_role, is_region_set, configured, provider_session, tag_of, Builds, BuildStops};
+ghost use Rattle.cfg_imds.specs.Calls.{CallBreaks};
+ghost use Rattle.cfg_region.specs.Calls.{Asks, RegionSet, RegionBreaks};
+ghost use Rattle.cfg_assume_role.specs.Setups.{for_role, own_region, provider_session, tag_of, Builds, BuildStops};
 
 use crate::base::RoleBase;
 use crate::call::{RoleCall, RoleSession};
@@ -13,7 +16,8 @@ use crate::provider::AssumeRoleProvider;
 use cfg_chain::DefaultCredentialsChain;
 use cfg_profile::ProviderConfig;
 use cfg_providers::default_session_name;
-use cfg_types::{OutOfMemory, Region, Seq, Tag, Text, TryCopy, copy_option};
+use cfg_region::{RegionSource, load_default_region};
+use cfg_types::{OutOfMemory, Region, Seq, Tag, Text, TryCopy};
 use cfg_world::{Asking, Devices, Stop, World, read_clock};
 use std::alloc::Global;
 use std::marker::Model;
@@ -147,28 +151,50 @@ impl AssumeRoleProviderBuilder {
         self
     }
 
-    /// Whether a region is set here or in the configuration, as the builds need it.
-    pub fn has_region(&self) -> bool
-        ensures { result ≡ is_region_set self.now }
-    {
-        self.region.is_some() || self.config.region().is_some()
-    }
-
-    /// The provider over this base. The clock is read, for the name of the sessions, exactly where none
-    /// was set: `assume-role-provider-` and the milliseconds.
+    /// The provider over this base. Where no region is set here or in the configuration, the default region
+    /// chain over the configuration is asked, and what it gives, none included, is the provider's region. Then
+    /// the clock is read, for the name of the sessions, exactly where none was set: `assume-role-provider-`
+    /// and the milliseconds. Nothing else is asked.
     ///
     /// # Errors
     ///
-    /// `OutOfMemory` where memory runs out. The clock may then have been read.
+    /// `OutOfMemory` where memory runs out. The journal then has gained the beginning of such parts.
     pub fn build_from_provider<D: Devices>(
         self,
         base: RoleBase,
         world: &mut World<D>,
     ) -> Result<AssumeRoleProvider, OutOfMemory>
-        requires region { is_region_set self ≡ true }
         ensures built { IfOk result (λ p. Builds ⟦<D as Devices>⟧ self world.old world.new p.call) }
         ensures base { IfOk result (λ p. base_of value p.base ≡ base_of value base) }
-        ensures stops { is_ok result ≡ false → BuildStops ⟦<D as Devices>⟧ self world.old world.new }
+        ensures stops { OnErr result (BuildStops ⟦<D as Devices>⟧ self world.old world.new) }
+    {
+        let alloc = self.alloc;
+        let call = self.into_call(world)?;
+        Ok(AssumeRoleProvider { alloc, base, call })
+    }
+
+    /// The provider over the default chain, which is configured as the provider is, in the same region. The
+    /// default region chain and the clock are asked as in [`Self::build_from_provider`], each once at most.
+    ///
+    /// # Errors
+    ///
+    /// `OutOfMemory` where memory runs out. The journal then has gained the beginning of such parts.
+    pub fn build<D: Devices>(self, world: &mut World<D>) -> Result<AssumeRoleProvider, OutOfMemory>
+        ensures built { IfOk result (λ p. Builds ⟦<D as Devices>⟧ self world.old world.new p.call) }
+        ensures base { IfOk result (λ p. base_of value p.base ≡ ByDefault p.call.config) }
+        ensures stops { OnErr result (BuildStops ⟦<D as Devices>⟧ self world.old world.new) }
+    {
+        let alloc = self.alloc;
+        let call = self.into_call(world)?;
+        let chain = chain_over(alloc, &call.config, world)?;
+        let base = RoleBase::Default(chain);
+        Ok(AssumeRoleProvider { alloc, base, call })
+    }
+
+    // What the provider sends. The region is asked first, and then the clock.
+    fn into_call<D: Devices>(self, world: &mut World<D>) -> Result<RoleCall, OutOfMemory>
+        ensures built { IfOk result (λ call. Builds ⟦<D as Devices>⟧ self world.old world.new call) }
+        ensures stops { OnErr result (BuildStops ⟦<D as Devices>⟧ self world.old world.new) }
     {
         let AssumeRoleProviderBuilder {
             alloc,
@@ -177,51 +203,55 @@ impl AssumeRoleProviderBuilder {
             session_name,
             session,
         } = self;
-        match name_of(alloc, &session_name, world) {
-            Ok(name) => {
-                let call = RoleCall {
-                    config: with_override(config, region),
-                    session_name: name,
-                    session,
-                };
-                Ok(AssumeRoleProvider { alloc, base, call })
-            }
-            Err(_) => Err(OutOfMemory),
-        }
-    }
-
-    /// The provider over the default chain, which is configured as the provider is. The clock is read as
-    /// in [`Self::build_from_provider`].
-    ///
-    /// # Errors
-    ///
-    /// `OutOfMemory` where memory runs out. The clock may then have been read.
-    pub fn build<D: Devices>(self, world: &mut World<D>) -> Result<AssumeRoleProvider, OutOfMemory>
-        requires region { is_region_set self ≡ true }
-        ensures built { IfOk result (λ p. Builds ⟦<D as Devices>⟧ self world.old world.new p.call) }
-        ensures base { IfOk result (λ p. base_of value p.base ≡ ByDefault (configured self)) }
-        ensures stops { is_ok result ≡ false → BuildStops ⟦<D as Devices>⟧ self world.old world.new }
-    {
-        match self.chain(world) {
-            Ok(chain) => self.build_from_provider(RoleBase::Default(chain), world),
-            Err(_) => Err(OutOfMemory),
-        }
-    }
-
-    // The default chain, configured as the provider is.
-    fn chain<D: Devices>(
-        &self,
-        world: &mut World<D>,
-    ) -> Result<DefaultCredentialsChain, OutOfMemory>
-        ensures chain { IfOk result (λ chain. chain ≡ configured self.now) }
-        ensures world { world.new ≡ world.old }
-    {
-        let config = self.config.copy(self.alloc)?;
-        let region = copy_option(self.alloc, &self.region)?;
         let config = with_override(config, region);
-        DefaultCredentialsChain::builder(self.alloc)?
-            .configure(config)
-            .build(world)
+        let config = in_region(alloc, config, world)?;
+        let name = named(alloc, &session_name, world)?;
+        Ok(RoleCall {
+            config,
+            session_name: name,
+            session,
+        })
+    }
+}
+
+// The configuration, in the region of its default chain where it has none.
+fn in_region<D: Devices>(
+    alloc: Global,
+    config: ProviderConfig,
+    world: &mut World<D>,
+) -> Result<ProviderConfig, OutOfMemory>
+    ensures set { IfOk result (RegionSet ⟦<D as Devices>⟧ (own_region config) config world.old world.new) }
+    ensures breaks { OnErr result (RegionBreaks ⟦<D as Devices>⟧ (own_region config) config world.old world.new) }
+{
+    match config.region() {
+        Some(_) => Ok(config),
+        None => load_default_region(alloc, config, world),
+    }
+}
+
+// The default chain of this configuration, in its region. Nothing is asked.
+fn chain_over<D: Devices>(
+    alloc: Global,
+    config: &ProviderConfig,
+    world: &mut World<D>,
+) -> Result<DefaultCredentialsChain, OutOfMemory>
+    ensures chain { IfOk result (λ chain. chain ≡ config.now) }
+    ensures world { IfOk result (λ chain. Grows ⟦<D as Devices>⟧ [] world.old world.new) }
+    ensures stays { OnErr result (Stays ⟦<D as Devices>⟧ [] world.old world.new) }
+{
+    let region = region_of(alloc, config)?;
+    let config = config.copy(alloc)?;
+    let builder = DefaultCredentialsChain::builder(alloc)?.configure(config);
+    builder.region(RegionSource::Fixed(region)).build(world)
+}
+
+// A copy of its region.
+fn region_of(alloc: Global, config: &ProviderConfig) -> Result<Option<Region>, OutOfMemory>
+    ensures { IfOk result (λ region. region ≡ config.now.region) }
+{
+    match config.region() {
+        None => Ok(None),
+        Some(region) => Ok(Some(region.copy(alloc)?)),
     }
 }
 
@@ -232,6 +262,21 @@ fn with_override(config: ProviderConfig, region: Option<Region>) -> ProviderConf
     match region {
         None => config,
         Some(region) => config.with_region(Some(region)),
+    }
+}
+
+// The name of the sessions, over a world.
+fn named<D: Devices>(
+    alloc: Global,
+    given: &Option<Text>,
+    world: &mut World<D>,
+) -> Result<Text, OutOfMemory>
+    ensures asks { IfOk result (λ name. Asks ⟦<D as Devices>⟧ (session_name_of provider_session given.now) world.old world.new name) }
+    ensures breaks { OnErr result (CallBreaks ⟦<D as Devices>⟧ (session_name_of provider_session given.now) world.old world.new) }
+{
+    match name_of(alloc, given, world) {
+        Ok(name) => Ok(name),
+        Err(_) => Err(OutOfMemory),
     }
 }
 

@@ -1,7 +1,7 @@
 // What no clause says: worked examples of a role over a base, and that calls succeed.
 use crate::setup::{Setup, set_up};
 use cfg_assume_role::{AssumeRoleProvider, AssumeRoleProviderBuilder, RoleBase};
-use cfg_keeping::Kept;
+use cfg_profile::ProviderConfig;
 use cfg_providers::{CustomSource, EnvironmentVariableCredentialsProvider, ProvideCredentials};
 use cfg_types::{
     AssumeRole, Credentials, CredentialsBuilder, CredentialsError, OutOfMemory, Region, Request,
@@ -65,39 +65,17 @@ fn journal_words(alloc: Global, journal: &[Entry]) -> Result<String, AllocError>
     Ok(words)
 }
 
-fn region(alloc: Global) -> Result<Region, OutOfMemory> {
-    Region::new(alloc, "eu-west-1")
-}
-
-fn strings(alloc: Global, given: &[&str]) -> Result<Vec<String>, AllocError> {
-    let mut strings = Vec::new(alloc);
-    for text in given {
-        strings.push(String::from_str(alloc, text)?)?;
-    }
-    Ok(strings)
-}
-
-// Everything set but the region.
+// Everything set.
 fn all_set(alloc: Global) -> Result<AssumeRoleProviderBuilder, OutOfMemory> {
     let tags = vec![in alloc; (String::from_str(alloc, "k")?, String::from_str(alloc, "v")?)]?;
+    let arns = vec![in alloc;
+        String::from_str(alloc, "a")?,
+        String::from_str(alloc, "b")?,
+    ]?;
     let builder = AssumeRoleProvider::builder(alloc, "r")?.session_name("s")?;
-    let builder = builder.external_id("e")?.policy("p")?;
-    let builder = builder.policy_arns(strings(alloc, &["a", "b"])?)?;
-    builder.session_length(900).tags(tags)
-}
-
-// The same where so much is wanted, and else the role alone.
-fn builder_of(alloc: Global, all: bool) -> Result<AssumeRoleProviderBuilder, OutOfMemory> {
-    if all {
-        return all_set(alloc);
-    }
-    AssumeRoleProvider::builder(alloc, "r")
-}
-
-fn fixed(alloc: Global) -> Result<RoleBase, OutOfMemory> {
-    let builder = CredentialsBuilder::new(alloc, "F", "SF", "Own")?;
-    let keys = builder.build()?;
-    Ok(RoleBase::Fixed(keys))
+    let builder = builder.external_id("e")?.policy("p")?.policy_arns(arns)?;
+    let builder = builder.session_length(900).tags(tags)?;
+    Ok(builder.region(Region::new(alloc, "eu-west-1")?))
 }
 
 // What a provider answers, and what was asked since the world was new.
@@ -115,19 +93,13 @@ fn answered(
     Ok(format!(in alloc; "{answer};{questions}")?)
 }
 
-fn over_fixed(alloc: Global, script: &str, all: bool) -> Result<String, OutOfMemory> {
-    let Some(
-        Setup {
-            config: _,
-            mut world,
-        },
-    ) = set_up(alloc, script)?
-    else {
-        return Ok(String::from_str(alloc, "no script")?);
-    };
-    let builder = builder_of(alloc, all)?.region(region(alloc)?);
-    let provider = builder.build_from_provider(fixed(alloc)?, &mut world)?;
-    answered(alloc, &provider, &mut world)
+// A role alone in its region, over fixed credentials.
+fn over_fixed(alloc: Global, world: &mut World<ScriptDevices>) -> Result<String, OutOfMemory> {
+    let keys = CredentialsBuilder::new(alloc, "F", "SF", "Own")?.build()?;
+    let region = Region::new(alloc, "eu-west-1")?;
+    let builder = AssumeRoleProvider::builder(alloc, "r")?.region(region);
+    let provider = builder.build_from_provider(RoleBase::Fixed(keys), world)?;
+    answered(alloc, &provider, world)
 }
 
 // A caller's source that has no time.
@@ -156,98 +128,86 @@ impl ProvideCredentials for Late {
     }
 }
 
-fn over_own_source(alloc: Global) -> Result<String, OutOfMemory> {
-    let Some(
-        Setup {
-            config: _,
-            mut world,
-        },
-    ) = set_up(alloc, "{}")?
-    else {
-        return Ok(String::from_str(alloc, "no script")?);
-    };
+fn over_own_source(alloc: Global, world: &mut World<ScriptDevices>) -> Result<String, OutOfMemory> {
     let late = Box::new(alloc, Late {})?;
     let source = CustomSource::new(Text::of(alloc, "Late")?, late);
-    let builder = all_set(alloc)?.region(region(alloc)?);
-    let provider = builder.build_from_provider(RoleBase::Custom(source), &mut world)?;
-    answered(alloc, &provider, &mut world)
+    let provider = all_set(alloc)?.build_from_provider(RoleBase::Custom(source), world)?;
+    answered(alloc, &provider, world)
 }
 
-fn over_environment(alloc: Global, script: &str) -> Result<String, OutOfMemory> {
-    let Some(Setup { config, mut world }) = set_up(alloc, script)? else {
-        return Ok(String::from_str(alloc, "no script")?);
-    };
+fn over_environment(
+    alloc: Global,
+    config: ProviderConfig,
+    world: &mut World<ScriptDevices>,
+) -> Result<String, OutOfMemory> {
     let env = config.env().copy(alloc)?;
     let base = RoleBase::Environment(EnvironmentVariableCredentialsProvider::new(alloc, env));
-    let builder = all_set(alloc)?.configure(config).region(region(alloc)?);
-    let provider = builder.build_from_provider(base, &mut world)?;
-    answered(alloc, &provider, &mut world)
+    let builder = all_set(alloc)?.configure(config);
+    let provider = builder.build_from_provider(base, world)?;
+    answered(alloc, &provider, world)
 }
 
-fn over_default_chain(alloc: Global, script: &str) -> Result<String, OutOfMemory> {
+fn over_default_chain(
+    alloc: Global,
+    config: ProviderConfig,
+    world: &mut World<ScriptDevices>,
+) -> Result<String, OutOfMemory> {
+    let provider = all_set(alloc)?.configure(config).build(world)?;
+    answered(alloc, &provider, world)
+}
+
+// In the region of the default region chain.
+fn over_asked_region(
+    alloc: Global,
+    config: ProviderConfig,
+    world: &mut World<ScriptDevices>,
+) -> Result<String, OutOfMemory> {
+    let builder = AssumeRoleProvider::builder(alloc, "r")?.configure(config);
+    let provider = builder.build(world)?;
+    answered(alloc, &provider, world)
+}
+
+fn words_of(alloc: Global, base: &str, script: &str) -> Result<String, OutOfMemory> {
     let Some(Setup { config, mut world }) = set_up(alloc, script)? else {
         return Ok(String::from_str(alloc, "no script")?);
     };
-    let builder = all_set(alloc)?.configure(config).region(region(alloc)?);
-    let provider = builder.build(&mut world)?;
-    answered(alloc, &provider, &mut world)
-}
-
-const SENT: &str =
-    " F r s Some(\"e\") Some(\"p\") Some([\"a\", \"b\"]) Some(900) Some(\"eu-west-1\")";
-
-#[test]
-fn answers_to_a_role(rt: HostRuntime) -> Result<(), Fail> {
-    let table: &[(&str, &str)] = &[
-        (
-            r#"{"id":"X","secret":"SX","token":"TX","expires":9}"#,
-            "X AssumeRoleProvider [CredentialsStsAssumeRole]",
-        ),
-        (
-            r#"{"refused":"RegionDisabled","message":"m"}"#,
-            "InvalidConfiguration(AssumeRole(RegionDisabled))",
-        ),
-        (
-            r#"{"refused":"MalformedPolicyDocument","message":"m"}"#,
-            "InvalidConfiguration(AssumeRole(MalformedPolicyDocument))",
-        ),
-        (
-            r#"{"refused":"Other","message":"m"}"#,
-            r#"ProviderError(Refused(Refusal { kind: Other, message: "m" }))"#,
-        ),
-        (r#""timeout""#, "ProviderError(Sent(Timeout))"),
-        ("null", "Unhandled(StsNoCredentials)"),
-    ];
-    for (reply, want) in table {
-        let script = format!(in rt.alloc(); "{{\"replies\":{{\"assume-role\":[{reply}]}}}}")?;
-        let words = over_fixed(rt.alloc(), script.as_str(), true)?;
-        let want = format!(in rt.alloc(); "{want};{SENT}")?;
-        assert_eq!(rt; words.as_str(), want.as_str(), "{reply}");
+    match base {
+        "fixed" => over_fixed(alloc, &mut world),
+        "own" => over_own_source(alloc, &mut world),
+        "environment" => over_environment(alloc, config, &mut world),
+        "asked region" => over_asked_region(alloc, config, &mut world),
+        _ => over_default_chain(alloc, config, &mut world),
     }
-    Ok(())
-}
-
-#[test]
-fn names_of_sessions(rt: HostRuntime) -> Result<(), Fail> {
-    let words = over_fixed(rt.alloc(), r#"{"clock":[7]}"#, false)?;
-    let want =
-        "ProviderError(Sent(Dispatch)); Now F r assume-role-provider-7000 None None None None Some(\"eu-west-1\")";
-    assert_eq!(rt; words.as_str(), want);
-    Ok(())
 }
 
 #[test]
 fn bases_of_a_role(rt: HostRuntime) -> Result<(), Fail> {
-    let keys = r#"{"variables":[["AWS_ACCESS_KEY_ID","F"],["AWS_SECRET_ACCESS_KEY","S"]]}"#;
-    let sent = format!(in rt.alloc(); "ProviderError(Sent(Dispatch));{SENT}")?;
-    let words = over_environment(rt.alloc(), keys)?;
-    assert_eq!(rt; words.as_str(), sent.as_str());
-    let words = over_default_chain(rt.alloc(), keys)?;
-    assert_eq!(rt; words.as_str(), sent.as_str());
-    let words = over_environment(rt.alloc(), "{}")?;
-    let want = r#"ProviderError(Base(CredentialsNotLoaded(NotSet("AWS_ACCESS_KEY_ID"))));"#;
-    assert_eq!(rt; words.as_str(), want);
-    let words = over_own_source(rt.alloc())?;
-    assert_eq!(rt; words.as_str(), "ProviderError(Base(ProviderTimedOut));");
+    let table: &[(&str, &str, &str)] = &[
+        (
+            "fixed",
+            r#"{"clock":[7],"replies":{"assume-role":[{"refused":"RegionDisabled","message":"m"}]}}"#,
+            "InvalidConfiguration(AssumeRole(RegionDisabled)); Now F r assume-role-provider-7000 None None None None Some(\"eu-west-1\")",
+        ),
+        ("own", "{}", "ProviderError(Base(ProviderTimedOut));"),
+        (
+            "environment",
+            r#"{"variables":[["AWS_ACCESS_KEY_ID","F"],["AWS_SECRET_ACCESS_KEY","S"]]}"#,
+            "ProviderError(Sent(Dispatch)); F r s Some(\"e\") Some(\"p\") Some([\"a\", \"b\"]) Some(900) Some(\"eu-west-1\")",
+        ),
+        (
+            "asked region",
+            r#"{"clock":[7],"variables":[["AWS_ACCESS_KEY_ID","F"],["AWS_SECRET_ACCESS_KEY","S"],["AWS_REGION","e"]]}"#,
+            "ProviderError(Sent(Dispatch)); Now F r assume-role-provider-7000 None None None None Some(\"e\")",
+        ),
+        (
+            "default chain",
+            r#"{"variables":[["AWS_ACCESS_KEY_ID","F"],["AWS_SECRET_ACCESS_KEY","S"]],"replies":{"assume-role":[{"id":"X","secret":"SX","token":"TX","expires":9}]}}"#,
+            "X AssumeRoleProvider [CredentialsStsAssumeRole]; F r s Some(\"e\") Some(\"p\") Some([\"a\", \"b\"]) Some(900) Some(\"eu-west-1\")",
+        ),
+    ];
+    for (base, script, want) in table {
+        let words = words_of(rt.alloc(), base, script)?;
+        assert_eq!(rt; words.as_str(), *want, "{base}");
+    }
     Ok(())
 }

@@ -6,3 +6,5 @@ pub mod Members
 pub mod Chains
 pub mod Provides
 pub mod Setups
+pub mod ChainSetups
+pub mod Builds

@@ -1,20 +1,24 @@
 //! Chains of bearer tokens over members that the caller gives.
-ghost use Rattle.std.specs.Prelude.{◌≡◌, ◌++◌, ◌∷◌, [], IfOk, true, false, map};
+ghost use Rattle.std.specs.Prelude.{◌≡◌, ◌++◌, ◌∷◌, [], IfOk, OnErr, true, false, map};
 ghost use Rattle.cfg_values.specs.Text.{characters};
 ghost use Rattle.cfg_keeping.specs.KeptStates.{kept_key, states_of};
 ghost use Rattle.cfg_keeping.specs.Kinds.{no_states};
 ghost use Rattle.cfg_members.specs.FollowsMembers.{FollowsMembers};
 ghost use Rattle.cfg_members.specs.MemberParts.{keeping_of, with_nothing_found};
 ghost use Rattle.cfg_sso.specs.BearerTokens.{is_memory};
+ghost use Rattle.cfg_bearer.specs.Builds.{BuildBreaks, EndsByDefault};
 ghost use Rattle.cfg_bearer.specs.Chains.{members_of};
+ghost use Rattle.cfg_bearer.specs.ChainSetups.{configuration_alone};
 ghost use Rattle.cfg_bearer.specs.Members.{asked_of, name_in, IsTokenTree, needed_in};
 ghost use Rattle.cfg_bearer.specs.Provides.{ProvidesTokens, InterruptedTokens};
 ghost use Rattle.cfg_bearer.specs.TokenAnswers.{token_rules};
 
 use crate::custom::CustomToken;
+use crate::default_provider::token::DefaultTokenChain;
 use crate::member::{NamedToken, TokenMember};
 use cfg_keeping::Kept;
 use cfg_members::{follow_members, new_kept, provide_by_members};
+use cfg_profile::ProviderConfig;
 use cfg_types::{OutOfMemory, Text, Token, TokenError};
 use cfg_world::{Asking, Devices, Stop, World};
 use std::alloc::Global;
@@ -59,6 +63,41 @@ impl TokenProviderChain {
         let name = Text::of(self.alloc, name)?;
         self.members.push(NamedToken { name, member })?;
         Ok(self)
+    }
+
+    /// A chain of the default chain over this configuration, which it tells of as `DefaultProviderChain`. Its
+    /// region is that of the default chain of regions, which is asked now, in place of the configuration's.
+    ///
+    /// # Errors
+    ///
+    /// `OutOfMemory` where memory runs out. The journal then has gained the beginning of the regions' part.
+    pub fn default_provider<D: Devices>(
+        alloc: Global,
+        config: ProviderConfig,
+        world: &mut World<D>,
+    ) -> Result<TokenProviderChain, OutOfMemory>
+        ensures ends { IfOk result (λ chain. EndsByDefault ⟦<D as Devices>⟧ config [] (members_of told_token chain) world.old world.new) }
+        ensures breaks { OnErr result (BuildBreaks ⟦<D as Devices>⟧ (configuration_alone config) world.old world.new) }
+    {
+        TokenProviderChain::empty(alloc).or_default_provider(config, world)
+    }
+
+    /// The chain with the default chain over this configuration behind the others, as
+    /// [`Self::default_provider`] has it.
+    ///
+    /// # Errors
+    ///
+    /// `OutOfMemory` where memory runs out. The journal then has gained the beginning of the regions' part.
+    pub fn or_default_provider<D: Devices>(
+        self,
+        config: ProviderConfig,
+        world: &mut World<D>,
+    ) -> Result<TokenProviderChain, OutOfMemory>
+        ensures ends { IfOk result (λ chain. EndsByDefault ⟦<D as Devices>⟧ config (members_of told_token self) (members_of told_token chain) world.old world.new) }
+        ensures breaks { OnErr result (BuildBreaks ⟦<D as Devices>⟧ (configuration_alone config) world.old world.new) }
+    {
+        let default = DefaultTokenChain::of_configuration(self.alloc, config, world)?;
+        self.or_else("DefaultProviderChain", TokenMember::Default(default))
     }
 
     /// What the chain keeps between calls, for each member in order, with nothing kept.

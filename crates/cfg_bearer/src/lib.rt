@@ -1,5 +1,5 @@
 //! Bearer tokens: the selected profile's, a caller's own, and chains of them. It stands on cfg_members,
-//! cfg_sso and cfg_profile. The layers above may use that a chain's journal is the parts of its members in
+//! cfg_sso and cfg_region. The layers above may use that a chain's journal is the parts of its members in
 //! order, up to the first that was not passed over, whose answer is the chain's, and that each part has its
 //! cause.
 #![tactic(auto)]

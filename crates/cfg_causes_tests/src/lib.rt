@@ -2,10 +2,4 @@
 #![tactic(auto)]
 
 #[cfg(test)]
-mod credentials;
-#[cfg(test)]
 mod lines;
-#[cfg(test)]
-mod metadata;
-#[cfg(test)]
-mod tokens;

@@ -17,3 +17,8 @@ pub mod PassingErrors
 pub mod UnsetContainer
 pub mod Validity
 pub mod Calls
+pub mod ProfileCalls
+pub mod WorldSteps
+pub mod GivenRegions
+pub mod SetRegions
+pub mod WhoAnswered

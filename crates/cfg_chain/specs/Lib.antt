@@ -9,3 +9,4 @@ pub mod Causes
 pub mod Valid
 pub mod Provides
 pub mod Setups
+pub mod Callers

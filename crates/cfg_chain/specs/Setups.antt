@@ -1,31 +1,33 @@
 -- What a builder of the default chain was set to.
-use Rattle.std.specs.Prelude.{ℕ, List, Bool, Option, Some, None, refl}
-use Rattle.std.specs.Coded.{Coded, code_by, coded×, coded_option}
-use Rattle.cfg_chain.specs.declared.default_provider.credentials.RegionSource.{RegionSource}
-use Rattle.cfg_chain.specs.declared.default_provider.credentials.RegionSource.TheVariants.{Fixed}
-use Rattle.cfg_chain.specs.contracts.default_provider.credentials.RegionSource as source
-use Rattle.cfg_profile.specs.Configuration.{Configuration, configuration_code, nothing_configured}
+use Rattle.std.specs.Prelude.{ℕ, List, true, Option, None, option_map, string_bytes}
+use Rattle.cfg_exchange.specs.Classifiers.{Repeats}
+use Rattle.cfg_profile.specs.Configuration.{Configuration, nothing_configured}
+use Rattle.cfg_region.specs.Environments.{Told}
+use Rattle.cfg_region.specs.ProfileSetups.{with_name}
+use Rattle.cfg_region.specs.Sources.{Source, region_source}
+use Rattle.cfg_chain.specs.declared.default_provider.credentials.Builder.{Builder}
 
 pub record Setup : Type 0 where
   pub configuration : Configuration
-  -- where the region comes from in place of the configuration
-  pub region_source : Option RegionSource
+  -- in place of the configuration's
+  pub profile_name : Option (List ℕ)
+  -- where the region comes from, where that was set
+  pub region : Option Source
 
-abbrev pub setup_code : Coded Setup
-setup_code = code_by (Configuration × Option RegionSource)
-    (coded× configuration_code (coded_option source.the_row.coded))
-    (λ s. (s.configuration, s.region_source))
-    (λ p. record { configuration = p.0; region_source = p.1 }) (λ _. refl)
+-- a builder that nothing was given to
+abbrev pub nothing_set : Setup
+nothing_set = record { configuration = nothing_configured true; profile_name = None; region = None }
 
--- nothing was set
-abbrev pub nothing_set : Bool → Setup
-nothing_set sleep = record { configuration = nothing_configured sleep; region_source = None }
+-- what the chain that is built is configured by, but for its region
+abbrev pub configured : Setup → Configuration
+configured s = with_name s.profile_name s.configuration
 
--- the region of the source where one was set, and else the configuration's
-abbrev pub region_given : Option RegionSource → Option (List ℕ) → Option (List ℕ)
-region_given None configured = configured
-region_given (Some (Fixed region)) configured = region
-
--- what the chain that is built is configured by
-abbrev pub built_by : Setup → Configuration
-built_by s = record s.configuration { region = region_given s.region_source s.configuration.region }
+module _ {V W : Type 0} {I : V → Type 0} {J : W → Type 0} where
+  -- a builder, with what a source of a region tells and what a classifier repeats by the meaning of their
+  -- interfaces
+  abbrev pub setup_of : ((w : W) × J w → Told) → ((v : V) × I v → Repeats) → Builder V W I J → Setup
+  setup_of told repeated b = record {
+    configuration = b.config;
+    profile_name = option_map (λ s. string_bytes s) b.profile_name;
+    region = option_map (region_source told repeated) b.region;
+  }

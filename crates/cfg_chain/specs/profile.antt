@@ -2,3 +2,4 @@ pub mod Plans
 pub mod Bases
 pub mod Profiles
 pub mod Causes
+pub mod Provides

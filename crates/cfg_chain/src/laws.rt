@@ -1,7 +1,9 @@
 //! Laws of chains, each on a call that carries it.
-ghost use Rattle.std.specs.Prelude.{◌≡◌, ◌↔◌, ℕ, List, [], true, is_ok, Option, Result, Ok};
+ghost use Rattle.std.specs.Prelude.{◌≡◌, ◌↔◌, ℕ, List, [], true, is_ok, Option, Some, Result, Ok};
 ghost use Rattle.cfg_types.specs.declared.errors.ProviderAttempt.{ProviderAttempt};
 ghost use Rattle.cfg_world.specs.Fits.{Pair};
+ghost use Rattle.cfg_world.specs.Grows.{Grows};
+ghost use Rattle.cfg_world.specs.Held.{Held};
 ghost use Rattle.cfg_world.specs.declared.script.DeviceLists.{DeviceLists as Lists};
 ghost use Rattle.cfg_world.specs.Script.{Place, Given};
 ghost use Rattle.cfg_keeping.specs.Kinds.{Value, States};
@@ -21,9 +23,15 @@ ghost use Rattle.cfg_chain.specs.Causes.{Cause};
 ghost use Rattle.cfg_chain.specs.PassedOver.{IsPassedOver, PassesByTable};
 ghost use Rattle.cfg_chain.specs.Resolves.{Resolves};
 ghost use Rattle.cfg_chain.specs.Valid.{IsValid};
-ghost use Rattle.cfg_chain.specs.Provides.{IsCall};
+ghost use Rattle.cfg_chain.specs.Provides.{IsCall, Provides};
+ghost use Rattle.cfg_region.specs.Calls.{RegionSet};
+ghost use Rattle.cfg_region.specs.Environments.{Told};
+ghost use Rattle.cfg_region.specs.Sources.{Given as GivenRegion};
+ghost use Rattle.cfg_chain.specs.Callers.{TellsWho};
 ghost use Rattle.cfg_chain.specs.profile.Bases.{CanBeAsked};
 ghost use Rattle.cfg_chain.specs.profile.Plans.{Planned, profile_plan, plan, key_of_plan, key_of};
+
+use cfg_world::Devices;
 
 /// The journal of a chain is the parts of its members in order, and the other way round: whatever its
 /// members, values and errors are, the chain asks what its members ask.
@@ -84,4 +92,19 @@ pub fn a_plan_has_a_base_that_can_be_asked()
 /// Whose token a configuration needs is the same whatever sources the caller has.
 pub fn a_configuration_has_one_key()
     ensures { (conf : Configuration) (sources : List (List ℕ)) → key_of_plan (plan conf sources) ≡ key_of conf }
+{}
+
+/// A chain that was built with a given region, or none, has it, and nothing was asked for it: a build ensures
+/// `RegionSet` of its source.
+pub fn a_given_region_asks_nothing<D: Devices>()
+    ensures { (told : Told) (conf chain : Configuration) (old new : Held D) → RegionSet ⟦<D as Devices>⟧ (Some (GivenRegion told)) conf old new chain → Grows ⟦<D as Devices>⟧ [] old new × (chain ≡ record conf { region = told }) }
+{}
+
+/// A call tells its caller who answered. Credentials are those that one of the five members reads over its part
+/// of what the journal gained, and so is any error but that nothing was loaded; the parts before it are those
+/// of the members before it, in order, each not loaded, by its line of the table. Where nothing was loaded the
+/// parts are those of all five, and the error tells of each.
+pub fn a_call_tells_who_answered<D: Devices>()
+    ensures { (conf : Configuration) (lent : Lent) (old new : States) (found : List Value) (before later : Held D) (out : Answer) →
+        Provides ⟦<D as Devices>⟧ conf lent old new found before later out → TellsWho conf lent found before.journal later.journal out }
 {}

@@ -1,6 +1,7 @@
 //! Chains of credentials providers. It stands on cfg_providers, cfg_metadata, cfg_sso, cfg_sign_in,
-//! cfg_keeping and cfg_profile. The layers above may use that a call's journal is the parts of the members up to the one that
-//! answered, in order, that every earlier one was not loaded, and that each part has its cause.
+//! cfg_region, cfg_keeping and cfg_profile. The layers above may use that a call's journal is the parts of
+//! the members up to the one that answered, in order, that every earlier one was not loaded, and that each
+//! part has its cause.
 #![tactic(auto)]
 
 mod chain;
@@ -14,5 +15,7 @@ pub use cfg_imds::Client;
 pub use cfg_keeping::{Found, Kept, TokenKey};
 pub use cfg_profile::{ProfileSet, ProfileSource, ProviderConfig, Section};
 pub use cfg_providers::{CustomProvider, CustomSource, ProvideCredentials};
+pub use cfg_region::RegionSource;
 pub use cfg_types::{CredentialsError, OutOfMemory};
-pub use default_provider::credentials::{DefaultCredentialsChain, RegionSource};
+pub use default_provider::credentials::DefaultCredentialsChain;
+pub use profile::credentials::ProfileFileCredentialsProvider;

@@ -1,4 +1,8 @@
 //! Where the services of a call are asked.
+ghost use Rattle.std.specs.Prelude.{◌≡◌, option_map};
+ghost use Rattle.cfg_keeping.specs.Clients.{client_rules};
+ghost use Rattle.cfg_chain.specs.Settings.{lent_or as lent_or_own};
+
 use cfg_exchange::ContainerUri;
 use cfg_imds::Client;
 
@@ -9,4 +13,14 @@ pub struct Services<'a> {
     pub container: &'a ContainerUri,
     pub client: &'a Client,
     pub named_client: &'a Client,
+}
+
+/// The client that the caller lent, and else the configuration's.
+pub(crate) fn lent_or<'a>(lent: Option<&'a Client>, own: &'a Client) -> &'a Client
+    ensures { client_rules repeated result.now ≡ lent_or_own (option_map (λ c. client_rules repeated c.now) lent.entry) (client_rules repeated own.now) }
+{
+    match lent {
+        Some(client) => client,
+        None => own,
+    }
 }

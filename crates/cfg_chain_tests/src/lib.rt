@@ -2,6 +2,8 @@
 #![tactic(auto)]
 
 #[cfg(test)]
+mod building;
+#[cfg(test)]
 mod chain;
 #[cfg(test)]
 mod keeping;

@@ -10,7 +10,7 @@ use cfg_chain::{
 };
 use cfg_script::{Script, ScriptProfiles, read_script};
 use cfg_types::{Credentials, CredentialsError, Env, EnvText, OutOfMemory, Region, TryCopy};
-use cfg_world::{Asking, DeviceLists, Entry, ScriptDevices, World};
+use cfg_world::{Asking, Entry, ScriptDevices, World};
 use std::alloc::{AllocError, Global};
 
 /// A chain, the sources that its calls are lent, and devices for them.
@@ -73,28 +73,13 @@ pub(crate) fn chain_of(
     builder.build(world)
 }
 
-// The chain with this configuration, and devices that answer from these lists.
-fn set_up_over(
-    alloc: Global,
-    config: ProviderConfig,
-    lists: DeviceLists,
-) -> Result<Setup, OutOfMemory>
-    requires { AllFit lists }
-{
-    let devices = ScriptDevices::new(alloc, lists)?;
-    let mut world = World::new(alloc, devices);
-    let region = Region::new(alloc, "eu-west-1")?;
-    let chain = chain_of(alloc, config, Some(region), &mut world)?;
-    let devices = world.into_devices();
-    let sources = own_sources(alloc)?;
-    Ok(Setup {
-        chain,
-        sources,
-        devices,
-    })
+/// A configuration, and a world for its calls.
+pub(crate) struct Configured {
+    pub(crate) config: ProviderConfig,
+    pub(crate) world: World<ScriptDevices>,
 }
 
-fn set_up_by(alloc: Global, script: Script) -> Result<Setup, OutOfMemory>
+fn configure(alloc: Global, script: Script) -> Result<Configured, OutOfMemory>
     requires { AllFit (lists_of (plain script)) }
 {
     let Script {
@@ -107,14 +92,40 @@ fn set_up_by(alloc: Global, script: Script) -> Result<Setup, OutOfMemory>
         devices,
     } = script;
     let config = config(alloc, variables, profiles, selected, sleep)?;
-    set_up_over(alloc, config, devices)
+    let world = World::new(alloc, ScriptDevices::new(alloc, devices)?);
+    Ok(Configured { config, world })
+}
+
+/// What a script configures, and a world over the devices that it scripts. None for what is no script.
+pub(crate) fn read_configuration(
+    alloc: Global,
+    script: &str,
+) -> Result<Option<Configured>, OutOfMemory> {
+    match read_script(alloc, script.as_bytes()) {
+        Ok(script) => Ok(Some(configure(alloc, script)?)),
+        Err(_) => Ok(None),
+    }
+}
+
+// The chain over what is configured, in a region.
+fn set_up_over(alloc: Global, configured: Configured) -> Result<Setup, OutOfMemory> {
+    let Configured { config, mut world } = configured;
+    let region = Region::new(alloc, "eu-west-1")?;
+    let chain = chain_of(alloc, config, Some(region), &mut world)?;
+    let devices = world.into_devices();
+    let sources = own_sources(alloc)?;
+    Ok(Setup {
+        chain,
+        sources,
+        devices,
+    })
 }
 
 /// The chain that a script configures, and the devices that it scripts. None for what is no script.
 pub(crate) fn set_up(alloc: Global, script: &str) -> Result<Option<Setup>, OutOfMemory> {
-    match read_script(alloc, script.as_bytes()) {
-        Ok(script) => Ok(Some(set_up_by(alloc, script)?)),
-        Err(_) => Ok(None),
+    match read_configuration(alloc, script)? {
+        Some(configured) => Ok(Some(set_up_over(alloc, configured)?)),
+        None => Ok(None),
     }
 }
 
@@ -129,8 +140,8 @@ impl Drop for Outcome {
     }
 }
 
-// An answer, with the secret, the token and the features of credentials.
-fn answer_words(
+/// An answer, with the secret, the token and the features of credentials.
+pub(crate) fn answer_words(
     alloc: Global,
     answer: &Result<Credentials, CredentialsError>,
 ) -> Result<String, AllocError> {
@@ -143,17 +154,6 @@ fn answer_words(
         }
         Err(error) => format!(in alloc; "{error:?}"),
     }
-}
-
-fn provided(
-    chain: &DefaultCredentialsChain,
-    sources: &[CustomSource],
-    world: &mut World<ScriptDevices>,
-) -> Result<Outcome, OutOfMemory> {
-    let mut kept = chain.new_kept()?;
-    Ok(Outcome {
-        answer: chain.provide_credentials(sources, None, &mut kept, world),
-    })
 }
 
 /// What a call of the chain answers on what is kept, with this metadata client lent. None where what is
@@ -173,21 +173,6 @@ pub(crate) fn called(
     })
 }
 
-/// What a call of the chain answers, as the error's cause is shown to a user.
-pub(crate) fn shown(
-    alloc: Global,
-    chain: &DefaultCredentialsChain,
-    sources: &[CustomSource],
-    world: &mut World<ScriptDevices>,
-) -> Result<String, OutOfMemory> {
-    let outcome = provided(chain, sources, world)?;
-    match &outcome.answer {
-        Ok(keys) => Ok(format!(in alloc; "{keys:?}")?),
-        Err(CredentialsError::CredentialsNotLoaded(cause)) => Ok(format!(in alloc; "{cause}")?),
-        Err(error) => Ok(format!(in alloc; "{error}")?),
-    }
-}
-
 /// What a call of the chain answers.
 pub(crate) fn answered(
     alloc: Global,
@@ -195,7 +180,10 @@ pub(crate) fn answered(
     sources: &[CustomSource],
     world: &mut World<ScriptDevices>,
 ) -> Result<String, OutOfMemory> {
-    let outcome = provided(chain, sources, world)?;
+    let mut kept = chain.new_kept()?;
+    let outcome = Outcome {
+        answer: chain.provide_credentials(sources, None, &mut kept, world),
+    };
     Ok(answer_words(alloc, &outcome.answer)?)
 }
 

@@ -2,10 +2,8 @@
 #![tactic(auto)]
 
 #[cfg(test)]
-mod addresses;
-#[cfg(test)]
 mod attempts;
 #[cfg(test)]
 mod containers;
 #[cfg(test)]
-mod readings;
+mod targets;

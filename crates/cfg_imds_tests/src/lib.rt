@@ -4,10 +4,4 @@
 #[cfg(test)]
 mod calls;
 #[cfg(test)]
-mod endpoints;
-#[cfg(test)]
-mod regions;
-#[cfg(test)]
 mod settings;
-#[cfg(test)]
-mod setup;

@@ -1,9 +1,14 @@
-// What a builder sets: limits, attempts, lifetimes and classifiers.
-use crate::setup::{Setup, get_words, set_up};
+// What a builder sets: limits, attempts, lifetimes, endpoints and classifiers.
+ghost use Rattle.cfg_world.specs.Script.{AllFit};
+ghost use Rattle.cfg_script.specs.Script.{plain};
+ghost use Rattle.cfg_script.specs.Devices.{lists_of};
+
+use crate::calls::{get_words, world};
 use cfg_exchange::{ClassifyRetry, Reading};
-use cfg_imds::{Builder, Client, ImdsTokenState};
+use cfg_imds::{Builder, Client, endpoint_mode};
+use cfg_script::{Script, read_script};
+use cfg_types::imds::{BuildError, EndpointMode};
 use cfg_types::{HttpReply, OutOfMemory};
-use cfg_world::World;
 use std::alloc::Global;
 use std::test::Fail;
 
@@ -33,90 +38,92 @@ impl ClassifyRetry for Missing {
     }
 }
 
-fn with_classifier(alloc: Global, builder: Builder) -> Result<Builder, OutOfMemory> {
+// The builder with each setting. Its endpoint is given.
+fn with_settings(alloc: Global, builder: Builder) -> Result<Builder, OutOfMemory> {
     let classifier = Box::new(alloc, Missing)?;
-    Ok(builder.retry_classifier(classifier))
+    Ok(
+        builder
+            .retry_classifier(classifier)
+            .max_attempts(2)
+            .endpoint_mode(EndpointMode::IpV6)
+            .token_ttl(7)
+            .connect_timeout(1)
+            .read_timeout(2)
+            .operation_timeout(3)
+            .operation_attempt_timeout(4),
+    )
 }
 
-fn gets_by(alloc: Global, builder: Builder, setup: Setup) -> Result<String, OutOfMemory> {
-    let Setup { config: _, devices } = setup;
-    let mut world = World::new(alloc, devices);
+// What a get of the builder's client answers, and the second question of it.
+fn get_by(alloc: Global, builder: Builder, script: Script) -> Result<String, OutOfMemory>
+    requires { AllFit (lists_of (plain script)) }
+{
+    let Script {
+        variables: _,
+        profiles: _,
+        selected: _,
+        region: _,
+        sleep: _,
+        calls: _,
+        devices,
+    } = script;
+    let mut world = world(alloc, devices)?;
     let client = builder.build()?;
-    let mut state = ImdsTokenState::new();
-    get_words(alloc, &client, &mut state, &mut world, "/a")
-}
-
-fn words_of(alloc: Global, builder: Builder, script: &str) -> Result<String, OutOfMemory> {
-    match set_up(alloc, script)? {
-        Some(setup) => gets_by(alloc, builder, setup),
-        None => Ok(String::from_str(alloc, "no script")?),
-    }
-}
-
-#[test]
-fn classifiers_that_are_brought(rt: HostRuntime) -> Result<(), Fail> {
-    let alloc = rt.alloc();
-    let script =
-        r#"{"replies":{"imds-token":[[404,[],"t"],[200,[["x-aws-ec2-metadata-token-ttl-seconds","9"]],"t"]],"imds-get":[[404,[],""],[404,[],""],[500,[],""],[200,[],""]]}}"#;
-    let builder = with_classifier(alloc, Client::builder(alloc)?)?;
-    let words = words_of(alloc, builder, script)?;
-    let get = "\nget http://169.254.169.254/a [116]";
-    let token = "\ntoken http://169.254.169.254 21600";
-    let want = format!(in alloc;
-        "ErrorResponse(ErrorResponse {{ reply: HttpReply {{ status: 500, secrets: \"** redacted **\" }} }})\nnow{token}{token}\nnow{get}{get}{get}\nSome(MetadataToken {{ value: \"** redacted **\", expiry: 9 s 0 ns }})"
-    )?;
-    assert_eq!(rt; words.as_str(), want.as_str());
-    Ok(())
-}
-
-#[test]
-fn attempts_and_lifetimes(rt: HostRuntime) -> Result<(), Fail> {
-    let alloc = rt.alloc();
-    let script = r#"{"replies":{"imds-token":[[500,[],"t"],[500,[],"t"],[200,[],"t"]]}}"#;
-    let builder = Client::builder(alloc)?.max_attempts(0).token_ttl(7);
-    let words = words_of(alloc, builder, script)?;
-    let token = "\ntoken http://169.254.169.254 7";
-    let refused = "FailedToLoadToken(Token(NoTtl))\nnow";
-    let want = format!(in alloc; "{refused}{token}\nnow\nNone")?;
-    assert_eq!(rt; words.as_str(), want.as_str());
-    let builder = Client::builder(alloc)?.token_ttl(7).max_attempts(2);
-    let words = words_of(alloc, builder, script)?;
-    let want = format!(in alloc; "{refused}{token}{token}\nnow\nNone")?;
-    assert_eq!(rt; words.as_str(), want.as_str());
-    Ok(())
-}
-
-// What a token request asks for, with its limits of time.
-fn limits_words(alloc: Global, builder: Builder, setup: Setup) -> Result<String, OutOfMemory> {
-    let Setup { config: _, devices } = setup;
-    let mut world = World::new(alloc, devices);
-    let client = builder.build()?;
-    let mut state = ImdsTokenState::new();
-    let _words = get_words(alloc, &client, &mut state, &mut world, "/a")?;
+    let words = get_words(alloc, &client, &mut world, "/a")?;
     match world.journal().get(1) {
-        Some(entry) => {
-            let question = entry.question();
-            Ok(format!(in alloc; "{question:?}")?)
-        }
-        None => Ok(String::from_str(alloc, "nothing")?),
+        Some(entry) => Ok(format!(in alloc; "{words} {:?}", entry.question())?),
+        None => Ok(words),
     }
 }
 
 #[test]
-fn limits_of_time(rt: HostRuntime) -> Result<(), Fail> {
-    let alloc = rt.alloc();
-    let builder = Client::builder(alloc)?
-        .connect_timeout(1)
-        .read_timeout(2)
-        .operation_timeout(3)
-        .operation_attempt_timeout(4);
-    let words = match set_up(alloc, "{}")? {
-        Some(setup) => limits_words(alloc, builder, setup)?,
-        None => String::from_str(alloc, "no script")?,
-    };
+fn a_client_with_each_setting(rt: HostRuntime) -> Result<(), Fail> {
+    let script =
+        r#"{"replies":{"imds-token":[[404,[],"t"],[200,[["x-aws-ec2-metadata-token-ttl-seconds","9"]],"t"]],"imds-get":[[404,[],""],[500,[],""],[200,[],""]]}}"#;
+    let script = read_script(rt.alloc(), script.as_bytes())?;
+    let builder = with_settings(rt.alloc(), Client::builder(rt.alloc())?)?;
+    let words = get_by(rt.alloc(), builder, script)?;
     assert_eq!(rt;
         words.as_str(),
-        "Send(MetadataToken(MetadataToken { endpoint: \"http://169.254.169.254\", ttl_seconds: 21600, timeouts: Timeouts { connect_ms: Some(1), read_ms: Some(2), operation_ms: Some(3), attempt_ms: Some(4) } }))"
+        "Err(ErrorResponse(ErrorResponse { reply: HttpReply { status: 500, secrets: \"** redacted **\" } })) 6 Some(MetadataToken { value: \"** redacted **\", expiry: 9 s 0 ns }) Send(MetadataToken(MetadataToken { endpoint: \"http://[fd00:ec2::254]\", ttl_seconds: 7, timeouts: Timeouts { connect_ms: Some(1), read_ms: Some(2), operation_ms: Some(3), attempt_ms: Some(4) } }))"
     );
+    Ok(())
+}
+
+// What a builder gives that is to have an endpoint.
+struct Built {
+    builder: Result<Builder, BuildError>,
+}
+
+impl Drop for Built {
+    fn drop(self) {
+        let Built { builder: _ } = self;
+    }
+}
+
+// Whether a text is taken as an endpoint, and the mode that it names.
+fn endpoint_words(alloc: Global, text: &str) -> Result<String, OutOfMemory> {
+    let mode = endpoint_mode(alloc, text);
+    let built = Built {
+        builder: Client::builder(alloc)?.endpoint(text),
+    };
+    match &built.builder {
+        Ok(_) => Ok(format!(in alloc; "{mode:?} taken")?),
+        Err(error) => Ok(format!(in alloc; "{mode:?} {error:?}")?),
+    }
+}
+
+#[test]
+fn endpoints_and_modes_by_their_texts(rt: HostRuntime) -> Result<(), Fail> {
+    let table: &[(&str, &str)] = &[
+        ("ipv4", "Ok(IpV4) taken"),
+        ("IPV6", "Ok(IpV6) taken"),
+        ("http://h", "Err(Mode(\"http://h\")) taken"),
+        (" ", "Err(Mode(\" \")) InvalidEndpointUri(\" \")"),
+    ];
+    for (text, want) in table {
+        let words = endpoint_words(rt.alloc(), text)?;
+        assert_eq!(rt; words.as_str(), *want);
+    }
     Ok(())
 }

@@ -1,19 +1,24 @@
-// Holdings over scripts: what they ask and answer, what was found, and what is kept.
-ghost use Rattle.std.specs.Prelude.{◌≡◌, true, IfOk};
+// Holdings of each kind over scripts, two on one keeper: what they answer, how much they ask, and how
+// much was found.
+ghost use Rattle.std.specs.Prelude.{◌≡◌, true, IfOk, None as none};
+ghost use Rattle.cfg_imds.specs.Clients.{endpoint_fault};
+ghost use Rattle.cfg_keeping.specs.Clients.{client_rules};
+ghost use Rattle.cfg_keeping.specs.KeptStates.{kept_key};
+ghost use Rattle.cfg_keeping.specs.KeyedStates.{is_sso_key, is_login_key};
 ghost use Rattle.cfg_script.specs.Devices.{lists_of};
 ghost use Rattle.cfg_script.specs.Script.{plain};
-ghost use Rattle.cfg_keeping.specs.KeptStates.{kept_key};
-ghost use Rattle.cfg_keeping.specs.KeyedStates.{is_sso_key};
 ghost use Rattle.cfg_world.specs.Script.{AllFit};
 
-use cfg_keeping::{CachedSsoToken, Found, Keeper, Kept, Load, TokenKey, TokenState, sso_section};
+use cfg_exchange::ClassifyRetry;
+use cfg_imds::Client;
+use cfg_keeping::{Keeper, Kept, Place, TokenKey, imds_token, login_section, sso_section};
 use cfg_script::{Script, read_script};
-use cfg_types::{CallSettings, Env, Instant, OutOfMemory, Region, Text, Timeouts};
-use cfg_world::{DeviceLists, Entry, Question, ScriptDevices, World};
-use std::alloc::{AllocError, Global};
+use cfg_types::{CallSettings, Env, OutOfMemory, Region, Text, Timeouts};
+use cfg_world::{DeviceLists, ScriptDevices, World};
+use std::alloc::Global;
 use std::test::Fail;
 
-fn kept(alloc: Global) -> Result<Kept, OutOfMemory>
+fn sso_kept(alloc: Global) -> Result<Kept, OutOfMemory>
     ensures { IfOk result (λ k. is_sso_key (kept_key k) ≡ true) }
 {
     let session = Text::of(alloc, "abc")?;
@@ -27,7 +32,14 @@ fn kept(alloc: Global) -> Result<Kept, OutOfMemory>
     Ok(Kept::new(alloc, Some(key)))
 }
 
-pub(crate) fn settings() -> CallSettings {
+fn login_kept(alloc: Global) -> Result<Kept, OutOfMemory>
+    ensures { IfOk result (λ k. is_login_key (kept_key k) ≡ true) }
+{
+    let session = Text::of(alloc, "abc")?;
+    Ok(Kept::new(alloc, Some(TokenKey::Login { session })))
+}
+
+fn settings() -> CallSettings {
     CallSettings {
         region: None,
         use_fips: None,
@@ -42,90 +54,20 @@ pub(crate) fn settings() -> CallSettings {
     }
 }
 
-fn word(entry: &Entry) -> &'static str {
-    match entry.question() {
-        Question::Now => "now ",
-        Question::Read { path: _ } => "read ",
-        Question::Write { path: _, bytes: _ } => "write ",
-        Question::Send(_) => "send ",
-        _ => "another ",
-    }
-}
-
-// What the world was asked since the last look.
-pub(crate) fn questions(
+// How much was asked since the last look, and what was found by now.
+fn counts(
     alloc: Global,
+    answer: &str,
+    kept: &Kept,
     world: &mut World<ScriptDevices>,
-) -> Result<String, AllocError> {
-    let mut words = String::new(alloc);
-    for entry in world.journal() {
-        words.push_str(word(entry))?;
-    }
+) -> Result<String, OutOfMemory> {
+    let asked = world.journal().len();
     world.clear_journal();
-    Ok(words)
+    let found = kept.found().len();
+    Ok(format!(in alloc; "{answer} {asked} {found}; ")?)
 }
 
-fn token_words(alloc: Global, token: &CachedSsoToken) -> Result<String, AllocError> {
-    let text = token.access_token.as_str();
-    let end = token.expires_at.seconds();
-    format!(in alloc; "{text} {end}")
-}
-
-pub(crate) fn seconds(last: Option<Instant>) -> i64 {
-    match last {
-        Some(last) => last.seconds(),
-        None => -1,
-    }
-}
-
-fn load_words(alloc: Global, load: &Option<Load<CachedSsoToken>>) -> Result<String, AllocError> {
-    match load {
-        None => String::from_str(alloc, "nothing"),
-        Some(load) => match load.loaded_by().outcome() {
-            Ok(token) => token_words(alloc, token),
-            Err(error) => format!(in alloc; "{error:?}"),
-        },
-    }
-}
-
-fn found_words(alloc: Global, found: &[Found]) -> Result<String, AllocError> {
-    let mut words = String::new(alloc);
-    for value in found {
-        match value {
-            Found::Sso { load, last } => {
-                let load = load_words(alloc, load)?;
-                let last = seconds(*last);
-                let value = format!(in alloc; "({load}, {last})")?;
-                words.push_str(value.as_str())?;
-            }
-            _ => words.push_str("(another)")?,
-        }
-    }
-    Ok(words)
-}
-
-fn state_words(
-    alloc: Global,
-    state: Option<&TokenState<CachedSsoToken>>,
-) -> Result<String, AllocError> {
-    match state {
-        None => String::from_str(alloc, "no state"),
-        Some(state) => {
-            let records = state.records().len();
-            let last = seconds(state.last_attempt());
-            match state.kept() {
-                None => format!(in alloc; "nothing, {last}, {records}"),
-                Some(token) => {
-                    let token = token_words(alloc, token)?;
-                    format!(in alloc; "{token}, {last}, {records}")
-                }
-            }
-        }
-    }
-}
-
-// What one holding asks and answers; what was found and what is kept then.
-fn holding_words(
+fn sso_line(
     alloc: Global,
     kept: &mut Kept,
     env: &Env,
@@ -134,33 +76,94 @@ fn holding_words(
     requires { is_sso_key (kept_key kept.old) ≡ true }
     ensures { kept_key kept.new ≡ kept_key kept.old }
 {
-    let answer = match sso_section(kept, alloc, env, &settings(), world) {
-        Ok(token) => token_words(alloc, &token)?,
-        Err(error) => format!(in alloc; "{error:?}")?,
-    };
-    let asked = questions(alloc, world)?;
-    let found = found_words(alloc, kept.found())?;
-    let state = state_words(alloc, kept.sso_state())?;
-    Ok(format!(in alloc; "{asked}-> {answer} {found} {state}")?)
+    match sso_section(kept, alloc, env, &settings(), world) {
+        Ok(token) => counts(alloc, token.access_token.as_str(), kept, world),
+        Err(error) => Ok(format!(in alloc; "{error:?}; ")?),
+    }
 }
 
-// Two holdings, and a third after what was found is given up.
-fn holdings(alloc: Global, env: &Env, lists: DeviceLists) -> Result<String, OutOfMemory>
+fn sso_words(
+    alloc: Global,
+    env: &Env,
+    world: &mut World<ScriptDevices>,
+) -> Result<String, OutOfMemory> {
+    let mut kept = sso_kept(alloc)?;
+    let first = sso_line(alloc, &mut kept, env, world)?;
+    let second = sso_line(alloc, &mut kept, env, world)?;
+    let key = kept.key();
+    Ok(format!(in alloc; "{first}{second}{key:?}")?)
+}
+
+fn login_line(
+    alloc: Global,
+    kept: &mut Kept,
+    env: &Env,
+    world: &mut World<ScriptDevices>,
+) -> Result<String, OutOfMemory>
+    requires { is_login_key (kept_key kept.old) ≡ true }
+    ensures { kept_key kept.new ≡ kept_key kept.old }
+{
+    match login_section(kept, alloc, env, &settings(), world) {
+        Ok(token) => counts(alloc, token.access_token.access_key_id(), kept, world),
+        Err(error) => Ok(format!(in alloc; "{error:?}; ")?),
+    }
+}
+
+fn login_words(
+    alloc: Global,
+    env: &Env,
+    world: &mut World<ScriptDevices>,
+) -> Result<String, OutOfMemory> {
+    let mut kept = login_kept(alloc)?;
+    let first = login_line(alloc, &mut kept, env, world)?;
+    let second = login_line(alloc, &mut kept, env, world)?;
+    let key = kept.key();
+    Ok(format!(in alloc; "{first}{second}{key:?}")?)
+}
+
+fn token_line(
+    alloc: Global,
+    kept: &mut Kept,
+    client: &Client,
+    world: &mut World<ScriptDevices>,
+) -> Result<String, OutOfMemory>
+    requires { endpoint_fault (client_rules repeated client.now).endpoint ≡ none }
+{
+    match imds_token(kept, alloc, Place::Named, client, world) {
+        Ok(token) => {
+            let token = format!(in alloc; "{token:?}")?;
+            counts(alloc, token.as_str(), kept, world)
+        }
+        Err(error) => Ok(format!(in alloc; "{error:?}; ")?),
+    }
+}
+
+fn token_words(alloc: Global, world: &mut World<ScriptDevices>) -> Result<String, OutOfMemory> {
+    let client = Client::builder(alloc)?.build()?;
+    let mut kept = Kept::new(alloc, None);
+    match client.usable("/") {
+        Ok(()) => {
+            let first = token_line(alloc, &mut kept, &client, world)?;
+            let second = token_line(alloc, &mut kept, &client, world)?;
+            Ok(format!(in alloc; "{first}{second}")?)
+        }
+        Err(error) => Ok(format!(in alloc; "{error:?}")?),
+    }
+}
+
+fn words_by(alloc: Global, kind: &str, env: &Env, lists: DeviceLists) -> Result<String, OutOfMemory>
     requires { AllFit lists }
 {
     let devices = ScriptDevices::new(alloc, lists)?;
     let mut world = World::new(alloc, devices);
-    let mut kept = kept(alloc)?;
-    let first = holding_words(alloc, &mut kept, env, &mut world)?;
-    let second = holding_words(alloc, &mut kept, env, &mut world)?;
-    kept.clear_found();
-    let state = state_words(alloc, kept.sso_state())?;
-    let left = kept.found().len();
-    let third = holding_words(alloc, &mut kept, env, &mut world)?;
-    Ok(format!(in alloc; "{first}; {second}; {left} {state}; {third}")?)
+    match kind {
+        "sso" => sso_words(alloc, env, &mut world),
+        "login" => login_words(alloc, env, &mut world),
+        _ => token_words(alloc, &mut world),
+    }
 }
 
-fn holdings_by(alloc: Global, script: Script) -> Result<String, OutOfMemory>
+fn words_over(alloc: Global, kind: &str, script: Script) -> Result<String, OutOfMemory>
     requires { AllFit (lists_of (plain script)) }
 {
     let Script {
@@ -173,46 +176,38 @@ fn holdings_by(alloc: Global, script: Script) -> Result<String, OutOfMemory>
         devices,
     } = script;
     let env = Env::new(alloc, variables)?;
-    holdings(alloc, &env, devices)
+    words_by(alloc, kind, &env, devices)
 }
 
-fn words_of(alloc: Global, script: &str) -> Result<String, OutOfMemory> {
+fn words_of(alloc: Global, kind: &str, script: &str) -> Result<String, OutOfMemory> {
     match read_script(alloc, script.as_bytes()) {
-        Ok(script) => holdings_by(alloc, script),
+        Ok(script) => words_over(alloc, kind, script),
         Err(_) => Ok(String::from_str(alloc, "no script")?),
     }
 }
 
 #[test]
-fn holdings_of_one_keeper(rt: HostRuntime) -> Result<(), Fail> {
-    let loaded =
-        r#"{"variables":[["HOME","/home/u"]],"clock":[0,0,3299,3300,3300],"files":[["/home/u/.aws/sso/cache/a9993e364706816aba3e25717850c26c9cd0d89d.json","{\"accessToken\":\"t\",\"expiresAt\":\"1970-01-01T01:00:00Z\"}"]]}"#;
-    let still =
-        r#"{"variables":[["HOME","/home/u"]],"clock":[0],"files":[["/home/u/.aws/sso/cache/a9993e364706816aba3e25717850c26c9cd0d89d.json","{\"accessToken\":\"t\",\"expiresAt\":\"1970-01-01T01:00:00Z\"}"]]}"#;
-    let refused =
-        r#"{"variables":[["HOME","/home/u"]],"clock":[700,700,730,730,800,800],"files":[["/home/u/.aws/sso/cache/a9993e364706816aba3e25717850c26c9cd0d89d.json","{\"accessToken\":\"t\",\"expiresAt\":\"1970-01-01T00:15:00Z\",\"clientId\":\"i\",\"clientSecret\":\"s\",\"refreshToken\":\"r\",\"registrationExpiresAt\":\"1970-01-02T00:00:00Z\"}"]],"replies":{"create-token":[{"refused":"Other","message":"m"},"dispatch",{"access":"t2","refresh":"r2","expires_in":1000}]}}"#;
-    let homeless = r#"{"clock":[5]}"#;
-    let table: &[(&str, &str)] = &[
+fn holdings(rt: HostRuntime) -> Result<(), Fail> {
+    let table: &[(&str, &str, &str)] = &[
         (
-            loaded,
-            "now read now -> t 3600 (nothing, -1) t 3600, -1, 1; now -> t 3600 (nothing, -1)(t 3600, -1) t 3600, -1, 1; 0 t 3600, -1, 1; now read now -> t 3600 (t 3600, -1) t 3600, -1, 2",
+            "sso",
+            r#"{"variables":[["HOME","/home/u"]],"clock":[700,700,730],"files":[["/home/u/.aws/sso/cache/a9993e364706816aba3e25717850c26c9cd0d89d.json","{\"accessToken\":\"t\",\"expiresAt\":\"1970-01-01T00:15:00Z\",\"clientId\":\"i\",\"clientSecret\":\"s\",\"refreshToken\":\"r\",\"registrationExpiresAt\":\"1970-01-02T00:00:00Z\"}"]],"replies":{"create-token":[{"access":"t2","refresh":"r2","expires_in":1000}]}}"#,
+            r#"t2 5 1; t2 1 2; Some(Sso { session: "abc", region: "us-east-1", start_url: "u" })"#,
         ),
         (
-            still,
-            "now read now -> t 3600 (nothing, -1) t 3600, -1, 1; now -> t 3600 (nothing, -1)(t 3600, -1) t 3600, -1, 1; 0 t 3600, -1, 1; now -> t 3600 (t 3600, -1) t 3600, -1, 1",
+            "login",
+            r#"{"variables":[["AWS_LOGIN_CACHE_DIRECTORY","/c"]],"clock":[700,700,730],"files":[["/c/ba7816bf8f01cfea414140de5dae2223b00361a396177a9cb410ff61f20015ad.json","{\"accessToken\":{\"accessKeyId\":\"AK\",\"secretAccessKey\":\"SK\",\"sessionToken\":\"ST\",\"accountId\":\"012345678901\",\"expiresAt\":\"1970-01-01T00:15:00Z\"},\"refreshToken\":\"rt\",\"clientId\":\"ci\",\"dpopKey\":\"dk\"}"]],"replies":{"sign-in":[{"id":"AK2","secret":"SK2","token":"ST2","refresh":"rt2","expires_in":930}]}}"#,
+            r#"AK2 5 1; AK2 1 2; Some(Login { session: "abc" })"#,
         ),
         (
-            refused,
-            "now read now send -> t 900 (nothing, -1) t 900, 700, 1; now read now send -> t 900 (nothing, -1)(t 900, 700) t 900, 730, 2; 0 t 900, 730, 2; now read now send write -> t2 1800 (t 900, 730) t2 1800, 800, 3",
-        ),
-        (
-            homeless,
-            "now -> FailedToLoadToken(NoHomeDirectory) (nothing, -1) nothing, -1, 1; now -> FailedToLoadToken(NoHomeDirectory) (nothing, -1)(nothing, -1) nothing, -1, 2; 0 nothing, -1, 2; now -> FailedToLoadToken(NoHomeDirectory) (nothing, -1) nothing, -1, 3",
+            "metadata",
+            r#"{"clock":[0,0,1],"replies":{"imds-token":[[200,[["x-aws-ec2-metadata-token-ttl-seconds","200"]],"t"]]}}"#,
+            "[116] 3 1; [116] 1 2; ",
         ),
     ];
-    for (script, want) in table {
-        let words = words_of(rt.alloc(), *script)?;
-        assert_eq!(rt; words.as_str(), *want);
+    for (kind, script, want) in table {
+        let words = words_of(rt.alloc(), kind, script)?;
+        assert_eq!(rt; words.as_str(), *want, "{kind}");
     }
     Ok(())
 }

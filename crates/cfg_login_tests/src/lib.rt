@@ -6,8 +6,4 @@ mod files;
 #[cfg(test)]
 mod paths;
 #[cfg(test)]
-mod refreshes;
-#[cfg(test)]
 mod sections;
-#[cfg(test)]
-mod written;

@@ -2,6 +2,8 @@
 ghost use Rattle.std.specs.Prelude.{◌≡◌, IfOk, true, false};
 ghost use Rattle.cfg_keeping.specs.Clients.{client_rules};
 ghost use Rattle.cfg_keeping.specs.Holds.{HoldsFollows, HoldsBreaks};
+ghost use Rattle.cfg_keeping.specs.KeptStates.{states_of};
+ghost use Rattle.cfg_keeping.specs.Kinds.{place_states};
 ghost use Rattle.cfg_providers.specs.Provides.{is_memory};
 ghost use Rattle.cfg_metadata.specs.Settings.{setting};
 ghost use Rattle.cfg_metadata.specs.Metadata.{metadata};
@@ -10,8 +12,8 @@ ghost use Rattle.cfg_metadata.specs.Provides.{ProvidesMetadata};
 use crate::builder::Builder;
 use crate::follow::follow_metadata;
 use cfg_imds::Client;
-use cfg_keeping::{Keeper, Place};
-use cfg_types::{Credentials, CredentialsError, OutOfMemory, Text};
+use cfg_keeping::{Keeper, Kept, Place};
+use cfg_types::{Credentials, CredentialsError, OutOfMemory, Text, TryCopy};
 use cfg_world::{Asking, Devices, Stop, World};
 use std::alloc::Global;
 
@@ -113,6 +115,17 @@ impl ImdsCredentialsProvider {
         match self.follow(keeper, world) {
             Ok(outcome) => outcome,
             Err(_) => Err(CredentialsError::OutOfMemory),
+        }
+    }
+
+    /// What a caller may use where a call was interrupted: the credentials that were last retrieved for
+    /// the provider's place, if any were. Nothing is asked, and what is kept stays.
+    pub fn fallback_on_interrupt(&self, kept: &Kept) -> Result<Option<Credentials>, OutOfMemory>
+        ensures { IfOk result (λ c. c ≡ (place_states (states_of kept.now) (setting_of repeated self.now).place).retrieved) }
+    {
+        match kept.retrieved_for(self.place) {
+            None => Ok(None),
+            Some(retrieved) => Ok(Some(retrieved.credentials().copy(self.alloc)?)),
         }
     }
 }

@@ -2,12 +2,6 @@
 #![tactic(auto)]
 
 #[cfg(test)]
-mod documents;
-#[cfg(test)]
-mod keeping;
-#[cfg(test)]
-mod requests;
+mod calls;
 #[cfg(test)]
 mod setup;
-#[cfg(test)]
-mod switches;

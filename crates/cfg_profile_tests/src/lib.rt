@@ -6,10 +6,4 @@ mod chains;
 #[cfg(test)]
 mod configurations;
 #[cfg(test)]
-mod generated;
-#[cfg(test)]
-mod plans;
-#[cfg(test)]
-mod regions;
-#[cfg(test)]
 mod sets;

@@ -10,7 +10,7 @@ use Rattle.cfg_script.specs.Devices.{lists_of}
 use Rattle.cfg_program.specs.declared.status.Status.{Status}
 use Rattle.cfg_program.specs.declared.status.Status.TheVariants as status
 use Rattle.cfg_program.specs.declared.words.Word.{Word}
-use Rattle.cfg_program.specs.declared.words.Word.TheVariants.{Help, Version, Resolve, Why, Region, Local, Generate}
+use Rattle.cfg_program.specs.declared.words.Word.TheVariants.{Help, Version, Resolve, Why, Region, Token, Local, Generate}
 use Rattle.cfg_program.specs.declared.lines.LineForm.{LineForm}
 use Rattle.cfg_program.specs.declared.lines.LineForm.TheVariants as form
 use Rattle.cfg_program.specs.declared.input.TheConstants.{LIMIT}
@@ -18,6 +18,7 @@ use Rattle.cfg_program.specs.Texts.{help_text, version_text}
 use Rattle.cfg_program.specs.Inputs.{IsTooLong}
 use Rattle.cfg_program.specs.Scripts.{reads_input, script_for, script_of_one_call}
 use Rattle.cfg_program.specs.Regions.{RegionAnswers}
+use Rattle.cfg_program.specs.Tokens.{TokenAnswers}
 use Rattle.cfg_program.specs.Calls.{Answers, configuration_of}
 use Rattle.cfg_program.specs.Local.{Handed, LocalAnswers, local_configuration}
 use Rattle.cfg_program.specs.Generated.{generated_configuration, generated_lists, GeneratedLineWritten}
@@ -27,6 +28,7 @@ use Rattle.cfg_program.proofs.Pieces.{none_grown}
 use Rattle.cfg_program.proofs.OneList.{one_list}
 use Rattle.cfg_program.proofs.OneLine.{one_line, one_part}
 use Rattle.cfg_program.proofs.OneRegion.{one_region}
+use Rattle.cfg_program.proofs.OneToken.{one_token}
 
 -- the status of lines
 abbrev status_of : Bool → Status
@@ -292,6 +294,7 @@ module _ (handed : Handed) where
   alike one other (Some Resolve) s t known same gain u v a b = alike_reading script_of (Answers handed.sources form.Call) (one_answer handed form.Call) one other s t known same u v a b
   alike one other (Some Why) s t known same gain u v a b = alike_reading script_of (Answers handed.sources form.Why) (one_answer handed form.Why) one other s t known same u v a b
   alike one other (Some Region) s t known same gain u v a b = alike_reading script_of_one_call RegionAnswers one_region one other s t known same u v a b
+  alike one other (Some Token) s t known same gain u v a b = alike_reading script_of_one_call TokenAnswers one_token one other s t known same u v a b
   alike one other (Some Local) s t known same gain u v a b = alike_locally handed one.sink other.sink one.world other.world gain.0 s t u v gain.1 gain.2 a b
   alike one other (Some (Generate n)) s t known same gain u v a b = alike_generating one.sink other.sink n s t u v a b
 
@@ -302,6 +305,7 @@ module _ (handed : Handed) where
   exclude_one_another seen (Some Resolve) one other known t u a b = (alike_reading script_of (Answers handed.sources form.Call) (one_answer handed form.Call) seen seen one other known refl t u a b).0
   exclude_one_another seen (Some Why) one other known t u a b = (alike_reading script_of (Answers handed.sources form.Why) (one_answer handed form.Why) seen seen one other known refl t u a b).0
   exclude_one_another seen (Some Region) one other known t u a b = (alike_reading script_of_one_call RegionAnswers one_region seen seen one other known refl t u a b).0
+  exclude_one_another seen (Some Token) one other known t u a b = (alike_reading script_of_one_call TokenAnswers one_token seen seen one other known refl t u a b).0
   exclude_one_another seen (Some Local) one other known t u a b =
       let gain = gained_by seen.sink seen.world handed one t a in
       (alike_locally handed seen.sink seen.sink seen.world seen.world gain.0 one other t u gain.1 gain.1 a b).0
@@ -313,6 +317,7 @@ module _ (handed : Handed) where
   comes_where_called_for seen Resolve cause ended known r h t ends = comes_where_called script_of (Answers handed.sources form.Call) seen cause ended known h t ends
   comes_where_called_for seen Why cause ended known r h t ends = comes_where_called script_of (Answers handed.sources form.Why) seen cause ended known h t ends
   comes_where_called_for seen Region cause ended known r h t ends = comes_where_called script_of_one_call RegionAnswers seen cause ended known h t ends
+  comes_where_called_for seen Token cause ended known r h t ends = comes_where_called script_of_one_call TokenAnswers seen cause ended known h t ends
   comes_where_called_for seen Local cause ended known r h t ends = cc
   comes_where_called_for seen (Generate n) cause ended known r h t ends = cc
 
@@ -376,5 +381,6 @@ run_comes seen handed (Some Version) s ends = telling_comes seen.sink version_te
 run_comes seen handed (Some Resolve) s ends = reading_comes seen.source seen.sink script_of (Answers handed.sources form.Call) s ends
 run_comes seen handed (Some Why) s ends = reading_comes seen.source seen.sink script_of (Answers handed.sources form.Why) s ends
 run_comes seen handed (Some Region) s ends = reading_comes seen.source seen.sink script_of_one_call RegionAnswers s ends
+run_comes seen handed (Some Token) s ends = reading_comes seen.source seen.sink script_of_one_call TokenAnswers s ends
 run_comes seen handed (Some Local) s ends = local_comes seen.sink seen.world handed s ends
 run_comes seen handed (Some (Generate n)) s ends = generating_comes seen.sink n s ends

@@ -10,6 +10,7 @@ pub mod Calls
 pub mod Written
 pub mod Local
 pub mod Regions
+pub mod Tokens
 pub mod Generated
 pub mod Run
 pub mod Exclusion

@@ -7,7 +7,7 @@ use Rattle.cfg_script.specs.Script.{Plain}
 use Rattle.cfg_program.specs.declared.status.Status.{Status}
 use Rattle.cfg_program.specs.declared.status.Status.TheVariants as status
 use Rattle.cfg_program.specs.declared.words.Word.{Word}
-use Rattle.cfg_program.specs.declared.words.Word.TheVariants.{Help, Version, Resolve, Why, Region, Local, Generate}
+use Rattle.cfg_program.specs.declared.words.Word.TheVariants.{Help, Version, Resolve, Why, Region, Token, Local, Generate}
 use Rattle.cfg_program.specs.declared.lines.LineForm.TheVariants as form
 use Rattle.cfg_program.specs.Texts.{help_text, version_text}
 use Rattle.cfg_program.specs.declared.input.TheConstants.{LIMIT}
@@ -16,6 +16,7 @@ use Rattle.cfg_program.specs.Inputs.{IsTooLong}
 use Rattle.cfg_program.specs.Calls.{Answers}
 use Rattle.cfg_program.specs.Scripts.{script_for}
 use Rattle.cfg_program.specs.Regions.{RegionAnswers}
+use Rattle.cfg_program.specs.Tokens.{TokenAnswers}
 use Rattle.cfg_program.specs.Local.{Handed, LocalAnswers}
 use Rattle.cfg_program.specs.Generated.{GeneratedWritten}
 use Rattle.cfg_program.specs.Written.{TextWritten, LinesWritten}
@@ -150,5 +151,6 @@ EndsRun seen handed (Some Version) ended = EndsTelling seen.sink version_text en
 EndsRun seen handed (Some Resolve) ended = EndsReading seen.source seen.sink (script_for Resolve) (Answers handed.sources form.Call) ended
 EndsRun seen handed (Some Why) ended = EndsReading seen.source seen.sink (script_for Why) (Answers handed.sources form.Why) ended
 EndsRun seen handed (Some Region) ended = EndsReading seen.source seen.sink (script_for Region) RegionAnswers ended
+EndsRun seen handed (Some Token) ended = EndsReading seen.source seen.sink (script_for Token) TokenAnswers ended
 EndsRun seen handed (Some Local) ended = EndsLocal seen.sink seen.world handed ended
 EndsRun seen handed (Some (Generate n)) ended = EndsGenerating seen.sink n ended

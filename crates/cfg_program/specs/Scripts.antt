@@ -3,7 +3,7 @@ use Rattle.std.specs.Prelude.{ℕ, ◌==◌, List, Bool, true, false, Option, So
 use Rattle.cfg_script.specs.Script.{Plain}
 use Rattle.cfg_script.specs.Reading.{script_of}
 use Rattle.cfg_program.specs.declared.words.Word.{Word}
-use Rattle.cfg_program.specs.declared.words.Word.TheVariants.{Resolve, Why, Region}
+use Rattle.cfg_program.specs.declared.words.Word.TheVariants.{Resolve, Why, Region, Token}
 
 -- a script of one call
 abbrev pub of_one_call : Option Plain → Option Plain
@@ -19,9 +19,11 @@ abbrev pub reads_input : Word → Bool
 reads_input Resolve = true
 reads_input Why = true
 reads_input Region = true
+reads_input Token = true
 reads_input _ = false
 
 -- what a word that does reads bytes as
 abbrev pub script_for : Word → List ℕ → Option Plain
 script_for Region bytes = script_of_one_call bytes
+script_for Token bytes = script_of_one_call bytes
 script_for word bytes = script_of bytes

@@ -3,7 +3,7 @@ use Rattle.std.specs.Prelude.{ℕ, ◌+◌, ◌-◌, ◌*◌, nat_lt, List, [], 
 use Rattle.std.specs.Str.{all_ascii_digits}
 use Rattle.cfg_program.specs.Lines.{digit_zero}
 use Rattle.cfg_program.specs.declared.words.Word.{Word}
-use Rattle.cfg_program.specs.declared.words.Word.TheVariants.{Help, Version, Resolve, Why, Region, Local, Generate}
+use Rattle.cfg_program.specs.declared.words.Word.TheVariants.{Help, Version, Resolve, Why, Region, Token, Local, Generate}
 use Rattle.cfg_program.specs.declared.words.TheConstants.{MOST_PROFILES}
 
 -- the number that decimal digits write behind those of n
@@ -31,9 +31,10 @@ word_named (word ∷ []) =
     if bytes_eq word (codes "resolve") then Some Resolve
     else (if bytes_eq word (codes "why") then Some Why
     else (if bytes_eq word (codes "region") then Some Region
+    else (if bytes_eq word (codes "token") then Some Token
     else (if bytes_eq word (codes "local") then Some Local
     else (if bytes_eq word (codes "--help") then Some Help
-    else (if bytes_eq word (codes "--version") then Some Version else None)))))
+    else (if bytes_eq word (codes "--version") then Some Version else None))))))
 word_named (word ∷ number ∷ []) = if bytes_eq word (codes "generate") then option_map Generate (count_of number) else None
 word_named (word ∷ number ∷ other ∷ words) = None
 

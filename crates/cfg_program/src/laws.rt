@@ -13,6 +13,7 @@ ghost use Rattle.cfg_program.specs.Generated.{GeneratedAnswers};
 ghost use Rattle.cfg_program.specs.Run.{Seen, EndsRun};
 ghost use Rattle.cfg_program.specs.Scripts.{reads_input, script_for};
 ghost use Rattle.cfg_program.specs.Regions.{RegionAnswers};
+ghost use Rattle.cfg_program.specs.Tokens.{TokenAnswers};
 ghost use Rattle.cfg_program.specs.Local.{Handed, LocalAnswers};
 ghost use Rattle.cfg_program.specs.Exclusion.{BytesAreKnown, AppendTheSame, GainTheSame, CallsFor, depends_on_input, comes};
 
@@ -33,6 +34,12 @@ pub fn one_script_has_one_list_of_lines()
 pub fn one_script_has_one_region()
     ensures { (script : Plain) (is_there is_other : Bool) (line other : List ℕ) →
         RegionAnswers script is_there line → RegionAnswers script is_other other → (is_there ≡ is_other) × (line ≡ other) }
+{}
+
+/// A script has one line of its default token chain, and one status.
+pub fn one_script_has_one_token()
+    ensures { (script : Plain) (is_token is_other : Bool) (line other : List ℕ) →
+        TokenAnswers script is_token line → TokenAnswers script is_other other → (is_token ≡ is_other) × (line ≡ other) }
 {}
 
 /// The call over what is handed in has one line, and one status, for what the world's journal gained.

@@ -1,5 +1,6 @@
 //! The program without its process: `run` does what the words ask for, over any source, sink and
-//! world, and answers how it ended. It stands on cfg_chain, cfg_region, cfg_script and cfg_causes.
+//! world, and answers how it ended. It stands on cfg_chain, cfg_region, cfg_bearer, cfg_script and
+//! cfg_causes.
 #![tactic(auto)]
 
 mod causes;
@@ -15,6 +16,7 @@ mod region;
 mod resolve;
 pub mod run;
 mod status;
+mod token;
 mod words;
 
 pub use input::LIMIT;

@@ -1,6 +1,7 @@
 //! The calls that a script describes.
-ghost use Rattle.std.specs.Prelude.{◌≡◌, IfOk, option_map, string_bytes};
+ghost use Rattle.std.specs.Prelude.{◌≡◌, [], IfOk, OnErr, option_map, string_bytes};
 ghost use Rattle.cfg_values.specs.Text.{characters};
+ghost use Rattle.cfg_world.specs.Grows.{Grows, Stays};
 ghost use Rattle.cfg_world.specs.Script.{AllFit};
 ghost use Rattle.cfg_keeping.specs.KeptStates.{states_of, kept_key};
 ghost use Rattle.cfg_chain.specs.Sources.{named_sources};
@@ -87,11 +88,11 @@ pub fn chain_of<D: Devices>(
     world: &mut World<D>,
 ) -> Result<DefaultCredentialsChain, OutOfMemory>
     ensures chain { IfOk result (λ chain. chain ≡ record config { region = region }) }
-    ensures world { world.new ≡ world.old }
+    ensures world { IfOk result (λ chain. Grows ⟦<D as Devices>⟧ [] world.old world.new) }
+    ensures stays { OnErr result (Stays ⟦<D as Devices>⟧ [] world.old world.new) }
 {
-    let mut builder = DefaultCredentialsChain::builder(alloc)?.configure(config);
-    builder.set_region(Some(RegionSource::Fixed(region)));
-    builder.build(world)
+    let builder = DefaultCredentialsChain::builder(alloc)?.configure(config);
+    builder.region(RegionSource::Fixed(region)).build(world)
 }
 
 // So many calls of the chain, one after another, and their lines.

@@ -10,6 +10,7 @@ ghost use Rattle.cfg_program.specs.Scripts.{reads_input, script_of_one_call};
 ghost use Rattle.cfg_program.specs.Written.{TextWritten, LinesWritten};
 ghost use Rattle.cfg_program.specs.Calls.{Answers};
 ghost use Rattle.cfg_program.specs.Regions.{RegionAnswers};
+ghost use Rattle.cfg_program.specs.Tokens.{TokenAnswers};
 ghost use Rattle.cfg_program.specs.Local.{LeavesWorld, WorldAfter};
 ghost use Rattle.cfg_program.specs.Run.{EndsRun, EndsReading, EndsUnread, EndsLocal, IsScript, source_seen, sink_seen, world_seen};
 ghost use Rattle.cfg_program.specs.Exclusion.{comes};
@@ -25,6 +26,7 @@ use crate::output::write_all;
 use crate::region::find_region;
 use crate::resolve::resolve;
 use crate::status::Status;
+use crate::token::find_token;
 use crate::words::{HELP, VERSION, Word, word_of};
 use cfg_chain::CustomSource;
 use cfg_script::{Script, ScriptError, read_script};
@@ -33,8 +35,8 @@ use cfg_world::{Devices, Sink, Source, StreamFault, World};
 use std::alloc::Global;
 
 /// Does what the words ask for: tells a text, or reads a script from the source and writes the lines
-/// of its calls, or of its default region chain, to the sink, or writes the line of the call over a set of profiles that comes from a
-/// number, or of the call over `env` and the world. The words are tested first: without one that reads a
+/// of its calls, or of its default region or token chain, to the sink, or writes the line of the call
+/// over a set of profiles that comes from a number, or of the call over `env` and the world. The words are tested first: without one that reads a
 /// script the source stays as it was, and for an unknown command the sink too. Nothing is written before
 /// the script was read to its end. Profiles find the sources in `custom` by `credential_source`, but for
 /// those of `generate`. The word `local` alone asks the world, whose journal gains its questions; without
@@ -68,6 +70,7 @@ pub fn run<S: Source, K: Sink, D: Devices>(
         Some(Word::Resolve) => resolve_script(alloc, source, sink, custom, LineForm::Call),
         Some(Word::Why) => resolve_script(alloc, source, sink, custom, LineForm::Why),
         Some(Word::Region) => region_line(alloc, source, sink),
+        Some(Word::Token) => token_line(alloc, source, sink),
         Some(Word::Local) => local_line(alloc, sink, env, world, custom),
         Some(Word::Generate(n)) => generate_line(alloc, n, sink),
     }
@@ -109,6 +112,19 @@ fn region_line<S: Source, K: Sink>(alloc: Global, source: &mut S, sink: &mut K) 
 {
     match one_call_in(alloc, source) {
         Ok(script) => match find_region(alloc, script) {
+            Ok(answered) => write_lines(sink, &answered),
+            Err(OutOfMemory) => Status::OutOfMemory,
+        },
+        Err(ended) => ended,
+    }
+}
+
+// Reads a script of one call, makes the call of its default token chain, and writes its line.
+fn token_line<S: Source, K: Sink>(alloc: Global, source: &mut S, sink: &mut K) -> Status
+    ensures { EndsReading (source_seen (S.left source.old) (S.left source.new) (S.faults source.old) (S.faults source.new)) (sink_seen (K.written sink.old) (K.written sink.new) (K.faults sink.old) (K.faults sink.new)) script_of_one_call TokenAnswers result }
+{
+    match one_call_in(alloc, source) {
+        Ok(script) => match find_token(alloc, script) {
             Ok(answered) => write_lines(sink, &answered),
             Err(OutOfMemory) => Status::OutOfMemory,
         },

@@ -12,6 +12,8 @@ pub enum Word {
     Why,
     /// The region that a script's default region chain gives.
     Region,
+    /// The bearer token that a script's default token chain gives.
+    Token,
     /// One call over the variables and the world that are handed in.
     Local,
     /// The call over a set of so many profiles.
@@ -31,6 +33,7 @@ bujerova: AWS credentials by a script, as the SDK's default chain finds them
 usage: bujerova resolve < SCRIPT     a line for each call that the script describes
        bujerova why < SCRIPT         the same, and below an error what it comes of
        bujerova region < SCRIPT      a line for the region of the script's default region chain
+       bujerova token < SCRIPT       a line for the token of the script's default token chain
        bujerova local                one line for a call over the variables and files here
        bujerova generate N           one line for a call over N profiles, 1 to 1000
        bujerova --help | --version
@@ -44,6 +47,7 @@ pub const USAGE: &str = "\
 usage: bujerova resolve < SCRIPT
        bujerova why < SCRIPT
        bujerova region < SCRIPT
+       bujerova token < SCRIPT
        bujerova local
        bujerova generate N
        bujerova --help | --version";
@@ -70,6 +74,8 @@ fn named(word: &str) -> Option<Word>
         Some(Word::Why)
     } else if word == "region" {
         Some(Word::Region)
+    } else if word == "token" {
+        Some(Word::Token)
     } else if word == "local" {
         Some(Word::Local)
     } else if word == "--help" {

@@ -5,5 +5,3 @@
 mod own;
 #[cfg(test)]
 mod program;
-#[cfg(test)]
-mod words;

@@ -45,37 +45,33 @@ fn sources(alloc: Global) -> Result<Vec<CustomSource>, OutOfMemory> {
     let mut sources = Vec::new(alloc);
     sources.push(source(alloc, "Mine", "first")?)?;
     sources.push(source(alloc, "mine", "second")?)?;
-    sources.push(source(alloc, " x", "third")?)?;
     Ok(sources)
 }
 
+// The names of the sources, and what the one that is meant answers.
 fn words_of(alloc: Global, name: &str) -> Result<String, OutOfMemory> {
     let sources = sources(alloc)?;
+    let names = names_of(alloc, sources.as_slice())?;
     let name = Text::of(alloc, name)?;
     match provide_by_name(sources.as_slice(), &name) {
-        None => Ok(String::from_str(alloc, "none")?),
+        Some(Err(error)) => Ok(format!(in alloc; "{names:?} {error:?}")?),
         Some(Ok(credentials)) => Ok(format!(in alloc; "{credentials:?}")?),
-        Some(Err(error)) => Ok(format!(in alloc; "{error:?}")?),
+        None => Ok(String::from_str(alloc, "none")?),
     }
 }
 
 #[test]
 fn custom_sources(rt: HostRuntime) -> Result<(), Fail> {
-    let alloc = rt.alloc();
     let table: &[(&str, &str)] = &[
-        ("MINE", r#"CredentialsNotLoaded(NotSet("second"))"#),
-        ("Mine", r#"CredentialsNotLoaded(NotSet("second"))"#),
-        (" X", r#"CredentialsNotLoaded(NotSet("third"))"#),
-        ("X", "none"),
+        (
+            "MINE",
+            r#"["Mine", "mine"] CredentialsNotLoaded(NotSet("second"))"#,
+        ),
         ("mine ", "none"),
-        ("", "none"),
     ];
     for (name, want) in table {
-        let words = words_of(alloc, name)?;
+        let words = words_of(rt.alloc(), name)?;
         assert_eq!(rt; words.as_str(), *want, "{name}");
     }
-    let names = names_of(alloc, sources(alloc)?.as_slice())?;
-    let names = format!(in alloc; "{names:?}")?;
-    assert_eq!(rt; names.as_str(), r#"["Mine", "mine", " x"]"#);
     Ok(())
 }

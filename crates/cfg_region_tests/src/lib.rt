@@ -2,12 +2,6 @@
 #![tactic(auto)]
 
 #[cfg(test)]
-mod chains;
-#[cfg(test)]
-mod configurations;
-#[cfg(test)]
-mod metadata;
+mod regions;
 #[cfg(test)]
 mod setup;
-#[cfg(test)]
-mod single;

@@ -1,64 +1,47 @@
-//! What a script gives a source of a region, and what its call answers and asks.
+//! What a script gives a source of a region.
 ghost use Rattle.cfg_world.specs.Script.{AllFit};
 ghost use Rattle.cfg_script.specs.Script.{plain};
 ghost use Rattle.cfg_script.specs.Devices.{lists_of};
 
 use cfg_profile::{ProfileSet, ProfileSource, ProviderConfig, Section};
 use cfg_script::{Script, ScriptProfiles, read_script};
-use cfg_types::{Env, EnvText, OutOfMemory, Region, Request};
-use cfg_world::{DeviceLists, Entry, Question, ScriptDevices};
-use std::alloc::{AllocError, Global};
+use cfg_types::{Env, OutOfMemory};
+use cfg_world::{DeviceLists, ScriptDevices, World};
+use std::alloc::Global;
 
-/// A configuration, and devices for its calls.
+/// A configuration, and a world over devices for its calls.
 pub(crate) struct Setup {
     pub(crate) config: ProviderConfig,
-    pub(crate) devices: ScriptDevices,
+    pub(crate) world: World<ScriptDevices>,
 }
 
-fn sections(
-    alloc: Global,
-    given: Vec<(String, Vec<(String, String)>)>,
-) -> Result<Vec<Section>, OutOfMemory> {
+fn profiles_of(alloc: Global, given: ScriptProfiles) -> Result<ProfileSource, OutOfMemory> {
     let mut sections = Vec::new(alloc);
-    for (name, properties) in given {
-        sections.push(Section::of(name, properties))?;
-    }
-    Ok(sections)
-}
-
-fn source(alloc: Global, profiles: ScriptProfiles) -> Result<ProfileSource, OutOfMemory> {
-    match profiles {
-        ScriptProfiles::Refused(reason) => Ok(ProfileSource::Refused(reason)),
+    match given {
+        ScriptProfiles::Refused(reason) => return Ok(ProfileSource::Refused(reason)),
         ScriptProfiles::Sections {
             profiles,
             sessions: _,
         } => {
-            let profiles = sections(alloc, profiles)?;
-            let set = ProfileSet::new(alloc, profiles, Vec::new(alloc), "default")?;
-            Ok(ProfileSource::Sections(set))
+            for (name, properties) in profiles {
+                sections.push(Section::of(name, properties))?;
+            }
         }
     }
+    let set = ProfileSet::new(alloc, sections, Vec::new(alloc), "default")?;
+    Ok(ProfileSource::Sections(set))
 }
 
-fn configuration(
+fn set_up_over(
     alloc: Global,
-    variables: Vec<(String, EnvText)>,
-    profiles: ScriptProfiles,
-    selected: Option<String>,
-) -> Result<ProviderConfig, OutOfMemory> {
-    let config = ProviderConfig::empty(alloc)?
-        .with_env(Env::new(alloc, variables)?)
-        .with_profiles(source(alloc, profiles)?);
-    match selected {
-        None => Ok(config),
-        Some(name) => config.with_profile_name(alloc, name.as_str()),
-    }
-}
-
-fn devices(alloc: Global, lists: DeviceLists) -> Result<ScriptDevices, OutOfMemory>
+    config: ProviderConfig,
+    lists: DeviceLists,
+) -> Result<Setup, OutOfMemory>
     requires { AllFit lists }
 {
-    ScriptDevices::new(alloc, lists)
+    let devices = ScriptDevices::new(alloc, lists)?;
+    let world = World::new(alloc, devices);
+    Ok(Setup { config, world })
 }
 
 fn set_up_by(alloc: Global, script: Script) -> Result<Setup, OutOfMemory>
@@ -67,66 +50,22 @@ fn set_up_by(alloc: Global, script: Script) -> Result<Setup, OutOfMemory>
     let Script {
         variables,
         profiles,
-        selected,
+        selected: _,
         region: _,
         sleep: _,
         calls: _,
-        devices: lists,
+        devices,
     } = script;
-    let devices = devices(alloc, lists)?;
-    let config = configuration(alloc, variables, profiles, selected)?;
-    Ok(Setup { config, devices })
+    let env = Env::new(alloc, variables)?;
+    let profiles = profiles_of(alloc, profiles)?;
+    let config = ProviderConfig::empty(alloc)?;
+    set_up_over(alloc, config.with_env(env).with_profiles(profiles), devices)
 }
 
-/// The configuration of a script, and the devices that it scripts. None for what is no script.
+/// The configuration of a script, and a world over its devices. None for what is no script.
 pub(crate) fn set_up(alloc: Global, script: &str) -> Result<Option<Setup>, OutOfMemory> {
     match read_script(alloc, script.as_bytes()) {
         Ok(script) => Ok(Some(set_up_by(alloc, script)?)),
         Err(_) => Ok(None),
     }
 }
-
-fn kind_of(question: &Question) -> &'static str {
-    match question {
-        Question::Now => " now",
-        Question::Send(Request::MetadataToken(_)) => " imds-token",
-        Question::Send(Request::MetadataGet(_)) => " imds-get",
-        _ => " other",
-    }
-}
-
-/// The kinds of the questions of a journal, in order.
-pub(crate) fn kinds(alloc: Global, journal: &[Entry]) -> Result<String, AllocError> {
-    let mut words = String::new(alloc);
-    for entry in journal {
-        words.push_str(kind_of(entry.question()))?;
-    }
-    Ok(words)
-}
-
-/// A region, and what was asked for it.
-pub(crate) fn told(
-    alloc: Global,
-    region: Option<&Region>,
-    journal: &[Entry],
-) -> Result<String, OutOfMemory> {
-    let asked = kinds(alloc, journal)?;
-    match region {
-        None => Ok(format!(in alloc; "none{asked}")?),
-        Some(region) => {
-            let region = region.as_str();
-            Ok(format!(in alloc; "={region}{asked}")?)
-        }
-    }
-}
-
-/// A script of these members, whose service gives two session tokens, and then answers these gets.
-pub(crate) fn metadata(alloc: Global, members: &str, gets: &str) -> Result<String, AllocError> {
-    let token = r#"[200,[["x-aws-ec2-metadata-token-ttl-seconds","21600"]],"t"]"#;
-    format!(in alloc;
-        r#"{{{members}"replies":{{"imds-token":[{token},{token}],"imds-get":{gets}}}}}"#
-    )
-}
-
-/// Metadata is switched off.
-pub(crate) const OFF: &str = r#"["AWS_EC2_METADATA_DISABLED","true"]"#;

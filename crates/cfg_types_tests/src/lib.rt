@@ -4,30 +4,14 @@
 #[cfg(test)]
 mod addresses;
 #[cfg(test)]
-mod cached_tokens;
-#[cfg(test)]
-mod causes;
-#[cfg(test)]
-mod commands;
-#[cfg(test)]
-mod credentials;
-#[cfg(test)]
-mod environment;
-#[cfg(test)]
-mod metadata_errors;
-#[cfg(test)]
-mod moments;
-#[cfg(test)]
-mod profile_errors;
-#[cfg(test)]
-mod provider_errors;
+mod errors;
 #[cfg(test)]
 mod replies;
 #[cfg(test)]
 mod requests;
 #[cfg(test)]
-mod secrets;
+mod shown;
 #[cfg(test)]
 mod texts;
 #[cfg(test)]
-mod tokens;
+mod values;

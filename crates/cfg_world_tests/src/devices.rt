@@ -1,204 +1,140 @@
-// What no clause says: worked examples of what scripted devices answer.
-use crate::answers::answer_words;
-use crate::lists::full;
+// What no clause says: worked examples of what devices answer, and that they answer.
+ghost use Rattle.cfg_world.specs.Script.{AllFit};
+ghost use Rattle.cfg_script.specs.Script.{plain};
+ghost use Rattle.cfg_script.specs.Devices.{lists_of};
+
 use crate::questions::question;
-use cfg_types::OutOfMemory;
-use cfg_world::{DeviceLists, Devices, FaultDevices, ScriptDevices, World};
-use std::alloc::Global;
+use cfg_script::{Script, ScriptError, read_script};
+use cfg_types::{Instant, OutOfMemory};
+use cfg_world::{Answer, DeviceLists, Devices, FaultDevices, HandedDevices, ScriptDevices, World};
+use std::alloc::{AllocError, Global};
+use std::str;
 use std::test::Fail;
 
-/// The answer to a question, from its receipt.
-pub(crate) fn asked<D: Devices>(
-    alloc: Global,
-    words: &str,
-    world: &mut World<D>,
-) -> Result<String, OutOfMemory> {
-    let question = question(alloc, words)?;
-    let receipt = world.ask(question)?;
-    Ok(answer_words(alloc, receipt.entry().answer())?)
+/// What was answered.
+pub(crate) fn answer_words(alloc: Global, answer: &Answer) -> Result<String, AllocError> {
+    match answer {
+        Answer::Moment(moment) => format!(in alloc; "{}", moment.seconds()),
+        Answer::Jitter(number) => format!(in alloc; "{number}"),
+        Answer::Contents(bytes) => {
+            String::from_str(alloc, str::from_utf8(bytes.as_slice()).unwrap_or("no text"))
+        }
+        Answer::Written => String::from_str(alloc, "written"),
+        Answer::Finished(finished) => format!(in alloc; "ended {}", finished.status),
+        Answer::Addresses(addresses) => format!(in alloc; "{addresses:?}"),
+        Answer::Replied(_) => String::from_str(alloc, "replied"),
+        Answer::Failed(kind) => format!(in alloc; "{kind:?}"),
+    }
 }
 
-fn scripted(alloc: Global) -> Result<ScriptDevices, OutOfMemory> {
-    let lists = full(alloc)?;
+fn devices_of(alloc: Global, lists: DeviceLists) -> Result<ScriptDevices, OutOfMemory>
+    requires { AllFit lists }
+{
     ScriptDevices::new(alloc, lists)
 }
 
-#[test]
-fn each_list_is_answered_from_in_order(rt: HostRuntime) -> Result<(), Fail> {
-    let table: &[(&str, &str)] = &[
-        ("now", "5"),
-        ("jitter", "8"),
-        ("now", "7"),
-        ("now", "7"),
-        ("jitter", "9"),
-        ("jitter", "0"),
-        ("run x", "ended 0"),
-        ("look-up h", "[V4(1), V6(2)]"),
-        ("run y", "Io"),
-        ("run x", "ended 3"),
-        ("run x", "Io"),
-        ("look-up h", "Io"),
-        ("look-up i", "[]"),
-        ("look-up h", "Io"),
-        ("send Http", "http 200"),
-        ("send MetadataToken", "http 201"),
-        ("send MetadataGet", "http 202"),
-        ("send Http", "Timeout"),
-        ("send Http", "http 404"),
-        ("send Http", "Dispatch"),
-        ("send MetadataToken", "Timeout"),
-        ("send MetadataToken", "http 401"),
-        ("send MetadataToken", "Dispatch"),
-        ("send MetadataGet", "Timeout"),
-        ("send MetadataGet", "http 402"),
-        ("send MetadataGet", "Dispatch"),
-    ];
-    let mut world = World::new(rt.alloc(), scripted(rt.alloc())?);
-    for (words, want) in table {
-        let answer = asked(rt.alloc(), words, &mut world)?;
-        assert_eq!(rt; answer.as_str(), *want, "{words}");
-    }
-    Ok(())
+fn devices_by(alloc: Global, script: Script) -> Result<ScriptDevices, OutOfMemory>
+    requires { AllFit (lists_of (plain script)) }
+{
+    let Script {
+        variables: _,
+        profiles: _,
+        selected: _,
+        region: _,
+        sleep: _,
+        calls: _,
+        devices,
+    } = script;
+    devices_of(alloc, devices)
 }
 
-#[test]
-fn each_service_has_a_list_of_its_own(rt: HostRuntime) -> Result<(), Fail> {
-    let table: &[(&str, &str)] = &[
-        ("send AssumeRole", "sts Some(\"a\")"),
-        ("send AssumeRoleWithWebIdentity", "sts Some(\"w\")"),
-        ("send AssumeRole", "RegionDisabled"),
-        ("send AssumeRole", "Dispatch"),
-        ("send AssumeRoleWithWebIdentity", "RegionDisabled"),
-        ("send AssumeRoleWithWebIdentity", "Dispatch"),
-        ("send GetRoleCredentials", "Broken"),
-        ("send GetRoleCredentials", "role None"),
-        ("send GetRoleCredentials", "Dispatch"),
-        ("send CreateToken", "token 900"),
-        ("send CreateToken", "Dispatch"),
-        ("send CreateToken", "Dispatch"),
-        ("send CreateOAuth2Token", "sign-in None"),
-        ("send CreateOAuth2Token", "RegionDisabled"),
-        ("send CreateOAuth2Token", "Dispatch"),
-    ];
-    let mut world = World::new(rt.alloc(), scripted(rt.alloc())?);
-    for (words, want) in table {
-        let answer = asked(rt.alloc(), words, &mut world)?;
-        assert_eq!(rt; answer.as_str(), *want, "{words}");
-    }
-    Ok(())
+const LISTS: &[u8] =
+    br#"{"clock":[5,7],"jitter":[8],"files":[["a","3"]],"unwritable":["c"],"commands":[[3,"o","e"]],"lookups":[["0.0.0.1","::2"]],"replies":{"http":[[200,[["a","b"]],"c"]]}}"#;
+
+/// Devices with an item in each list that is used here.
+pub(crate) fn scripted(alloc: Global) -> Result<ScriptDevices, ScriptError> {
+    let script = read_script(alloc, LISTS)?;
+    Ok(devices_by(alloc, script)?)
 }
 
-#[test]
-fn what_was_written_is_read_back(rt: HostRuntime) -> Result<(), Fail> {
-    let table: &[(&str, &str)] = &[
-        ("read a", "\"3\""),
-        ("read b", "\"2\""),
-        ("read c", "Io"),
-        ("read d", "Io"),
-        ("read A", "Io"),
-        ("write a 5", "written"),
-        ("read a", "\"5\""),
-        ("write b 6", "Io"),
-        ("read b", "\"2\""),
-        ("write c 7", "written"),
-        ("read c", "\"7\""),
-        ("write d", "written"),
-        ("read d", "\"\""),
-        ("write a 8", "written"),
-        ("read a", "\"8\""),
-        ("read c", "\"7\""),
-    ];
-    let mut world = World::new(rt.alloc(), scripted(rt.alloc())?);
-    for (words, want) in table {
-        let answer = asked(rt.alloc(), words, &mut world)?;
-        assert_eq!(rt; answer.as_str(), *want, "{words}");
-    }
-    Ok(())
-}
+const ASKED: &[&str] = &[
+    "now",
+    "jitter",
+    "read a",
+    "write b",
+    "write c",
+    "read b",
+    "run x",
+    "look-up h",
+    "send http://e",
+    "run x",
+    "look-up h",
+    "send http://e",
+];
 
-#[test]
-fn empty_lists_give_no_more_than_the_epoch(rt: HostRuntime) -> Result<(), Fail> {
-    let table: &[(&str, &str)] = &[
-        ("now", "0"),
-        ("now", "0"),
-        ("jitter", "0"),
-        ("read a", "Io"),
-        ("write a 1", "written"),
-        ("read a", "\"1\""),
-        ("run x", "Io"),
-        ("look-up h", "Io"),
-        ("send AssumeRole", "Dispatch"),
-    ];
-    let devices = ScriptDevices::new(rt.alloc(), DeviceLists::empty(rt.alloc()))?;
-    let mut world = World::new(rt.alloc(), devices);
-    for (words, want) in table {
-        let answer = asked(rt.alloc(), words, &mut world)?;
-        assert_eq!(rt; answer.as_str(), *want, "{words}");
-    }
-    Ok(())
-}
-
-// The answers to one question of each kind, over devices of which the call of this number fails,
-// and how often a call that may fail was made.
-fn faulty_words(alloc: Global, at: u64) -> Result<String, OutOfMemory> {
-    let mut world = World::new(alloc, FaultDevices::new(scripted(alloc)?, at));
+// The answers to these questions, from their receipts.
+fn answers_of<D: Devices>(alloc: Global, world: &mut World<D>) -> Result<String, OutOfMemory> {
     let mut words = String::new(alloc);
-    for asking in [
-        "read a",
-        "now",
-        "write a 5",
-        "run x",
-        "jitter",
-        "look-up h",
-        "send Http",
-    ] {
-        let answer = asked(alloc, asking, &mut world)?;
+    for asked in ASKED {
+        let receipt = world.ask(question(alloc, asked)?)?;
+        let answer = answer_words(alloc, receipt.entry().answer())?;
         words.push_str(answer.as_str())?;
         words.push_str("; ")?;
     }
-    let calls = world.into_devices().calls();
-    Ok(format!(in alloc; "{words}{calls}")?)
+    Ok(words)
+}
+
+#[test]
+fn scripted_devices_answer_from_their_lists(rt: HostRuntime) -> Result<(), Fail> {
+    let mut world = World::new(rt.alloc(), scripted(rt.alloc())?);
+    let words = answers_of(rt.alloc(), &mut world)?;
+    assert_eq!(rt;
+        words.as_str(),
+        "5; 8; 3; written; Io; wJalr; ended 3; [V4(1), V6(2)]; replied; Io; Io; Dispatch; "
+    );
+    Ok(())
 }
 
 #[test]
 fn the_call_of_a_number_fails(rt: HostRuntime) -> Result<(), Fail> {
     let table: &[(u64, &str)] = &[
         (
-            0,
-            "\"3\"; 5; written; ended 0; 8; [V4(1), V6(2)]; http 200; 5",
+            1,
+            "5; 8; Io; written; Io; wJalr; ended 3; [V4(1), V6(2)]; replied; Io; Io; Dispatch; ",
         ),
-        (1, "Io; 5; written; ended 0; 8; [V4(1), V6(2)]; http 200; 5"),
-        (2, "\"3\"; 5; Io; ended 0; 8; [V4(1), V6(2)]; http 200; 5"),
-        (3, "\"3\"; 5; written; Io; 8; [V4(1), V6(2)]; http 200; 5"),
-        (4, "\"3\"; 5; written; ended 0; 8; Io; http 200; 5"),
         (
             5,
-            "\"3\"; 5; written; ended 0; 8; [V4(1), V6(2)]; Dispatch; 5",
+            "5; 8; 3; written; Io; wJalr; Io; [V4(1), V6(2)]; replied; ended 3; Io; Dispatch; ",
         ),
         (
-            6,
-            "\"3\"; 5; written; ended 0; 8; [V4(1), V6(2)]; http 200; 5",
+            7,
+            "5; 8; 3; written; Io; wJalr; ended 3; [V4(1), V6(2)]; Dispatch; Io; Io; replied; ",
         ),
     ];
     for (at, want) in table {
-        let words = faulty_words(rt.alloc(), *at)?;
+        let devices = FaultDevices::new(scripted(rt.alloc())?, *at);
+        let mut world = World::new(rt.alloc(), devices);
+        let words = answers_of(rt.alloc(), &mut world)?;
         assert_eq!(rt; words.as_str(), *want, "{at}");
+        assert_eq!(rt; world.into_devices().calls(), 10);
     }
     Ok(())
 }
 
-// What the inner devices answer after one call that failed in front of them.
-fn inner_words(alloc: Global) -> Result<String, OutOfMemory> {
-    let mut world = World::new(alloc, FaultDevices::new(scripted(alloc)?, 1));
-    let failed = asked(alloc, "run x", &mut world)?;
-    let mut world = World::new(alloc, world.into_devices().into_inner());
-    let answered = asked(alloc, "run x", &mut world)?;
-    Ok(format!(in alloc; "{failed}; {answered}")?)
-}
-
 #[test]
-fn a_call_that_fails_asks_no_device(rt: HostRuntime) -> Result<(), Fail> {
-    let words = inner_words(rt.alloc())?;
-    assert_eq!(rt; words.as_str(), "Io; ended 0");
+fn each_question_gets_the_next_answer_if_it_fits(rt: HostRuntime) -> Result<(), Fail> {
+    let moment = Instant::epoch().plus(5);
+    let answers = vec![in rt.alloc();
+        Answer::Moment(moment),
+        Answer::Moment(moment),
+        Answer::Written,
+        Answer::Written,
+    ]?;
+    let mut world = World::new(rt.alloc(), HandedDevices::new(answers));
+    let words = answers_of(rt.alloc(), &mut world)?;
+    assert_eq!(rt;
+        words.as_str(),
+        "5; 0; Io; written; Io; Io; Io; Io; Dispatch; Io; Io; Dispatch; "
+    );
     Ok(())
 }

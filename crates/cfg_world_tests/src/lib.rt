@@ -2,15 +2,7 @@
 #![tactic(auto)]
 
 #[cfg(test)]
-mod answers;
-#[cfg(test)]
 mod devices;
-#[cfg(test)]
-mod handed;
-#[cfg(test)]
-mod journals;
-#[cfg(test)]
-mod lists;
 #[cfg(test)]
 mod local;
 #[cfg(test)]

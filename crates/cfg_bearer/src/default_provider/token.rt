@@ -1,11 +1,17 @@
 //! The default chain of bearer tokens.
-ghost use Rattle.std.specs.Prelude.{◌≡◌, IfOk, true, false};
+ghost use Rattle.std.specs.Prelude.{◌≡◌, IfOk, OnErr, Some, None, true, false, option_map, string_bytes};
 ghost use Rattle.std.specs.Option.{option_copied};
 ghost use Rattle.cfg_keeping.specs.Holds.{HoldsFollows};
 ghost use Rattle.cfg_keeping.specs.KeptStates.{kept_holdings, kept_key, states_of};
 ghost use Rattle.cfg_keeping.specs.Kinds.{no_states};
 ghost use Rattle.cfg_sso.specs.BearerTokens.{is_memory};
 ghost use Rattle.cfg_sso.specs.Tokens.{HasKey};
+ghost use Rattle.cfg_imds.specs.Calls.{CallBreaks};
+ghost use Rattle.cfg_region.specs.Calls.{Asks};
+ghost use Rattle.cfg_region.specs.Defaults.{IsDefault};
+ghost use Rattle.cfg_region.specs.Sources.{region_source, tree};
+ghost use Rattle.cfg_bearer.specs.Builds.{BreaksRegion, BuildBreaks, GivesRegion, IsBuilt, IsFixed};
+ghost use Rattle.cfg_bearer.specs.ChainSetups.{chain_configured, configuration_alone, setup_of};
 ghost use Rattle.cfg_bearer.specs.Provides.{ProvidesToken, InterruptedToken};
 ghost use Rattle.cfg_bearer.specs.ProfileTokens.{default_token, DefaultTokenCause};
 ghost use Rattle.cfg_bearer.specs.Sessions.{session_key};
@@ -13,9 +19,12 @@ ghost use Rattle.cfg_bearer.specs.Told.{none_loaded_by, told as told_by_chain, t
 
 use crate::profile::token::ProfileFileTokenProvider;
 use cfg_keeping::{Keeper, Kept};
+use cfg_profile::ProviderConfig;
+use cfg_region::{DefaultRegionChain, RegionSource};
 use cfg_token::TokenKey;
 use cfg_types::{
-    OutOfMemory, ProviderAttempt, ProviderChainError, Seq, Text, Token, TokenCause, TokenError,
+    OutOfMemory, ProviderAttempt, ProviderChainError, Region, Seq, Text, Token, TokenCause,
+    TokenError, copy_option,
 };
 use cfg_world::{Asking, Devices, Stop, World};
 use std::alloc::Global;
@@ -47,6 +56,28 @@ impl Model for DefaultTokenChain {
 }
 
 impl DefaultTokenChain {
+    ghost use Rattle.cfg_bearer.specs.ChainSetups.{nothing_given};
+
+    /// A builder with no variables, no sections and no source of a region.
+    pub fn builder(alloc: Global) -> Result<Builder, OutOfMemory>
+        ensures { IfOk result (λ b. setup_of told_region repeated b ≡ nothing_given) }
+    {
+        Builder::new(alloc)
+    }
+
+    // The chain over this configuration, with the region of its default chain of regions.
+    pub(crate) fn of_configuration<D: Devices>(
+        alloc: Global,
+        config: ProviderConfig,
+        world: &mut World<D>,
+    ) -> Result<DefaultTokenChain, OutOfMemory>
+        ensures built { IfOk result (IsBuilt ⟦<D as Devices>⟧ (configuration_alone config) world.old world.new) }
+        ensures breaks { OnErr result (BuildBreaks ⟦<D as Devices>⟧ (configuration_alone config) world.old world.new) }
+    {
+        let builder = DefaultTokenChain::builder(alloc)?;
+        builder.configure(config).build(world)
+    }
+
     /// Whose token the chain needs: that of the profile's session, where it has one.
     pub fn token_key(&self) -> Option<&TokenKey>
         ensures { option_copied result ≡ session_key self.now }
@@ -151,4 +182,177 @@ fn none_loaded(alloc: Global, error: TokenError) -> Result<TokenError, OutOfMemo
     attempts.push(ProviderAttempt::new(name, error))?;
     let attempts = ProviderChainError::new(Seq::of(attempts));
     Ok(TokenError::TokenNotLoaded(TokenCause::Chain(attempts)))
+}
+
+/// Sets up the default chain. Contracts see its configuration, the name of its profile where one was given,
+/// and the source of its region where one was set. A setter changes its field alone.
+#[derive(Drop)]
+pub struct Builder {
+    alloc: Global,
+    config: ProviderConfig,
+    profile_name: Option<String>,
+    region: Option<RegionSource>,
+}
+
+impl Builder {
+    ghost use Rattle.cfg_bearer.specs.ChainSetups.{nothing_given};
+
+    /// A builder with no variables, no sections and no source of a region.
+    pub fn new(alloc: Global) -> Result<Builder, OutOfMemory>
+        ensures { IfOk result (λ b. setup_of told_region repeated b ≡ nothing_given) }
+    {
+        let config = ProviderConfig::without_region(alloc)?;
+        Ok(Builder {
+            alloc,
+            config,
+            profile_name: None,
+            region: None,
+        })
+    }
+
+    /// With this configuration, in place of the one that it had.
+    pub fn configure(mut self, config: ProviderConfig) -> Builder
+        ensures { setup_of told_region repeated result ≡ record (setup_of told_region repeated self) { configuration = config } }
+    {
+        self.config = config;
+        self
+    }
+
+    /// The profile of this name, whatever the configuration says: its token, and its region where no source
+    /// was set. Where instance metadata is asked is read from the configuration's own.
+    pub fn profile_name(mut self, name: &str) -> Result<Builder, OutOfMemory>
+        ensures { IfOk result (λ b. setup_of told_region repeated b ≡ record (setup_of told_region repeated self) { profile_name = Some name.now }) }
+    {
+        self.profile_name = Some(String::from_str(self.alloc, name)?);
+        Ok(self)
+    }
+
+    /// With the region of this source.
+    pub fn region(mut self, region: RegionSource) -> Builder
+        ensures { setup_of told_region repeated result ≡ record (setup_of told_region repeated self) { region = Some (region_source told_region repeated region) } }
+    {
+        self.region = Some(region);
+        self
+    }
+
+    /// Sets the source of the region, or none.
+    pub fn set_region(&mut self, region: Option<RegionSource>) -> &mut Builder
+        ensures same { result.ghost_name ≡ self.entry.ghost_name }
+        ensures value { setup_of told_region repeated result.now ≡ record (setup_of told_region repeated self.entry.now) { region = option_map (region_source told_region repeated) region } }
+    {
+        self.region = region;
+        self
+    }
+
+    /// The chain. Its region is the one of the source, where one was set, else that of the default chain of
+    /// regions over the configuration, in place of the configuration's own, none included. That source is
+    /// asked now, and nothing else. A region that was given asks nothing.
+    ///
+    /// # Errors
+    ///
+    /// `OutOfMemory` where memory runs out. The journal then has gained the beginning of the source's part.
+    pub fn build<D: Devices>(self, world: &mut World<D>) -> Result<DefaultTokenChain, OutOfMemory>
+        ensures built { IfOk result (IsBuilt ⟦<D as Devices>⟧ (setup_of told_region repeated self) world.old world.new) }
+        ensures breaks { OnErr result (BuildBreaks ⟦<D as Devices>⟧ (setup_of told_region repeated self) world.old world.new) }
+        ensures unasked { IsFixed (setup_of told_region repeated self).region → world.new ≡ world.old }
+    {
+        let Builder {
+            alloc,
+            config,
+            profile_name,
+            region,
+        } = self;
+        let region = region_by(alloc, &region, &config, &profile_name, world)?;
+        chain_with(alloc, config, &profile_name, region)
+    }
+}
+
+// The chain of this configuration, with this region, and with this name of a profile where one is given.
+fn chain_with(
+    alloc: Global,
+    config: ProviderConfig,
+    profile_name: &Option<String>,
+    region: Option<Region>,
+) -> Result<DefaultTokenChain, OutOfMemory>
+    ensures { IfOk result (λ c. c ≡ chain_configured config (option_map (λ s. string_bytes s) profile_name.now) region) }
+{
+    let config = config.with_region(region);
+    let config = match profile_name {
+        None => config,
+        Some(name) => config.with_profile_name(alloc, name.as_str())?,
+    };
+    let profile = ProfileFileTokenProvider::of(alloc, config)?;
+    Ok(DefaultTokenChain { alloc, profile })
+}
+
+// The region of the source, where one was set, else that of the default chain.
+fn region_by<D: Devices>(
+    alloc: Global,
+    source: &Option<RegionSource>,
+    config: &ProviderConfig,
+    profile_name: &Option<String>,
+    world: &mut World<D>,
+) -> Result<Option<Region>, OutOfMemory>
+    ensures gives { IfOk result (GivesRegion ⟦<D as Devices>⟧ (option_map (region_source told_region repeated) source.now) config.now (option_map (λ s. string_bytes s) profile_name.now) world.old world.new) }
+    ensures breaks { OnErr result (BreaksRegion ⟦<D as Devices>⟧ (option_map (region_source told_region repeated) source.now) config.now (option_map (λ s. string_bytes s) profile_name.now) world.old world.new) }
+    ensures unasked { IsFixed (option_map (region_source told_region repeated) source.now) → world.new ≡ world.old }
+{
+    match source {
+        Some(source) => region_of_source(alloc, source, world),
+        None => default_region(alloc, config, profile_name, world),
+    }
+}
+
+// The region of this source. One that was given asks nothing.
+fn region_of_source<D: Devices>(
+    alloc: Global,
+    source: &RegionSource,
+    world: &mut World<D>,
+) -> Result<Option<Region>, OutOfMemory>
+    ensures asks { IfOk result (Asks ⟦<D as Devices>⟧ (tree (region_source told_region repeated source.now)) world.old world.new) }
+    ensures breaks { OnErr result (CallBreaks ⟦<D as Devices>⟧ (tree (region_source told_region repeated source.now)) world.old world.new) }
+    ensures unasked { IsFixed (Some (region_source told_region repeated source.now)) → world.new ≡ world.old }
+{
+    match source {
+        RegionSource::Fixed(region) => {
+            let region = copy_option(alloc, region)?;
+            Ok(region)
+        }
+        _ => match source.follow(alloc, world) {
+            Ok(region) => Ok(region),
+            Err(_) => Err(OutOfMemory),
+        },
+    }
+}
+
+// The region of the default chain of regions over this configuration.
+fn default_region<D: Devices>(
+    alloc: Global,
+    config: &ProviderConfig,
+    profile_name: &Option<String>,
+    world: &mut World<D>,
+) -> Result<Option<Region>, OutOfMemory>
+    ensures gives { IfOk result (GivesRegion ⟦<D as Devices>⟧ None config.now (option_map (λ s. string_bytes s) profile_name.now) world.old world.new) }
+    ensures breaks { OnErr result (BreaksRegion ⟦<D as Devices>⟧ None config.now (option_map (λ s. string_bytes s) profile_name.now) world.old world.new) }
+{
+    let chain = region_chain(alloc, config, profile_name)?;
+    match chain.follow(world) {
+        Ok(region) => Ok(region),
+        Err(_) => Err(OutOfMemory),
+    }
+}
+
+// The default chain of regions over this configuration, for the profile of this name where one is given.
+fn region_chain(
+    alloc: Global,
+    config: &ProviderConfig,
+    profile_name: &Option<String>,
+) -> Result<DefaultRegionChain, OutOfMemory>
+    ensures { IfOk result (IsDefault config.now (option_map (λ s. string_bytes s) profile_name.now)) }
+{
+    let builder = DefaultRegionChain::builder(alloc)?.configure(config)?;
+    match profile_name {
+        None => builder.build(),
+        Some(name) => builder.profile_name(name.as_str())?.build(),
+    }
 }

@@ -1,6 +1,6 @@
 //! The default chain of credentials providers.
 ghost use Rattle.std.specs.Option.{option_copied};
-ghost use Rattle.std.specs.Prelude.{◌≡◌, [], IfOk, Some, None, true, false, option_map};
+ghost use Rattle.std.specs.Prelude.{◌≡◌, [], IfOk, OnErr, Some, None, true, false, option_map};
 ghost use Rattle.cfg_keeping.specs.Kinds.{no_states};
 ghost use Rattle.cfg_keeping.specs.Holds.{HoldsFollows};
 ghost use Rattle.cfg_keeping.specs.KeptStates.{kept_holdings, kept_key, states_of};
@@ -8,115 +8,99 @@ ghost use Rattle.cfg_providers.specs.Provides.{is_memory};
 ghost use Rattle.cfg_keeping.specs.Clients.{client_rules};
 ghost use Rattle.cfg_keeping.specs.Kinds.{place_states};
 ghost use Rattle.cfg_sso.specs.Tokens.{HasKey};
-ghost use Rattle.cfg_chain.specs.Settings.{setting, lends, lent_or as lent_or_own};
+ghost use Rattle.cfg_chain.specs.Settings.{setting, lends};
 ghost use Rattle.cfg_chain.specs.Sources.{named_sources, services_in};
 ghost use Rattle.cfg_chain.specs.profile.Plans.{key_of};
 ghost use Rattle.cfg_chain.specs.Members.{default_chain};
 ghost use Rattle.cfg_chain.specs.Provides.{FollowsDefault, Provides, Interrupted};
-ghost use Rattle.cfg_chain.specs.Setups.{nothing_set, built_by};
+ghost use Rattle.cfg_region.specs.Calls.{RegionSet, RegionBreaks};
+ghost use Rattle.cfg_region.specs.Sources.{region_source};
+ghost use Rattle.cfg_chain.specs.Setups.{nothing_set, configured, setup_of};
+ghost use Rattle.cfg_chain.specs.Callers.{TellsWho};
 
 use crate::chain::follow_chain;
 use crate::member::Member;
+use crate::profile::credentials::with_name;
 use crate::profile::plan::token_key_of;
-use crate::services::Services;
+use crate::services::{Services, lent_or};
 use cfg_exchange::container_uri;
 use cfg_imds::Client;
 use cfg_keeping::{Keeper, Kept, Place, TokenKey};
 use cfg_profile::ProviderConfig;
 use cfg_providers::CustomSource;
-use cfg_types::{Credentials, CredentialsError, OutOfMemory, Region, TryCopy, copy_option};
+use cfg_region::{RegionSource, with_region_from};
+use cfg_types::{Credentials, CredentialsError, OutOfMemory, TryCopy, copy_option};
 use cfg_world::{Asking, Devices, Stop, World};
 use std::alloc::Global;
 use std::marker::Model;
 
-/// Where a region comes from.
-#[derive(Debug, Drop)]
-pub enum RegionSource {
-    /// This region, or none.
-    Fixed(Option<Region>),
-}
-
-/// Sets up the default chain. Contracts see its configuration and the source of its region.
+/// Sets up the default chain. Contracts see its configuration, the name of its profile where one was given,
+/// and where its region comes from where that was set. A setter changes its field alone.
+#[derive(Drop)]
 pub struct Builder {
     alloc: Global,
     config: ProviderConfig,
+    profile_name: Option<String>,
     region: Option<RegionSource>,
-}
-
-impl Drop for Builder {
-    fn drop(self) {
-        let Builder {
-            alloc: _,
-            config: _,
-            region: _,
-        } = self;
-    }
-}
-
-impl Model for Builder {
-    ghost use Rattle.cfg_chain.specs.Setups.{Setup, setup_code};
-
-    ghost Value = { Setup };
-
-    ghost coded = { setup_code };
-
-    ghost view = { λ b. record { configuration = b.config; region_source = b.region } };
 }
 
 impl Builder {
     /// With this configuration, in place of the one that it had.
     pub fn configure(mut self, config: ProviderConfig) -> Builder
-        ensures { result ≡ record self { configuration = config } }
+        ensures { setup_of told_region repeated result ≡ record (setup_of told_region repeated self) { configuration = config } }
     {
         self.config = config;
         self
     }
 
-    /// The profile of this name, whatever the environment says.
-    pub fn profile_name(self, name: &str) -> Result<Builder, OutOfMemory>
-        ensures { IfOk result (λ b. b ≡ record self { configuration = record self.configuration { profile_name = Some name.now } }) }
+    /// The profile of this name, whatever the configuration and the environment say.
+    pub fn profile_name(mut self, name: &str) -> Result<Builder, OutOfMemory>
+        ensures { IfOk result (λ b. setup_of told_region repeated b ≡ record (setup_of told_region repeated self) { profile_name = Some name.now }) }
     {
-        let Builder {
-            alloc,
-            config,
-            region,
-        } = self;
-        let config = config.with_profile_name(alloc, name)?;
-        Ok(Builder {
-            alloc,
-            config,
-            region,
-        })
+        self.profile_name = Some(String::from_str(self.alloc, name)?);
+        Ok(self)
     }
 
-    /// Sets the source of the region, or none.
-    pub fn set_region(&mut self, region: Option<RegionSource>) -> &mut Builder
-        ensures same { result.ghost_name ≡ self.entry.ghost_name }
-        ensures value { result.now ≡ record self.entry.now { region_source = region } }
+    /// With this source of the region.
+    pub fn region(mut self, source: RegionSource) -> Builder
+        ensures { setup_of told_region repeated result ≡ record (setup_of told_region repeated self) { region = Some (region_source told_region repeated source) } }
     {
-        self.region = region;
+        self.region = Some(source);
         self
     }
 
-    /// The chain. Its region is what the source gives where one was set, and else the
-    /// configuration's. Whose token it needs is read from the selected profile now. Nothing is asked.
+    /// Sets the source of the region, or none.
+    pub fn set_region(&mut self, source: Option<RegionSource>) -> &mut Builder
+        ensures same { result.ghost_name ≡ self.entry.ghost_name }
+        ensures value { setup_of told_region repeated result.now ≡ record (setup_of told_region repeated self.entry.now) { region = option_map (region_source told_region repeated) source } }
+    {
+        self.region = source;
+        self
+    }
+
+    /// The chain. Its source of the region is asked where one was set, and else the default region chain over
+    /// its configuration and its profile; then nothing more. What that gives, none included, is the chain's
+    /// region, in place of the configuration's. Whose token the chain needs is read from its profile now.
+    ///
+    /// # Errors
+    ///
+    /// `OutOfMemory` where memory runs out. The journal then has gained the beginning of such a part.
     pub fn build<D: Devices>(
         self,
-        _world: &mut World<D>,
+        world: &mut World<D>,
     ) -> Result<DefaultCredentialsChain, OutOfMemory>
-        ensures chain { IfOk result (λ chain. chain ≡ built_by self) }
-        ensures world { _world.new ≡ _world.old }
+        ensures set { IfOk result (RegionSet ⟦<D as Devices>⟧ (setup_of told_region repeated self).region (configured (setup_of told_region repeated self)) world.old world.new) }
+        ensures breaks { OnErr result (RegionBreaks ⟦<D as Devices>⟧ (setup_of told_region repeated self).region (configured (setup_of told_region repeated self)) world.old world.new) }
     {
         let Builder {
             alloc,
             config,
+            profile_name,
             region,
         } = self;
-        let config = match region {
-            None => config,
-            Some(RegionSource::Fixed(region)) => config.with_region(region),
-        };
-        let token_key = token_key_of(alloc, &config)?;
+        let named = with_name(alloc, config, profile_name)?;
+        let token_key = token_key_of(alloc, &named)?;
+        let config = with_region_from(alloc, region, named, world)?;
         Ok(DefaultCredentialsChain {
             alloc,
             config,
@@ -166,13 +150,15 @@ const MEMBERS: [Member; 5] = [
 ];
 
 impl DefaultCredentialsChain {
-    /// A builder with no variables, no sections and no region.
+    /// A builder with no variables and no sections.
     pub fn builder(alloc: Global) -> Result<Builder, OutOfMemory>
-        ensures { IfOk result (λ b. b ≡ nothing_set true) }
+        ensures { IfOk result (λ b. setup_of told_region repeated b ≡ nothing_set) }
     {
+        let config = ProviderConfig::without_region(alloc)?;
         Ok(Builder {
             alloc,
-            config: ProviderConfig::without_region(alloc)?,
+            config,
+            profile_name: None,
             region: None,
         })
     }
@@ -272,6 +258,7 @@ impl DefaultCredentialsChain {
     ) -> Result<Credentials, CredentialsError>
         requires { kept_key kept.old ≡ key_of self.now }
         ensures provides { is_memory result ≡ false → Provides ⟦<D as Devices>⟧ self.now (lends (named_sources value sources.now) (option_map (λ c. client_rules repeated c.now) imds_client.entry)) (states_of kept.old) (states_of kept.new) (kept_holdings kept.new).found world.old world.new result }
+        ensures tells { is_memory result ≡ false → TellsWho self.now (lends (named_sources value sources.now) (option_map (λ c. client_rules repeated c.now) imds_client.entry)) (kept_holdings kept.new).found world.old.journal world.new.journal result }
         ensures stays { is_memory result ≡ true → Interrupted ⟦<D as Devices>⟧ self.now (lends (named_sources value sources.now) (option_map (λ c. client_rules repeated c.now) imds_client.entry)) (states_of kept.old) (states_of kept.new) (kept_holdings kept.new).found world.old world.new }
         ensures key { kept_key kept.new ≡ kept_key kept.old }
     {
@@ -291,15 +278,5 @@ impl DefaultCredentialsChain {
             None => Ok(None),
             Some(retrieved) => Ok(Some(retrieved.credentials().copy(self.alloc)?)),
         }
-    }
-}
-
-// The client that the caller lent, and else the configuration's.
-fn lent_or<'a>(lent: Option<&'a Client>, own: &'a Client) -> &'a Client
-    ensures { client_rules repeated result.now ≡ lent_or_own (option_map (λ c. client_rules repeated c.now) lent.entry) (client_rules repeated own.now) }
-{
-    match lent {
-        Some(client) => client,
-        None => own,
     }
 }

@@ -6,6 +6,7 @@ use Rattle.cfg_keeping.proofs.Told.{run_begins}
 use Rattle.cfg_exchange.proofs.Checks.{no_question, not_stopped}
 use Rattle.cfg_chain.specs.Settings.{Lent, lends}
 use Rattle.cfg_chain.specs.Sources.{named_sources}
+use Rattle.cfg_chain.proofs.WhoAnswered.{tells_who}
 use Rattle.cfg_chain.proofs.Calls.{is_call_from, begins_from, broken, some_is}
 use Rattle.cfg_chain.proofs.default_provider.credentials.DefaultCredentialsChain.provide_credentials.Goals as goal
 
@@ -22,6 +23,9 @@ returns-in-Ok-clause-provides g c = λ other.
             call = is_call_from c.args.self.now lent h.0 _ _ _ _ e.found _ e.part c.in-Ok.outcome h.1 (ap (λ items. map bare items) c.clear_found.ensures.found) c.clear_found.ensures.kept e.finds e.runs;
           }
     ]
+
+pub returns-in-Ok-clause-tells : goal.returns-in-Ok-clause-tells
+returns-in-Ok-clause-tells g c = λ other. tells_who _ _ _ _ _ _ _ _ _ (returns-in-Ok-clause-provides g c other)
 
 pub returns-in-Ok-clause-stays : goal.returns-in-Ok-clause-stays
 returns-in-Ok-clause-stays g c = λ no_memory.

@@ -1,0 +1,4 @@
+pub mod Counting
+pub mod Configured
+pub mod Lines
+pub mod Audits

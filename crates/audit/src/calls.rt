@@ -1,0 +1,85 @@
+//! The calls of the program.
+ghost use Rattle.std.specs.Prelude.{◌≡◌, IfOk, OnOk, string_bytes};
+ghost use Rattle.cfg_keeping.specs.KeptStates.{states_of, kept_key};
+ghost use Rattle.cfg_providers.specs.Provides.{is_memory};
+ghost use Rattle.cfg_chain.specs.profile.Plans.{key_of};
+ghost use Rattle.audit.specs.Audits.{IsAudit, TellsCall};
+
+use crate::configuration::{TOKEN, TOKEN_PATH, chain_for};
+use crate::devices::OneFile;
+use crate::lines::line;
+use cfg_chain::{CredentialsError, DefaultCredentialsChain, Kept, OutOfMemory};
+use cfg_types::Credentials;
+use cfg_world::{Devices, World};
+use std::alloc::Global;
+
+/// The lines of three calls: two for the profile of a sign-in session, the second on what the first one left
+/// kept, and one for the profile of a role, on a kept state of its own.
+pub fn audit(alloc: Global) -> Result<String, OutOfMemory>
+    ensures { IfOk result (λ lines. IsAudit (string_bytes lines)) }
+{
+    let mut world = World::new(
+        alloc,
+        OneFile {
+            alloc,
+            path: TOKEN_PATH,
+            content: TOKEN,
+            failures: 0,
+        },
+    );
+    let mut lines = String::new(alloc);
+    let reader = chain_for(alloc, "reader", &mut world)?;
+    let mut kept = reader.new_kept()?;
+    call(alloc, &reader, &mut kept, &mut world, &mut lines)?;
+    // The token is kept by now.
+    call(alloc, &reader, &mut kept, &mut world, &mut lines)?;
+    let auditor = chain_for(alloc, "auditor", &mut world)?;
+    let mut kept = auditor.new_kept()?;
+    call(alloc, &auditor, &mut kept, &mut world, &mut lines)?;
+    Ok(lines)
+}
+
+// One call on what is kept, and its line behind the others: who gave its answer, and over which part of the
+// journal. The journal of the call before it is given up.
+fn call<D: Devices>(
+    alloc: Global,
+    chain: &DefaultCredentialsChain,
+    kept: &mut Kept,
+    world: &mut World<D>,
+    lines: &mut String,
+) -> Result<(), OutOfMemory>
+    requires { kept_key kept.old ≡ key_of chain.now }
+    ensures tells { OnOk result (TellsCall chain.now (states_of kept.old) (states_of kept.new) (string_bytes lines.old) (string_bytes lines.new)) }
+    ensures key { kept_key kept.new ≡ kept_key kept.old }
+{
+    world.clear_journal();
+    let outcome = Outcome {
+        answer: chain.provide_credentials(&[], None, kept, world),
+    };
+    if is_out_of_memory(&outcome.answer) {
+        return Err(OutOfMemory);
+    }
+    let line = line(alloc, &outcome.answer, world.journal())?;
+    lines.push_str(line.as_str())?;
+    Ok(())
+}
+
+fn is_out_of_memory(answer: &Result<Credentials, CredentialsError>) -> bool
+    ensures { result ≡ is_memory answer.now }
+{
+    match answer {
+        Err(CredentialsError::OutOfMemory) => true,
+        _ => false,
+    }
+}
+
+// What a call answered, which is let go by one call.
+struct Outcome {
+    answer: Result<Credentials, CredentialsError>,
+}
+
+impl Drop for Outcome {
+    fn drop(self) {
+        let Outcome { answer: _ } = self;
+    }
+}

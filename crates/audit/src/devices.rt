@@ -1,0 +1,77 @@
+//! Devices of the program's own.
+ghost use Rattle.std.specs.Prelude.{◌≡◌, ◌≤◌, Err};
+ghost use Rattle.cfg_world.specs.Tallies.{one_more};
+
+use cfg_types::{Address, Bytes, FailKind, Finished, Instant, Reply, Request, Seq};
+use cfg_world::{Devices, Fault};
+use std::alloc::Global;
+
+/// A clock that stands at the epoch, and one file, which cannot be written. All else fails, and each failure
+/// is counted.
+#[derive(Drop)]
+pub struct OneFile {
+    pub alloc: Global,
+    pub path: &'static str,
+    pub content: &'static str,
+    pub failures: u64,
+}
+
+impl OneFile {
+    // The failure is counted. A count that is full stands still.
+    fn fail<T>(&mut self, kind: FailKind) -> Result<T, Fault>
+        ensures fails { result ≡ Err (Fault.Failed kind) }
+        ensures counts { self.new.failures ≡ one_more self.old.failures }
+        ensures rises { self.old.failures ≤ self.new.failures }
+    {
+        self.failures = self.failures.saturating_add(1);
+        Err(Fault::Failed(kind))
+    }
+}
+
+/// They allow every list of entries. One count stands for all kinds of device.
+impl Devices for OneFile {
+    ghost use Rattle.cfg_world.specs.Tallies.{any_list};
+    ghost use Rattle.audit.specs.Counting.{each_is};
+
+    ghost faults = { λ d. each_is d.failures };
+
+    ghost allows = { λ d. any_list };
+
+    ghost stands = { λ d. any_list };
+
+    ghost stands_allowed = { λ d entries h. h };
+
+    fn now(&mut self) -> Instant {
+        Instant::epoch()
+    }
+
+    fn jitter(&mut self) -> u64 {
+        0
+    }
+
+    fn read(&mut self, path: &str) -> Result<Bytes, Fault> {
+        if path != self.path {
+            return self.fail(FailKind::Io);
+        }
+        match Bytes::of(self.alloc, self.content.as_bytes()) {
+            Ok(bytes) => Ok(bytes),
+            Err(_) => Err(Fault::OutOfMemory),
+        }
+    }
+
+    fn write(&mut self, _path: &str, _bytes: &[u8]) -> Result<(), Fault> {
+        self.fail(FailKind::Io)
+    }
+
+    fn run(&mut self, _command: &str) -> Result<Finished, Fault> {
+        self.fail(FailKind::Io)
+    }
+
+    fn look_up(&mut self, _host: &str) -> Result<Seq<Address>, Fault> {
+        self.fail(FailKind::Io)
+    }
+
+    fn send(&mut self, _request: &Request) -> Result<Reply, Fault> {
+        self.fail(FailKind::Dispatch)
+    }
+}

@@ -1,0 +1,138 @@
+//! What a script gives a chain of bearer tokens, and the words of what it asks and answers.
+ghost use Rattle.cfg_world.specs.Script.{AllFit};
+ghost use Rattle.cfg_script.specs.Script.{plain};
+ghost use Rattle.cfg_script.specs.Devices.{lists_of};
+
+use cfg_profile::{ProfileSet, ProfileSource, ProviderConfig, Section};
+use cfg_script::{Script, ScriptProfiles, read_script};
+use cfg_types::{Env, EnvText, OutOfMemory, Request, Token, TokenError};
+use cfg_world::{DeviceLists, Entry, Question, ScriptDevices, World};
+use std::alloc::{AllocError, Global};
+
+/// A configuration, and devices for its calls.
+pub(crate) struct Setup {
+    pub(crate) config: ProviderConfig,
+    pub(crate) devices: ScriptDevices,
+}
+
+fn sections(
+    alloc: Global,
+    given: Vec<(String, Vec<(String, String)>)>,
+) -> Result<Vec<Section>, OutOfMemory> {
+    let mut sections = Vec::new(alloc);
+    for (name, properties) in given {
+        sections.push(Section::of(name, properties))?;
+    }
+    Ok(sections)
+}
+
+fn source(alloc: Global, profiles: ScriptProfiles) -> Result<ProfileSource, OutOfMemory> {
+    match profiles {
+        ScriptProfiles::Refused(reason) => Ok(ProfileSource::Refused(reason)),
+        ScriptProfiles::Sections { profiles, sessions } => {
+            let profiles = sections(alloc, profiles)?;
+            let sessions = sections(alloc, sessions)?;
+            let set = ProfileSet::new(alloc, profiles, sessions, "default")?;
+            Ok(ProfileSource::Sections(set))
+        }
+    }
+}
+
+fn configuration(
+    alloc: Global,
+    variables: Vec<(String, EnvText)>,
+    profiles: ScriptProfiles,
+) -> Result<ProviderConfig, OutOfMemory> {
+    let config = ProviderConfig::empty(alloc)?
+        .with_env(Env::new(alloc, variables)?)
+        .with_profiles(source(alloc, profiles)?);
+    Ok(config)
+}
+
+fn devices(alloc: Global, lists: DeviceLists) -> Result<ScriptDevices, OutOfMemory>
+    requires { AllFit lists }
+{
+    ScriptDevices::new(alloc, lists)
+}
+
+fn set_up_by(alloc: Global, script: Script) -> Result<Setup, OutOfMemory>
+    requires { AllFit (lists_of (plain script)) }
+{
+    let Script {
+        variables,
+        profiles,
+        selected: _,
+        region: _,
+        sleep: _,
+        calls: _,
+        devices: lists,
+    } = script;
+    let devices = devices(alloc, lists)?;
+    let config = configuration(alloc, variables, profiles)?;
+    Ok(Setup { config, devices })
+}
+
+/// The configuration of a script, and the devices that it scripts. None for what is no script.
+pub(crate) fn set_up(alloc: Global, script: &str) -> Result<Option<Setup>, OutOfMemory> {
+    match read_script(alloc, script.as_bytes()) {
+        Ok(script) => Ok(Some(set_up_by(alloc, script)?)),
+        Err(_) => Ok(None),
+    }
+}
+
+/// An answer that is let go by one call.
+pub(crate) struct Handed {
+    pub(crate) answer: Result<Token, TokenError>,
+}
+
+impl Drop for Handed {
+    fn drop(self) {
+        let Handed { answer: _ } = self;
+    }
+}
+
+/// A token's text, or why there is none.
+pub(crate) fn token_words(alloc: Global, handed: &Handed) -> Result<String, AllocError> {
+    match &handed.answer {
+        Ok(token) => {
+            let text = token.token();
+            format!(in alloc; "={text}")
+        }
+        Err(error) => format!(in alloc; "{error:?}"),
+    }
+}
+
+fn kind(question: &Question) -> &'static str {
+    match question {
+        Question::Now => " now",
+        Question::Read { path: _ } => " read",
+        Question::Write { path: _, bytes: _ } => " write",
+        Question::Send(Request::CreateToken(_)) => " create-token",
+        Question::Send(Request::MetadataToken(_)) => " imds-token",
+        Question::Send(Request::MetadataGet(_)) => " imds-get",
+        _ => " another",
+    }
+}
+
+fn kinds(alloc: Global, journal: &[Entry]) -> Result<String, AllocError> {
+    let mut words = String::new(alloc);
+    for entry in journal {
+        words.push_str(kind(entry.question()))?;
+    }
+    Ok(words)
+}
+
+/// The kinds of what a world was asked since the last look, in order.
+pub(crate) fn asked(alloc: Global, world: &mut World<ScriptDevices>) -> Result<String, AllocError> {
+    let words = kinds(alloc, world.journal())?;
+    world.clear_journal();
+    Ok(words)
+}
+
+/// The session `abc`.
+pub(crate) const SESSIONS: &str =
+    r#""sessions":[["abc",[["sso_region","us-east-1"],["sso_start_url","u"]]]]"#;
+
+/// A file of its token `t`, which expires at 3600.
+pub(crate) const FILES: &str =
+    r#""files":[["/home/u/.aws/sso/cache/a9993e364706816aba3e25717850c26c9cd0d89d.json","{\"accessToken\":\"t\",\"expiresAt\":\"1970-01-01T01:00:00Z\"}"]]"#;

@@ -1,0 +1,4 @@
+pub mod MemberCauses
+pub mod MemberFollows
+pub mod MemberLists
+pub mod Building

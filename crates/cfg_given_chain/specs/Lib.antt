@@ -1,0 +1,7 @@
+pub mod CredentialsAnswers
+pub mod Members
+pub mod OneTree
+pub mod Causes
+pub mod Views
+pub mod Provides
+pub mod Builds

@@ -1,0 +1,3 @@
+//! Chains over given members.
+
+pub mod credentials;

@@ -1,0 +1,213 @@
+//! Chains of credentials providers over members that the caller gives.
+ghost use Rattle.std.specs.Prelude.{◌≡◌, ◌++◌, ◌∷◌, [], IfOk, OnErr, None, true, false, map, option_map};
+ghost use Rattle.cfg_values.specs.Text.{characters};
+ghost use Rattle.cfg_imds.specs.Clients.{rules_of};
+ghost use Rattle.cfg_keeping.specs.Clients.{client_rules};
+ghost use Rattle.cfg_keeping.specs.KeptStates.{kept_key, states_of};
+ghost use Rattle.cfg_keeping.specs.Kinds.{no_states};
+ghost use Rattle.cfg_members.specs.Fallbacks.{first_there};
+ghost use Rattle.cfg_members.specs.MemberParts.{keeping_of};
+ghost use Rattle.cfg_providers.specs.CustomSources.{named};
+ghost use Rattle.cfg_providers.specs.Provides.{is_memory};
+ghost use Rattle.cfg_region.specs.Calls.{RegionSet, RegionBreaks};
+ghost use Rattle.cfg_chain.specs.Settings.{lends};
+ghost use Rattle.cfg_given_chain.specs.Builds.{EndsByDefault};
+ghost use Rattle.cfg_given_chain.specs.Members.{needed_in, fallback_in, lent_to};
+ghost use Rattle.cfg_given_chain.specs.Provides.{FollowsGiven, ProvidesGiven, InterruptedGiven};
+ghost use Rattle.cfg_given_chain.specs.Views.{of_box, asked_of, lent_of, members_of};
+
+use crate::lent::{LentMember, NamedMember};
+use crate::member::Member;
+use cfg_chain::DefaultCredentialsChain;
+use cfg_imds::Client;
+use cfg_keeping::Kept;
+use cfg_members::{first_fallback, follow_members, new_kept, provide_by_members};
+use cfg_profile::ProviderConfig;
+use cfg_providers::CustomSource;
+use cfg_types::{Credentials, CredentialsError, OutOfMemory, Text};
+use cfg_world::{Asking, Devices, Stop, World};
+use std::alloc::Global;
+use std::marker::PhantomData;
+
+/// A chain of credentials providers. It asks its members in order.
+#[derive(Drop)]
+pub struct CredentialsProviderChain {
+    alloc: Global,
+    members: Vec<NamedMember>,
+}
+
+impl CredentialsProviderChain {
+    /// A chain without members. It is not loaded, with no attempts.
+    pub fn empty(alloc: Global) -> CredentialsProviderChain
+        ensures { members_of value fallback (of_box repeated) result ≡ [] }
+    {
+        CredentialsProviderChain {
+            alloc,
+            members: Vec::new(alloc),
+        }
+    }
+
+    /// A chain that begins with this member, which it tells of by this name.
+    pub fn first_try(
+        alloc: Global,
+        name: &str,
+        member: Member,
+    ) -> Result<CredentialsProviderChain, OutOfMemory>
+        ensures { IfOk result (λ chain. members_of value fallback (of_box repeated) chain ≡ (characters name.now, asked_of value fallback (of_box repeated) member) ∷ []) }
+    {
+        CredentialsProviderChain::empty(alloc).or_else(name, member)
+    }
+
+    /// The chain with this member behind the others, which it tells of by this name.
+    pub fn or_else(
+        mut self,
+        name: &str,
+        member: Member,
+    ) -> Result<CredentialsProviderChain, OutOfMemory>
+        ensures { IfOk result (λ chain. members_of value fallback (of_box repeated) chain ≡ members_of value fallback (of_box repeated) self ++ (characters name.now, asked_of value fallback (of_box repeated) member) ∷ []) }
+    {
+        let name = Text::of(self.alloc, name)?;
+        self.members.push(NamedMember { name, member })?;
+        Ok(self)
+    }
+
+    /// A chain of the default chain over this configuration, which it tells of as `DefaultProviderChain`. The
+    /// default region chain is asked for its region, as building a default chain asks it, and nothing more.
+    ///
+    /// # Errors
+    ///
+    /// `OutOfMemory` where memory runs out. The journal then has gained the beginning of the region's part.
+    pub fn default_provider<D: Devices>(
+        alloc: Global,
+        config: ProviderConfig,
+        world: &mut World<D>,
+    ) -> Result<CredentialsProviderChain, OutOfMemory>
+        ensures ends { IfOk result (λ chain. EndsByDefault ⟦<D as Devices>⟧ config [] (members_of value fallback (of_box repeated) chain) world.old world.new) }
+        ensures breaks { OnErr result (RegionBreaks ⟦<D as Devices>⟧ None config world.old world.new) }
+    {
+        CredentialsProviderChain::empty(alloc).or_default_provider(config, world)
+    }
+
+    /// The chain with the default chain over this configuration behind the others, as
+    /// [`Self::default_provider`] has it.
+    ///
+    /// # Errors
+    ///
+    /// `OutOfMemory` where memory runs out. The journal then has gained the beginning of the region's part.
+    pub fn or_default_provider<D: Devices>(
+        self,
+        config: ProviderConfig,
+        world: &mut World<D>,
+    ) -> Result<CredentialsProviderChain, OutOfMemory>
+        ensures ends { IfOk result (λ chain. EndsByDefault ⟦<D as Devices>⟧ config (members_of value fallback (of_box repeated) self) (members_of value fallback (of_box repeated) chain) world.old world.new) }
+        ensures breaks { OnErr result (RegionBreaks ⟦<D as Devices>⟧ None config world.old world.new) }
+    {
+        let default = default_over(self.alloc, config, world)?;
+        self.or_else("DefaultProviderChain", Member::Default(default))
+    }
+
+    // The members in order, each with what a call lends.
+    fn lend<'a>(
+        &'a self,
+        sources: &'a [CustomSource],
+        imds_client: Option<&'a Client>,
+    ) -> Result<Vec<LentMember<'a>>, OutOfMemory>
+        ensures { IfOk result (λ lent. map (lent_of value fallback repeated) lent.items ≡ lent_to (lends (map (named value) sources.now) (option_map (λ c. rules_of repeated c.now) imds_client.entry)) (members_of value fallback repeated self.now)) }
+    {
+        let mut lent = Vec::with_capacity(self.alloc, self.members.len())?;
+        for named in &self.members {
+            lent.push(LentMember {
+                named,
+                sources,
+                imds_client,
+                classifier: PhantomData,
+            })?;
+        }
+        Ok(lent)
+    }
+
+    /// What the chain keeps between calls, for each member in order, with nothing kept.
+    pub fn new_kept(&self) -> Result<Vec<Kept>, OutOfMemory>
+        ensures nothing { IfOk result (λ kept. map states_of kept.items ≡ map (λ _. no_states) (members_of value fallback (of_box repeated) self.now)) }
+        ensures keys { IfOk result (λ kept. map kept_key kept.items ≡ map needed_in (members_of value fallback (of_box repeated) self.now)) }
+    {
+        let lent = self.lend(&[], None)?;
+        new_kept(self.alloc, lent.as_slice())
+    }
+
+    /// The body of [`Self::provide_credentials`], over anything that can be asked. Where a question is
+    /// left open it stops there, and taken up again with one answer more it comes to the next.
+    pub fn follow<A: Asking>(
+        &self,
+        sources: &[CustomSource],
+        imds_client: Option<&Client>,
+        kept: &mut [Kept],
+        asking: &mut A,
+    ) -> Result<Result<Credentials, CredentialsError>, Stop>
+        requires { map kept_key kept.old ≡ map needed_in (members_of value fallback (of_box repeated) self.now) }
+        ensures follows { FollowsGiven ⟦<A as Asking>⟧ (lends (map (named value) sources.now) (option_map (λ c. client_rules repeated c.now) imds_client.entry)) (members_of value fallback (of_box repeated) self.now) (map keeping_of kept.old) (map keeping_of kept.new) asking.old asking.new result }
+        ensures keys { map kept_key kept.new ≡ map kept_key kept.old }
+    {
+        match self.lend(sources, imds_client) {
+            Ok(lent) => follow_members(self.alloc, lent.as_slice(), kept, asking),
+            Err(_) => Err(Stop::OutOfMemory),
+        }
+    }
+
+    /// Asks the members in order, and answers what the first one that was loaded gives. Members that were
+    /// not loaded are passed over, and any other error is the answer. The sources and the metadata client
+    /// are the caller's own, for members that are profiles or default chains, or stand on one. What is kept is one value
+    /// for each member, in order, each of a provider with the member's key, as [`Self::new_kept`] makes it.
+    ///
+    /// The world's journal gains the members' parts and nothing else. The lists of the values that were
+    /// found are those of this call alone.
+    ///
+    /// # Errors
+    ///
+    /// - `CredentialsNotLoaded(Chain)` where no member was loaded. It tells of each member, in order.
+    /// - Any other error of a member, as it is, where each one before it was not loaded.
+    /// - `OutOfMemory` where memory runs out. The journal then has gained the beginning of such parts,
+    ///   and each kept value is as the last finished holding left it.
+    pub fn provide_credentials<D: Devices>(
+        &self,
+        sources: &[CustomSource],
+        imds_client: Option<&Client>,
+        kept: &mut [Kept],
+        world: &mut World<D>,
+    ) -> Result<Credentials, CredentialsError>
+        requires { map kept_key kept.old ≡ map needed_in (members_of value fallback (of_box repeated) self.now) }
+        ensures provides { is_memory result ≡ false → ProvidesGiven ⟦<D as Devices>⟧ (lends (map (named value) sources.now) (option_map (λ c. client_rules repeated c.now) imds_client.entry)) (members_of value fallback (of_box repeated) self.now) (map keeping_of kept.old) (map keeping_of kept.new) world.old world.new result }
+        ensures stays { is_memory result ≡ true → InterruptedGiven ⟦<D as Devices>⟧ (lends (map (named value) sources.now) (option_map (λ c. client_rules repeated c.now) imds_client.entry)) (members_of value fallback (of_box repeated) self.now) (map keeping_of kept.old) (map keeping_of kept.new) world.old world.new }
+        ensures keys { map kept_key kept.new ≡ map kept_key kept.old }
+    {
+        match self.lend(sources, imds_client) {
+            Ok(lent) => provide_by_members(self.alloc, lent.as_slice(), kept, world),
+            Err(_) => Err(CredentialsError::OutOfMemory),
+        }
+    }
+
+    /// What a caller may use where a call was interrupted: the first member's credentials that are there,
+    /// in order. They are those that were last retrieved from instance metadata, of a provider of metadata
+    /// and of a default chain, and what a source of the caller's own falls back on. Nothing is asked, and
+    /// what is kept stays.
+    pub fn fallback_on_interrupt(&self, kept: &[Kept]) -> Result<Option<Credentials>, OutOfMemory>
+        requires { map kept_key kept.now ≡ map needed_in (members_of value fallback (of_box repeated) self.now) }
+        ensures { IfOk result (λ keys. keys ≡ first_there fallback_in (members_of value fallback (of_box repeated) self.now) (map states_of kept.now)) }
+    {
+        let lent = self.lend(&[], None)?;
+        first_fallback(self.alloc, lent.as_slice(), kept)
+    }
+}
+
+// The default chain over this configuration, in the region of its default region chain.
+fn default_over<D: Devices>(
+    alloc: Global,
+    config: ProviderConfig,
+    world: &mut World<D>,
+) -> Result<DefaultCredentialsChain, OutOfMemory>
+    ensures set { IfOk result (RegionSet ⟦<D as Devices>⟧ None config world.old world.new) }
+    ensures breaks { OnErr result (RegionBreaks ⟦<D as Devices>⟧ None config world.old world.new) }
+{
+    let builder = DefaultCredentialsChain::builder(alloc)?;
+    builder.configure(config).build(world)
+}

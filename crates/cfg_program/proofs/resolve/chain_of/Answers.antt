@@ -1,0 +1,12 @@
+-- The region that is given is the chain's, and nothing is asked for it.
+use Rattle.cfg_chain.proofs.GivenRegions.{given_chain, given_chain_grows, given_chain_stays}
+use Rattle.cfg_program.proofs.resolve.chain_of.Goals as goal
+
+pub returns-clause-chain : goal.returns-clause-chain
+returns-clause-chain g c = given_chain _ _ _ c.args.config c.args.region _ _ _ c.build.result c.in_ok-builder.ensures c.configure-builder.ensures c.region.ensures c.build.ensures.set
+
+pub returns-clause-world : goal.returns-clause-world
+returns-clause-world g c = given_chain_grows _ _ _ c.args.config c.args.region _ _ _ c.build.result c.in_ok-builder.ensures c.configure-builder.ensures c.region.ensures c.build.ensures.set
+
+pub returns-clause-stays : goal.returns-clause-stays
+returns-clause-stays g c = given_chain_stays _ _ _ c.args.config c.args.region _ _ _ c.build.result c.in_ok-builder.ensures c.configure-builder.ensures c.region.ensures c.build.ensures.breaks

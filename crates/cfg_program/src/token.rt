@@ -1,0 +1,144 @@
+//! The call of the default token chain.
+ghost use Rattle.std.specs.Prelude.{◌≡◌, ◌++◌, false, is_ok, IfOk, OnOk};
+ghost use Rattle.cfg_world.specs.Script.{AllFit};
+ghost use Rattle.cfg_script.specs.Script.{plain};
+ghost use Rattle.cfg_script.specs.Devices.{lists_of};
+ghost use Rattle.cfg_sso.specs.BearerTokens.{is_memory};
+ghost use Rattle.cfg_program.specs.Calls.{IsFresh};
+ghost use Rattle.cfg_program.specs.Tokens.{shown_bearer, shown_token, TellsToken, TokenAnswers};
+
+use crate::configuration::{configuration, region_named};
+use crate::lines::{write_expiry, write_kinds, write_word};
+use crate::outcome::Answered;
+use cfg_bearer::DefaultTokenChain;
+use cfg_chain::ProviderConfig;
+use cfg_region::RegionSource;
+use cfg_script::Script;
+use cfg_types::{OutOfMemory, Region, Token, TokenError};
+use cfg_world::{Entry, ScriptDevices, World};
+use std::alloc::{AllocError, Global};
+
+/// Makes the call of the default token chain over what the script configures, and over the devices with
+/// the script's answers. Nothing is kept before it. The script's region is the chain's.
+pub fn find_token(alloc: Global, script: Script) -> Result<Answered, OutOfMemory>
+    requires { AllFit (lists_of (plain script)) }
+    ensures { IfOk result (λ a. TokenAnswers (plain script) a.is_ok a.lines.items) }
+{
+    let Script {
+        variables,
+        profiles,
+        selected,
+        region,
+        sleep,
+        calls: _,
+        devices,
+    } = script;
+    let config = configuration(alloc, variables, profiles, selected, sleep)?;
+    let region = region_named(alloc, region)?;
+    let devices = ScriptDevices::new(alloc, devices)?;
+    let mut world = World::new(alloc, devices);
+    let chain = token_chain(alloc, config, region, &mut world)?;
+    ask_token(alloc, &chain, &mut world)
+}
+
+// The default chain with this region, or none, as its override. Nothing is asked.
+fn token_chain(
+    alloc: Global,
+    config: ProviderConfig,
+    region: Option<Region>,
+    world: &mut World<ScriptDevices>,
+) -> Result<DefaultTokenChain, OutOfMemory>
+    ensures chain { IfOk result (λ chain. chain ≡ record config { region = region }) }
+    ensures world { world.new ≡ world.old }
+{
+    let builder = DefaultTokenChain::builder(alloc)?.configure(config);
+    builder.region(RegionSource::Fixed(region)).build(world)
+}
+
+// The chain's token, and its line.
+fn ask_token(
+    alloc: Global,
+    chain: &DefaultTokenChain,
+    world: &mut World<ScriptDevices>,
+) -> Result<Answered, OutOfMemory>
+    requires { IsFresh world.old }
+    ensures { IfOk result (λ a. TellsToken chain.now world.old.devices.lists a.is_ok a.lines.items) }
+{
+    let mut kept = chain.new_kept()?;
+    let outcome = Outcome {
+        answer: chain.provide_token(&mut kept, world),
+    };
+    let mut lines = Vec::new(alloc);
+    let is_ok = tell(&mut lines, &outcome.answer, world.journal())?;
+    Ok(Answered { is_ok, lines })
+}
+
+// What the call answered. Its caller drops it by one call.
+struct Outcome {
+    answer: Result<Token, TokenError>,
+}
+
+impl Drop for Outcome {
+    fn drop(self) {
+        let Outcome { answer: _ } = self;
+    }
+}
+
+// Writes the call's line, and tells whether it gave a token.
+fn tell(
+    lines: &mut Vec<u8>,
+    outcome: &Result<Token, TokenError>,
+    journal: &[Entry],
+) -> Result<bool, OutOfMemory>
+    ensures memory { IfOk result (λ b. is_memory outcome.now ≡ false) }
+    ensures token { IfOk result (λ b. b ≡ is_ok outcome.now) }
+    ensures line { IfOk result (λ b. lines.new.items ≡ lines.old.items ++ shown_token outcome.now journal.now) }
+{
+    if is_out_of_memory(outcome) {
+        return Err(OutOfMemory);
+    }
+    write_token(lines, outcome, journal)?;
+    Ok(outcome.is_ok())
+}
+
+fn is_out_of_memory(outcome: &Result<Token, TokenError>) -> bool
+    ensures { result ≡ is_memory outcome.now }
+{
+    match outcome {
+        Err(TokenError::OutOfMemory) => true,
+        _ => false,
+    }
+}
+
+// What the call came to, and the kinds of the questions.
+#[tactic(auto, using(std::proofs::lemmas::Grind::common_steps))]
+fn write_token(
+    line: &mut Vec<u8>,
+    outcome: &Result<Token, TokenError>,
+    journal: &[Entry],
+) -> Result<(), AllocError>
+    ensures { OnOk result (line.new.items ≡ line.old.items ++ shown_token outcome.now journal.now) }
+{
+    write_bearer(line, outcome)?;
+    line.push(b' ')?;
+    write_kinds(line, journal)?;
+    line.push(b'\n')?;
+    Ok(())
+}
+
+// `token` and the expiry, or `error` and the class.
+fn write_bearer(line: &mut Vec<u8>, outcome: &Result<Token, TokenError>) -> Result<(), AllocError>
+    ensures { OnOk result (line.new.items ≡ line.old.items ++ shown_bearer outcome.now) }
+{
+    match outcome {
+        Ok(token) => {
+            write_word(line, b"token ")?;
+            write_expiry(line, token.expiry())?;
+        }
+        Err(error) => {
+            write_word(line, b"error ")?;
+            write_word(line, error.class().name().as_bytes())?;
+        }
+    }
+    Ok(())
+}
