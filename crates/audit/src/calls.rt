@@ -14,7 +14,7 @@ use cfg_world::{Devices, World};
 use std::alloc::Global;
 
 /// The lines of three calls: two for the profile of a sign-in session, the second on what the first one left
-/// kept, and one for the profile of a role, on a kept state of its own.
+/// kept, and one for the profile of a role, on a kept state of its own. `OutOfMemory` where memory runs out.
 pub fn audit(alloc: Global) -> Result<String, OutOfMemory>
     ensures { IfOk result (λ lines. IsAudit (string_bytes lines)) }
 {

@@ -21,7 +21,8 @@ pub const TOKEN_PATH: &str =
 pub const TOKEN: &str =
     "{\"accessToken\":{\"accessKeyId\":\"AK\",\"secretAccessKey\":\"SK\",\"sessionToken\":\"ST\",\"accountId\":\"012345678901\",\"expiresAt\":\"1970-01-01T00:15:00Z\"},\"refreshToken\":\"rt\",\"clientId\":\"ci\",\"dpopKey\":\"dk\"}";
 
-/// The default chain for the profile of this name, in one region. Nothing is asked for it.
+/// The default chain for the profile of this name, in the region `eu-west-1`. Nothing is asked for it.
+/// `OutOfMemory` where memory runs out.
 pub fn chain_for<D: Devices>(
     alloc: Global,
     profile: &str,

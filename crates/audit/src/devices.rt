@@ -6,13 +6,17 @@ use cfg_types::{Address, Bytes, FailKind, Finished, Instant, Reply, Request, Seq
 use cfg_world::{Devices, Fault};
 use std::alloc::Global;
 
-/// A clock that stands at the epoch, and one file, which cannot be written. All else fails, and each failure
-/// is counted.
+/// A clock that stands at the epoch, a jitter that is 0, and one file, which cannot be written. All else fails,
+/// and each failure is counted.
 #[derive(Drop)]
 pub struct OneFile {
+    /// Where the bytes of the file are copied to, at each reading.
     pub alloc: Global,
+    /// The path of the file. Other files cannot be read.
     pub path: &'static str,
+    /// What the file holds.
     pub content: &'static str,
+    /// How many calls have failed. A count that is full stands still.
     pub failures: u64,
 }
 

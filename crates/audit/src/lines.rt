@@ -11,7 +11,8 @@ use std::alloc::Global;
 use std::string::ToString;
 
 /// The line of a call: the id of the key that it gave, and by which provider, or its error with all that the
-/// error comes of; and then what it asked.
+/// error comes of; and then what it asked, in order, each with `!` where it failed. `OutOfMemory` where memory
+/// runs out.
 pub fn line(
     alloc: Global,
     outcome: &Result<Credentials, CredentialsError>,

@@ -9,7 +9,8 @@ use std::alloc::Global;
 /// The name of the source.
 pub const NAME: &str = "Fixed";
 
-/// Answers the id `FIXEDID` and the secret `FIXEDSECRET`, or that memory ran out.
+/// Answers the id `FIXEDID` and the secret `FIXEDSECRET`, without expiry, or that memory ran out. It falls back on
+/// nothing.
 pub struct Fixed {
     alloc: Global,
 }
@@ -21,6 +22,7 @@ impl Drop for Fixed {
 }
 
 impl Fixed {
+    /// A source that makes its credentials by this allocator, at each call.
     pub fn new(alloc: Global) -> Fixed {
         Fixed { alloc }
     }

@@ -1,7 +1,7 @@
 //! The program `bujerova`: it hands `cfg_program::run` the words after its name, standard input and
 //! output, the variables that are set and one source of credentials of its own, and ends with the number
 //! of the status. Where the status says that the input was refused, standard error has a line that says
-//! why.
+//! why, unless memory ran out for it. For an unknown command it has the usage.
 #![tactic(auto)]
 
 mod fixed;

@@ -20,11 +20,11 @@ use std::alloc::Global;
 pub enum RoleBase {
     /// A default chain.
     Default(DefaultCredentialsChain),
-    /// The environment's variables.
+    /// The environment's variables, as they were handed in.
     Environment(EnvironmentVariableCredentialsProvider),
-    /// These credentials.
+    /// These credentials. Nothing is asked.
     Fixed(Credentials),
-    /// A source of the caller's own. Its name plays no part.
+    /// A source of the caller's own. Its name plays no part, and nothing is asked.
     Custom(CustomSource),
 }
 
@@ -40,7 +40,7 @@ impl Drop for RoleBase {
 }
 
 impl RoleBase {
-    /// Whose token the base needs: that of a default chain.
+    /// Whose token the base needs: that of a default chain. The other bases need none.
     pub fn token_key(&self) -> Option<&TokenKey>
         ensures { option_copied result ≡ base_key (base_of value self.now) }
     {
@@ -50,7 +50,9 @@ impl RoleBase {
         }
     }
 
-    /// What the base answers, over anything that can be asked.
+    /// What the base answers, over anything that can be asked. The sources and the metadata client are the
+    /// caller's own, for a default chain. It stops with `Open` at a question that is left open, and with
+    /// `OutOfMemory` where memory runs out, also where a source of the caller's own answers so.
     #[tactic(auto, using(cfg_keeping::proofs::HoldingSteps::holding_steps))]
     pub fn follow<P: Keeper, A: Asking>(
         &self,

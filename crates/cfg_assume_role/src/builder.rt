@@ -56,7 +56,7 @@ impl Model for AssumeRoleProviderBuilder {
 
 impl AssumeRoleProviderBuilder {
     /// A builder for the role with this ARN, such as `arn:aws:iam::123456789012:role/example`, with no
-    /// variables and no region.
+    /// variables and no region. `OutOfMemory` where memory runs out.
     pub fn new(alloc: Global, role: &str) -> Result<AssumeRoleProviderBuilder, OutOfMemory>
         ensures { IfOk result (λ b. b ≡ for_role (characters role.now)) }
     {
@@ -78,7 +78,7 @@ impl AssumeRoleProviderBuilder {
         })
     }
 
-    /// With this external id, which another account's role may ask for.
+    /// With this external id, which another account's role may ask for. `OutOfMemory` where memory runs out.
     pub fn external_id(mut self, id: &str) -> Result<AssumeRoleProviderBuilder, OutOfMemory>
         ensures { IfOk result (λ b. b ≡ record self { session = record self.session { external_id = Some (characters id.now) } }) }
     {
@@ -86,7 +86,8 @@ impl AssumeRoleProviderBuilder {
         Ok(self)
     }
 
-    /// With this name for its sessions, in place of one made from a reading of the clock.
+    /// With this name for its sessions, in place of one made from a reading of the clock. `OutOfMemory` where
+    /// memory runs out.
     pub fn session_name(mut self, name: &str) -> Result<AssumeRoleProviderBuilder, OutOfMemory>
         ensures { IfOk result (λ b. b ≡ record self { session_name = Some (characters name.now) }) }
     {
@@ -94,7 +95,8 @@ impl AssumeRoleProviderBuilder {
         Ok(self)
     }
 
-    /// With this policy, a text in JSON, for its sessions. It is not read here.
+    /// With this policy, a text in JSON, for its sessions. It is not read here. `OutOfMemory` where memory
+    /// runs out.
     pub fn policy(mut self, policy: &str) -> Result<AssumeRoleProviderBuilder, OutOfMemory>
         ensures { IfOk result (λ b. b ≡ record self { session = record self.session { policy = Some (characters policy.now) } }) }
     {
@@ -103,7 +105,7 @@ impl AssumeRoleProviderBuilder {
     }
 
     /// With the managed policies of these ARNs for its sessions, in place of those that it had. They
-    /// are sent in this order.
+    /// are sent in this order. `OutOfMemory` where memory runs out.
     pub fn policy_arns(
         mut self,
         policy_arns: Vec<String>,
@@ -132,7 +134,7 @@ impl AssumeRoleProviderBuilder {
     }
 
     /// With these tags, each a key and a value, for its sessions, in place of those that it had. They
-    /// are sent in this order.
+    /// are sent in this order. `OutOfMemory` where memory runs out.
     pub fn tags(
         mut self,
         tags: Vec<(String, String)>,
@@ -154,7 +156,7 @@ impl AssumeRoleProviderBuilder {
     /// The provider over this base. Where no region is set here or in the configuration, the default region
     /// chain over the configuration is asked, and what it gives, none included, is the provider's region. Then
     /// the clock is read, for the name of the sessions, exactly where none was set: `assume-role-provider-`
-    /// and the milliseconds. Nothing else is asked.
+    /// and the milliseconds of the reading. Nothing else is asked.
     ///
     /// # Errors
     ///

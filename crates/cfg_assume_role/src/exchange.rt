@@ -14,7 +14,8 @@ use cfg_types::{
 use cfg_world::{Asking, NotGranted, Stop, leaves};
 use std::alloc::Global;
 
-/// The exchange that the base's credentials sign. Where the base gave an error, it is told as such.
+/// The exchange that the base's credentials sign. Where the base gave an error, it is `ProviderError(Base)` around
+/// that error, and nothing is sent.
 #[tactic(auto, using(cfg_providers::proofs::QuietSteps::quiet_steps), unfolding(crate::specs::Roles::behind_base))]
 pub(crate) fn behind_base<A: Asking>(
     alloc: Global,

@@ -42,7 +42,8 @@ impl Drop for AssumeRoleProvider {
 }
 
 impl AssumeRoleProvider {
-    /// A builder for the role with this ARN, with no variables and no region.
+    /// A builder for the role with this ARN, with no variables and no region. `OutOfMemory` where memory runs
+    /// out.
     pub fn builder(alloc: Global, role: &str) -> Result<AssumeRoleProviderBuilder, OutOfMemory>
         ensures { IfOk result (λ b. b ≡ for_role (characters role.now)) }
     {
@@ -56,7 +57,7 @@ impl AssumeRoleProvider {
         self.base.token_key()
     }
 
-    /// What the provider keeps between calls, with nothing kept.
+    /// What the provider keeps between calls, with nothing kept. `OutOfMemory` where memory runs out.
     pub fn new_kept(&self) -> Result<Kept, OutOfMemory>
         ensures nothing { IfOk result (λ kept. states_of kept ≡ no_states) }
         ensures key { IfOk result (λ kept. kept_key kept ≡ base_key (base_of value self.now.base)) }
@@ -69,7 +70,8 @@ impl AssumeRoleProvider {
     }
 
     /// The body of [`Self::provide_credentials`], over anything that can be asked. Where a question is
-    /// left open it stops there, and taken up again with one answer more it comes to the next.
+    /// left open it stops there with `Open`, and taken up again with one answer more it comes to the next.
+    /// It stops with `OutOfMemory` where memory runs out. The keeper has the key that the base needs.
     pub fn follow<P: Keeper, A: Asking>(
         &self,
         sources: &[CustomSource],
@@ -91,8 +93,10 @@ impl AssumeRoleProvider {
     }
 
     /// Asks the base, and then AWS STS for the role, by one `AssumeRole` that the base's credentials
-    /// sign. The sources and the metadata client are the caller's own, for a base that is a default chain.
-    /// What is kept is that of a provider with this key, as [`Self::new_kept`] makes it.
+    /// sign. The credentials are those of the reply with their expiry, under the provider's name
+    /// `AssumeRoleProvider`; the account is the fifth part of the reply's ARN, where it has one. The sources and
+    /// the metadata client are the caller's own, for a base that is a default chain. What is kept is that of a
+    /// provider with this key, as [`Self::new_kept`] makes it.
     ///
     /// The world's journal gains the base's part and the exchange, and nothing else. The list of the
     /// values that were found is that of this call alone.
@@ -105,7 +109,8 @@ impl AssumeRoleProvider {
     ///   the policy is malformed.
     /// - `ProviderError(Refused)` where it refused for another reason, and `ProviderError(Sent)` where
     ///   the request failed.
-    /// - `Unhandled(StsNoCredentials)`, `Unhandled(StsArn)` where its reply gives no credentials.
+    /// - `Unhandled(StsNoCredentials)` where its reply has no credentials, and `Unhandled(StsArn)` where the
+    ///   reply's ARN has fewer than five parts.
     /// - `OutOfMemory` where memory runs out. The journal then has gained the beginning of such a part,
     ///   and each kept value is as the last finished holding left it.
     pub fn provide_credentials<D: Devices>(

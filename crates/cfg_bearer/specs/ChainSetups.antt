@@ -5,7 +5,7 @@ use Rattle.cfg_profile.specs.Configuration.{Configuration, nothing_configured}
 use Rattle.cfg_region.specs.Environments.{Told}
 use Rattle.cfg_region.specs.Sources.{Source, region_source}
 use Rattle.cfg_bearer.specs.declared.default_provider.token.Builder.{Builder}
-use Rattle.cfg_bearer.specs.Setups.{with_name}
+use Rattle.cfg_region.specs.ProfileSetups.{with_name}
 
 pub record ChainSetup : Type 0 where
   pub configuration : Configuration
@@ -22,10 +22,9 @@ nothing_given = record { configuration = nothing_configured true; profile_name =
 abbrev pub configuration_alone : Configuration → ChainSetup
 configuration_alone conf = record nothing_given { configuration = conf }
 
--- What the chain is configured by: the configuration with this region, none included, in place of its own,
--- and with this name of a profile where one is given.
-abbrev pub chain_configured : Configuration → Option (List ℕ) → Told → Configuration
-chain_configured conf name region = record (with_name name conf) { region = region }
+-- what the chain that is built is configured by, but for its region
+abbrev pub chain_configured : ChainSetup → Configuration
+chain_configured s = with_name s.profile_name s.configuration
 
 module _ {V W : Type 0} {I : V → Type 0} {J : W → Type 0} where
   -- a builder, with what a caller's own source of a region tells and what a classifier repeats by the

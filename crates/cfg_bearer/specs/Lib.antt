@@ -5,6 +5,5 @@ pub mod Told
 pub mod Members
 pub mod Chains
 pub mod Provides
-pub mod Setups
 pub mod ChainSetups
 pub mod Builds

@@ -41,7 +41,8 @@ impl TokenProviderChain {
         }
     }
 
-    /// A chain that begins with this member, which it tells of by this name.
+    /// A chain that begins with this member, which it tells of by this name. `OutOfMemory` where memory
+    /// runs out.
     pub fn first_try(
         alloc: Global,
         name: &str,
@@ -52,7 +53,8 @@ impl TokenProviderChain {
         TokenProviderChain::empty(alloc).or_else(name, member)
     }
 
-    /// The chain with this member behind the others, which it tells of by this name.
+    /// The chain with this member behind the others, which it tells of by this name. `OutOfMemory` where
+    /// memory runs out. The chain is then given up.
     pub fn or_else(
         mut self,
         name: &str,
@@ -88,6 +90,7 @@ impl TokenProviderChain {
     /// # Errors
     ///
     /// `OutOfMemory` where memory runs out. The journal then has gained the beginning of the regions' part.
+    /// The chain is then given up.
     pub fn or_default_provider<D: Devices>(
         self,
         config: ProviderConfig,
@@ -100,7 +103,8 @@ impl TokenProviderChain {
         self.or_else("DefaultProviderChain", TokenMember::Default(default))
     }
 
-    /// What the chain keeps between calls, for each member in order, with nothing kept.
+    /// What the chain keeps between calls, for each member in order, with nothing kept. `OutOfMemory`
+    /// where memory runs out.
     pub fn new_kept(&self) -> Result<Vec<Kept>, OutOfMemory>
         ensures nothing { IfOk result (λ kept. map states_of kept.items ≡ map (λ _. no_states) (members_of told_token self.now)) }
         ensures keys { IfOk result (λ kept. map kept_key kept.items ≡ map needed_in (members_of told_token self.now)) }
@@ -109,7 +113,9 @@ impl TokenProviderChain {
     }
 
     /// The body of [`Self::provide_token`], over anything that can be asked. Where a question is left
-    /// open it stops there, and taken up again with one answer more it comes to the next.
+    /// open it stops there, and taken up again with one answer more it comes to the next. Where memory
+    /// runs out it stops with `OutOfMemory`. Each kept value is then, and at an open question, as the
+    /// last finished holding left it.
     pub fn follow<A: Asking>(
         &self,
         kept: &mut [Kept],

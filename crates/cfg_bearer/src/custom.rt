@@ -13,7 +13,8 @@ pub trait ProvideToken: Send + Sync {
     /// What it answers.
     ghost told_token: { Self → Bearer };
 
-    /// The token, or why there is none.
+    /// The token, or why there is none. A chain passes the source over where it is `TokenNotLoaded`, and
+    /// answers any other error as it is.
     fn provide_token(&self) -> Result<Token, TokenError>
         ensures { is_memory result ≡ false → result ≡ told_token self.now };
 }

@@ -27,14 +27,15 @@ pub enum TokenMember {
     Sso(SsoTokenProvider),
     /// A default chain.
     Default(DefaultTokenChain),
-    /// This token.
+    /// This token, as it is. Its expiry is not looked at.
     Fixed(Token),
     /// A source of the caller's own.
     Custom(CustomToken),
 }
 
 impl TokenMember {
-    /// Whose token the member needs: that of a profile's session, or that of its own.
+    /// Whose token the member needs: that of the session of its profile or of its default chain, where that
+    /// has one, or its own session's. A token that was given and a caller's own source need none.
     pub fn token_key(&self) -> Option<&TokenKey>
         ensures { option_copied result ≡ needed_key (asked_of told_token self.now) }
     {
@@ -46,7 +47,9 @@ impl TokenMember {
         }
     }
 
-    /// What the member answers, over anything that can be asked.
+    /// What the member answers, over anything that can be asked, on what is kept of it, whose key has to be
+    /// [`Self::token_key`]. Where a question is left open it stops there, and where memory runs out with
+    /// `OutOfMemory`. What is kept is then as the last finished holding left it.
     #[tactic(auto, using(cfg_keeping::proofs::HoldingSteps::holding_steps), unfolding(crate::specs::Members::member_tree))]
     pub fn follow<A: Asking>(
         &self,

@@ -10,8 +10,10 @@ use cfg_types::{CredentialsError, NotLoadedCause, OutOfMemory, ProviderAttempt, 
 use std::alloc::Global;
 
 /// An error of credentials and all that it comes of, from the outside in: of a chain of which no member was
-/// loaded each member, by its name, with all that its own error comes of. No text depends on a secret: of
-/// a reply of the metadata service the status is told, and not the body.
+/// loaded each member, by its name, with all that its own error comes of. Credentials and tokens are in no
+/// text, and of a reply of the metadata service with the status of an error the status alone is told. What a
+/// service says of its error, what a command wrote to standard error, addresses and paths, and a caller's own
+/// texts are told as they stand. Where memory runs out it is `OutOfMemory`.
 pub fn causes_of(alloc: Global, error: &CredentialsError) -> Result<Causes, OutOfMemory>
     ensures { IfOk result (λ causes. causes ≡ causes_of_error error.now) }
 {
@@ -99,7 +101,7 @@ fn tell_members(
     Ok(())
 }
 
-/// That no member of a chain was loaded.
+/// That no member of a chain was loaded, or that it has none.
 pub fn chain_words<E>(attempts: &[ProviderAttempt<E>]) -> &'static str
     ensures { result.now ≡ chain_words_of attempts.now }
 {

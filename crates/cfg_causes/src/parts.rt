@@ -1,4 +1,5 @@
-//! Errors that hold no error of their own kind: each, and then what it comes of.
+//! Errors that hold no error of their own kind: each, and then what it comes of. A call adds its lines at this
+//! depth. Where memory runs out it is `OutOfMemory`, and some of them may have been added.
 ghost use Rattle.std.specs.Prelude.{◌≡◌, ◌++◌, OnOk};
 ghost use Rattle.cfg_causes.specs.Lines.{lines_at};
 ghost use Rattle.cfg_causes.specs.Parts.{build_causes, below_build, unexpected_causes, below_imds, imds_causes, below_sso_token, sso_token_causes, below_login_token, login_token_causes, config_causes, unhandled_causes};

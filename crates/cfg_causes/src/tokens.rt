@@ -11,7 +11,7 @@ use cfg_types::{OutOfMemory, ProviderAttempt, TokenCause, TokenError};
 use std::alloc::Global;
 
 /// An error of tokens and all that it comes of, from the outside in, as [`causes_of`](crate::causes_of) gives
-/// them of an error of credentials.
+/// them of an error of credentials. Where memory runs out it is `OutOfMemory`.
 pub fn token_causes_of(alloc: Global, error: &TokenError) -> Result<Causes, OutOfMemory>
     ensures { IfOk result (λ causes. causes ≡ causes_of_token_error error.now) }
 {

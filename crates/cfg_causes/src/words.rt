@@ -1,4 +1,5 @@
-//! Words for causes that have no text of their own, and for those whose text std leaves open.
+//! Words for causes that have no text of their own, and for those whose text std leaves open. Where memory runs
+//! out it is `OutOfMemory`.
 ghost use Rattle.std.specs.Prelude.{◌≡◌, ◌++◌, ◌∷◌, [], IfOk, OnOk, string_bytes, codes};
 ghost use Rattle.std.specs.List.{flat_map, list_all};
 ghost use Rattle.std.specs.Str.{encode_utf8_all};
@@ -11,7 +12,7 @@ use cfg_types::imds::FailedToLoadToken;
 use cfg_types::{LoginJsonFault, OutOfMemory, ProfileFileError, RefusalKind, Text};
 use std::alloc::Global;
 
-/// Why a profile gives no credentials.
+/// Why a profile gives no credentials, or no token.
 pub fn tell_profile(
     causes: &mut Causes,
     depth: usize,
@@ -83,7 +84,7 @@ fn is_ascii(name: &str) -> bool
     name.as_bytes().iter().all(|b| *b < 128)
 }
 
-/// What a service refused a call for, where it says so.
+/// What a service refused a call for, where it says so. `Other` adds no line.
 pub fn tell_refusal(causes: &mut Causes, depth: usize, kind: RefusalKind) -> Result<(), OutOfMemory>
     ensures { OnOk result (causes.new ≡ causes.old ++ lines_at depth (refusal_words kind)) }
 {
@@ -129,14 +130,14 @@ pub fn json_fault(fault: LoginJsonFault) -> &'static str
     }
 }
 
-/// How long a refreshed token would last.
+/// How long a refreshed token would last, in seconds.
 pub fn lifetime(alloc: Global, seconds: i64) -> Result<String, OutOfMemory>
     ensures { IfOk result (λ words. string_bytes words ≡ lifetime_words seconds) }
 {
     Ok(format!(in alloc; "the lifetime is {seconds} seconds")?)
 }
 
-/// A text in backquotes, and what is wrong with it.
+/// A text in backquotes, and what is wrong with it: `behind` begins with the closing backquote.
 pub fn tell_quoted(
     causes: &mut Causes,
     depth: usize,

@@ -1,44 +1,14 @@
--- A region that was given is the one that a configuration gets, and nothing is asked for it.
-use Rattle.std.proofs.Common.{◌≡◌, List, [], ◌∷◌, Some, None, Result, Ok, Err, IfOk, OnErr, inl, inr, refl, sym, ap, ◌∙◌, subst}
+-- A chain that was built with a region that was given: nothing is asked for it.
+use Rattle.std.proofs.Common.{◌≡◌, [], Some, None, Result, Ok, Err, IfOk, OnErr, ap, ◌∙◌, subst}
 use Rattle.cfg_world.specs.declared.devices.Devices.{Ghosts}
-use Rattle.cfg_world.specs.Fits.{Pair}
 use Rattle.cfg_world.specs.Grows.{Grows, Stays}
 use Rattle.cfg_world.specs.Held.{Held}
-use Rattle.cfg_world.specs.Inquiry.{Reads, Begun}
 use Rattle.cfg_profile.specs.Configuration.{Configuration}
 use Rattle.cfg_region.specs.Calls.{RegionSet, RegionBreaks}
 use Rattle.cfg_region.specs.Environments.{Told}
-use Rattle.cfg_region.specs.Sources.{Given, tree}
+use Rattle.cfg_region.specs.Sources.{Given}
+use Rattle.cfg_region.proofs.GivenRegions.{given_is, given_grows, given_stays}
 use Rattle.cfg_chain.specs.Setups.{Setup, nothing_set, configured}
-use Rattle.cfg_chain.proofs.WorldSteps.{stays_here}
-
-given_reads : (told region : Told) (part : List Pair) → Reads (tree (Given told)) part region → (part ≡ []) × (region ≡ told)
-unfolding tree
-given_reads told region [] h = (refl, sym h)
-given_reads told region (e ∷ part) h = absurd h
-
-given_begun : (told : Told) (part : List Pair) → Begun (tree (Given told)) part → part ≡ []
-unfolding tree
-given_begun told [] h = refl
-given_begun told (e ∷ part) h = absurd h
-
-module _ {D : Type 0} {d : Ghosts D} (told : Told) (conf : Configuration) (old new : Held D) where
-  reads_given : (set : Configuration) (s : RegionSet d (Some (Given told)) conf old new set) → (s.part ≡ []) × (s.region ≡ told)
-  reads_given set s = given_reads told s.region s.part (subst (λ source. Reads (tree source) s.part s.region) s.asked s.reads)
-
-  -- it is the configuration's region
-  pub given_is : (set : Configuration) → RegionSet d (Some (Given told)) conf old new set → set ≡ record conf { region = told }
-  given_is set s = s.is ∙ ap (λ region. record conf { region = region }) (reads_given set s).1
-
-  -- the journal is as it was
-  pub given_grows : (set : Configuration) → RegionSet d (Some (Given told)) conf old new set → Grows d [] old new
-  given_grows set s = subst (λ part. Grows d part old new) (reads_given set s).0 s.grows
-
-  -- also where memory ran out
-  pub given_stays : RegionBreaks d (Some (Given told)) conf old new → Stays d [] old new
-  given_stays (inl same) = subst (λ (w : Held D). Stays d [] old w) (sym same) (stays_here old)
-  given_stays (inr b) =
-      subst (λ part. Stays d part old new) (given_begun told b.breaks.part (subst (λ source. Begun (tree source) b.breaks.part) b.asked b.breaks.begun)) b.breaks.stays
 
 -- ---- the chain of a builder that was given a configuration and a region
 

@@ -1,6 +1,6 @@
 -- The parts of a call, in its caller's words.
 use Rattle.std.proofs.Common.{◌≡◌, ◌⊎◌, inl, inr, List, [], ◌∷◌, ◌++◌, map, Bool, true, false, Some, None, Ok, Err, refl, sym, ap, ◌∙◌, subst, append-nil, append_assoc}
-use Rattle.std.specs.Prelude.{is_ok, if◌then◌else◌}
+use Rattle.std.specs.Prelude.{if◌then◌else◌}
 use Rattle.std.specs.List.{AllByRecursion, flat_map}
 use denote.Hole.Carrier as carrier
 use Rattle.cfg_types.specs.declared.errors.CredentialsError as errors
@@ -24,7 +24,6 @@ use Rattle.cfg_chain.specs.Provides.{IsCall, Provides}
 use Rattle.cfg_chain.specs.Callers.{Passed, WasNotLoaded, members_in, found_in, parts_in, told_of, IsAnsweredBy, IsAnsweredByNone, TellsWho}
 use Rattle.cfg_chain.proofs.PassedByTable.{by_table}
 use Rattle.cfg_chain.proofs.PassingErrors.{at_odds}
-use Rattle.cfg_chain.proofs.UsableEntries.{no_success}
 
 kept_error : (e : CredentialsError) (b : Bool) → (if b then Some e else None) ≡ None → b ≡ false
 kept_error e true h = cc
@@ -118,18 +117,14 @@ module _ (s : Setting) (names : IsContainerUri s.configuration.environment s.con
             })
       ]
 
-  -- the three cases of an answer
-  of_credentials : (members : List Member) (found : List Value) (journal : List Pair) (out : Answer) → IsAnsweredBy s members found journal out ⊎ NoneOf members [] found journal out → is_ok out ≡ true → IsAnsweredBy s members found journal out
-  of_credentials members found journal out (inl a) fine = a
-  of_credentials members found journal out (inr n) fine = absurd (no_success (sym (ap is_ok n.tells) ∙ fine))
-
+  -- the two cases of an answer
   of_none : (members : List Member) (found : List Value) (journal : List Pair) (out : Answer) → IsAnsweredBy s members found journal out ⊎ NoneOf members [] found journal out → is_not_loaded_answer out ≡ true → IsAnsweredByNone s members found journal out
   of_none members found journal out (inl a) none = at_odds (is_not_loaded_answer out) none a.loaded
   of_none members found journal out (inr n) none = record { passed_over = n.passed_over; order = n.order; not_loaded = n.not_loaded; tells = n.tells; finds = n.finds; asks = n.asks }
 
-  of_other : (members : List Member) (found : List Value) (journal : List Pair) (out : Answer) → IsAnsweredBy s members found journal out ⊎ NoneOf members [] found journal out → is_not_loaded_answer out ≡ false → IsAnsweredBy s members found journal out
-  of_other members found journal out (inl a) loaded = a
-  of_other members found journal out (inr n) loaded = at_odds (is_not_loaded_answer out) (ap is_not_loaded_answer n.tells ∙ none_is_not_loaded (map told_of n.passed_over)) loaded
+  of_one : (members : List Member) (found : List Value) (journal : List Pair) (out : Answer) → IsAnsweredBy s members found journal out ⊎ NoneOf members [] found journal out → is_not_loaded_answer out ≡ false → IsAnsweredBy s members found journal out
+  of_one members found journal out (inl a) loaded = a
+  of_one members found journal out (inr n) loaded = at_odds (is_not_loaded_answer out) (ap is_not_loaded_answer n.tells ∙ none_is_not_loaded (map told_of n.passed_over)) loaded
 
 -- a call tells who answered
 pub call_tells : (conf : Configuration) (lent : Lent) (old new : States) (found : List Value) (before later part : List Pair) (out : Answer) → later ≡ before ++ part → IsCall conf lent old new found part out → TellsWho conf lent found before later out
@@ -141,9 +136,8 @@ call_tells conf lent old new found before later part out grows call =
       names = call.names;
       journal = part;
       grows = grows;
-      credentials = of_credentials s call.names.container default_members found part out who;
-      none_loaded = of_none s call.names.container default_members found part out who;
-      other_error = of_other s call.names.container default_members found part out who;
+      by_one = of_one s call.names.container default_members found part out who;
+      by_none = of_none s call.names.container default_members found part out who;
     }
 
 pub tells_who : {D : Type 0} (d : Ghosts D) (conf : Configuration) (lent : Lent) (old new : States) (found : List Value) (before later : Held D) (out : Answer) → Provides d conf lent old new found before later out → TellsWho conf lent found before.journal later.journal out

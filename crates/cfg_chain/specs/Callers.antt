@@ -1,5 +1,5 @@
 -- Who answered a call of the default chain, in its caller's words.
-use Rattle.std.specs.Prelude.{◌≡◌, List, [], ◌∷◌, ◌++◌, map, Bool, true, false, is_ok, Err}
+use Rattle.std.specs.Prelude.{◌≡◌, List, [], ◌∷◌, ◌++◌, map, true, false, Err}
 use Rattle.std.specs.List.{AllByRecursion, flat_map}
 use Rattle.cfg_types.specs.declared.errors.CredentialsError.{CredentialsError}
 use Rattle.cfg_types.specs.declared.errors.ProviderAttempt.{ProviderAttempt}
@@ -65,14 +65,12 @@ pub record IsAnsweredByNone (s : Setting) (members : List Member) (found : List 
   pub finds : found ≡ found_in passed_over
   pub asks : journal ≡ parts_in passed_over
 
--- What the answer of a call tells its caller of the stretch by which the journal grew: credentials are those
--- of one member; where the answer is that nothing was loaded, none of the five was; any other error is that
--- of one member.
+-- What the answer of a call tells its caller of the stretch by which the journal grew: unless it is that nothing
+-- was loaded, one member answered, be it with credentials or with an error; else none of the five was loaded.
 pub record TellsWho (conf : Configuration) (lent : Lent) (found : List Value) (before later : List Pair) (out : Answer) : Type 0 where
   pub services : Services
   pub names : AreServices conf lent.client services
   pub journal : List Pair
   pub grows : later ≡ before ++ journal
-  pub credentials : is_ok out ≡ true → IsAnsweredBy (setting conf lent.sources services) default_members found journal out
-  pub none_loaded : is_not_loaded_answer out ≡ true → IsAnsweredByNone (setting conf lent.sources services) default_members found journal out
-  pub other_error : is_not_loaded_answer out ≡ false → IsAnsweredBy (setting conf lent.sources services) default_members found journal out
+  pub by_one : is_not_loaded_answer out ≡ false → IsAnsweredBy (setting conf lent.sources services) default_members found journal out
+  pub by_none : is_not_loaded_answer out ≡ true → IsAnsweredByNone (setting conf lent.sources services) default_members found journal out

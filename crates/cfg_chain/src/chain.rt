@@ -19,7 +19,9 @@ use cfg_types::{
 use cfg_world::{Asking, Stop};
 use std::alloc::Global;
 
-/// Asks the members in order, up to the first one that was loaded or that failed.
+/// Asks the members in order, up to the first one that was loaded or that failed, and answers what it gave.
+/// Where none was loaded it is `CredentialsNotLoaded(Chain)`, with what each one answered. It stops with `Open`
+/// at a question that is left open, and with `OutOfMemory` where memory runs out.
 #[tactic(auto, using(cfg_keeping::proofs::ChainSteps::chain_steps))]
 pub fn follow_chain<P: Keeper, A: Asking>(
     alloc: Global,

@@ -1,8 +1,7 @@
 //! Laws of chains, each on a call that carries it.
-ghost use Rattle.std.specs.Prelude.{◌≡◌, ◌↔◌, ℕ, List, [], true, is_ok, Option, Some, Result, Ok};
+ghost use Rattle.std.specs.Prelude.{◌≡◌, ◌↔◌, ℕ, List, true, is_ok, Option, Result, Ok};
 ghost use Rattle.cfg_types.specs.declared.errors.ProviderAttempt.{ProviderAttempt};
 ghost use Rattle.cfg_world.specs.Fits.{Pair};
-ghost use Rattle.cfg_world.specs.Grows.{Grows};
 ghost use Rattle.cfg_world.specs.Held.{Held};
 ghost use Rattle.cfg_world.specs.declared.script.DeviceLists.{DeviceLists as Lists};
 ghost use Rattle.cfg_world.specs.Script.{Place, Given};
@@ -24,9 +23,6 @@ ghost use Rattle.cfg_chain.specs.PassedOver.{IsPassedOver, PassesByTable};
 ghost use Rattle.cfg_chain.specs.Resolves.{Resolves};
 ghost use Rattle.cfg_chain.specs.Valid.{IsValid};
 ghost use Rattle.cfg_chain.specs.Provides.{IsCall, Provides};
-ghost use Rattle.cfg_region.specs.Calls.{RegionSet};
-ghost use Rattle.cfg_region.specs.Environments.{Told};
-ghost use Rattle.cfg_region.specs.Sources.{Given as GivenRegion};
 ghost use Rattle.cfg_chain.specs.Callers.{TellsWho};
 ghost use Rattle.cfg_chain.specs.profile.Bases.{CanBeAsked};
 ghost use Rattle.cfg_chain.specs.profile.Plans.{Planned, profile_plan, plan, key_of_plan, key_of};
@@ -92,12 +88,6 @@ pub fn a_plan_has_a_base_that_can_be_asked()
 /// Whose token a configuration needs is the same whatever sources the caller has.
 pub fn a_configuration_has_one_key()
     ensures { (conf : Configuration) (sources : List (List ℕ)) → key_of_plan (plan conf sources) ≡ key_of conf }
-{}
-
-/// A chain that was built with a given region, or none, has it, and nothing was asked for it: a build ensures
-/// `RegionSet` of its source.
-pub fn a_given_region_asks_nothing<D: Devices>()
-    ensures { (told : Told) (conf chain : Configuration) (old new : Held D) → RegionSet ⟦<D as Devices>⟧ (Some (GivenRegion told)) conf old new chain → Grows ⟦<D as Devices>⟧ [] old new × (chain ≡ record conf { region = told }) }
 {}
 
 /// A call tells its caller who answered. Credentials are those that one of the five members reads over its part

@@ -21,10 +21,15 @@ use std::alloc::Global;
 /// A member of the default chain.
 #[derive(Clone, Copy, Debug, PartialEq, Eq)]
 pub enum Member {
+    /// The environment's variables.
     Environment,
+    /// The selected profile.
     Profile,
+    /// A web identity, by the file and the role that the variables name.
     WebIdentityToken,
+    /// A container, at the address that the variables name.
     EcsContainer,
+    /// The role of a machine, by its instance metadata service.
     Ec2InstanceMetadata,
 }
 
@@ -52,6 +57,7 @@ pub enum Turn {
     Answers(Result<Credentials, CredentialsError>),
 }
 
+/// How a chain goes on: a member that was not loaded is passed over, and anything else is its answer.
 pub fn turn_of(outcome: Result<Credentials, CredentialsError>) -> Turn
     ensures { IsTurn outcome result }
 {
@@ -63,7 +69,8 @@ pub fn turn_of(outcome: Result<Credentials, CredentialsError>) -> Turn
     }
 }
 
-/// Asks what the member asks, and reads what it reads.
+/// Asks what the member asks, and answers what it gives or its error. It stops with `Open` at a question that is
+/// left open, and with `OutOfMemory` where memory runs out.
 #[tactic(auto, using(cfg_keeping::proofs::HoldingSteps::holding_steps), unfolding(crate::specs::Members::member_tree))]
 pub fn follow_member<P: Keeper, A: Asking>(
     alloc: Global,

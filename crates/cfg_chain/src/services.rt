@@ -6,12 +6,14 @@ ghost use Rattle.cfg_chain.specs.Settings.{lent_or as lent_or_own};
 use cfg_exchange::ContainerUri;
 use cfg_imds::Client;
 
-/// The address at which the variables say that a container's credentials are; the metadata client of the
-/// chain's own member; and that of a source that a profile names.
+/// Which address and which metadata clients a call asks.
 #[derive(Drop)]
 pub struct Services<'a> {
+    /// The address at which the variables say that a container's credentials are.
     pub container: &'a ContainerUri,
+    /// The metadata client of the chain's own member.
     pub client: &'a Client,
+    /// The metadata client of a source that a profile names.
     pub named_client: &'a Client,
 }
 

@@ -14,8 +14,9 @@ use cfg_world::{Answer, Asking, Question, Receipt, Reply, Request, Stop};
 use std::alloc::Global;
 
 /// Sends the request until its answer is not repeated, `limit` times at most, and once where that is
-/// 0. An answer is repeated where it does not read as fine and the classifier says so. The receipt is
-/// that of the last attempt.
+/// 0. An answer is repeated where it does not read as fine and the classifier says so. Nothing is asked
+/// between two attempts. The receipt is that of the last attempt, whatever its answer: a send that
+/// failed is no error here. After a stop the journal has gained the attempts that were made so far.
 #[tactic(auto, using(cfg_world::proofs::Inquiries::asking_steps))]
 pub fn exchange<A: Asking, C: ClassifyRetry>(
     alloc: Global,

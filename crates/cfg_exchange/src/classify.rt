@@ -8,7 +8,8 @@ use crate::reading::{Reading, is_success};
 use cfg_types::HttpReply;
 
 /// Says which attempts are repeated. A send that failed is handed over without a reply, and as
-/// unreadable.
+/// unreadable. An exchange does not ask it of a reply that reads as fine, nor of the last attempt that
+/// its limit allows.
 pub trait ClassifyRetry: Send + Sync {
     /// Whether an attempt with this reply and this reading is repeated.
     ghost repeated: { Self → Option ReplyGiven → ReadingGiven → Bool };
@@ -53,16 +54,16 @@ impl ClassifyRetry for HttpCredentialRetryClassifier {
     }
 }
 
-/// For replies of the instance metadata service: repeats server errors and the status 401, by which
-/// the service tells that a token has expired. A send that failed is repeated only where that is asked
-/// for.
+/// For replies of the instance metadata service: repeats server errors (500 to 599) and the status 401,
+/// by which the service tells that a token has expired. A send that failed is repeated only where that
+/// is asked for. How a reply reads plays no part.
 #[derive(Clone, Copy, Debug, Default, PartialEq, Eq)]
 pub struct ImdsResponseRetryClassifier {
     retry_connect_timeouts: bool,
 }
 
 impl ImdsResponseRetryClassifier {
-    /// Whether a send that failed is repeated. It is not, unless this is called.
+    /// Whether a send that failed is repeated, in whatever way it failed. It is not, unless this is set.
     pub fn with_retry_connect_timeouts(
         self,
         retry_connect_timeouts: bool,

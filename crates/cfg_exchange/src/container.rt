@@ -31,7 +31,8 @@ use std::alloc::Global;
 pub struct ContainerSettings {
     /// Whether names of hosts can be looked up.
     pub dns: bool,
-    /// Whether it is known how to wait between two attempts. Without it there is one attempt.
+    /// Whether it is known how to wait between two attempts. With it there are three attempts at most,
+    /// without it there is one.
     pub sleep: bool,
     /// The limit of time to connect, in milliseconds.
     pub connect_ms: u64,
@@ -47,7 +48,7 @@ pub enum ContainerUri {
     Relative(Target),
     /// At this relative address, which is no URI.
     NoRelative(Text),
-    /// At this full address.
+    /// At this full address, with what it names.
     Full { uri: Text, named: FullUri },
 }
 
@@ -175,7 +176,9 @@ fn full_uri(alloc: Global, text: &str) -> Result<ContainerUri, OutOfMemory>
 
 /// Where the variables say that a container's credentials are: at the relative address of
 /// `AWS_CONTAINER_CREDENTIALS_RELATIVE_URI`, else at the full one of
-/// `AWS_CONTAINER_CREDENTIALS_FULL_URI`. A variable that is no text counts as one that is not set.
+/// `AWS_CONTAINER_CREDENTIALS_FULL_URI`. A variable that is not Unicode counts as one that is not set, an
+/// empty one as set. Whether the address may be asked is not looked at, and nothing is asked.
+/// `OutOfMemory` where memory runs out.
 pub fn container_uri(alloc: Global, env: &Env) -> Result<ContainerUri, OutOfMemory>
     ensures { IfOk result (IsContainerUri env.now) }
 {
@@ -392,7 +395,8 @@ fn fetch_keys<A: Asking>(
     Ok(outcome)
 }
 
-/// The credentials, where it is known what the variables name, as `container_credentials` gives them.
+/// The credentials, where it is known what the variables name (`container_uri`), as
+/// [`container_credentials`] gives them, with its errors.
 #[tactic(auto, using(cfg_world::proofs::Inquiries::asking_steps))]
 pub fn follow_container<A: Asking>(
     alloc: Global,
@@ -440,14 +444,18 @@ fn follow_uri<A: Asking>(
 ///
 /// # Errors
 ///
-/// - `ProviderError(File)`: the token's file cannot be read.
+/// - `ProviderError(File)`: the token's file cannot be read. It has the path.
 /// - `InvalidConfiguration(AuthToken)`: the token is no header value.
-/// - `CredentialsNotLoaded(NotConfigured)`: neither address is set.
-/// - `InvalidConfiguration(RelativeUri)`, `InvalidConfiguration(FullUri)`: the address is refused.
+/// - `CredentialsNotLoaded(NotConfigured)`: the token is fine or not set, and neither address is set.
+/// - `InvalidConfiguration(RelativeUri)`: the relative address is no URI. It has the text.
+/// - `InvalidConfiguration(FullUri)`: the full address is refused. It has the text, and the error of
+///   `validate_full_uri`.
 /// - `Unhandled(Sent)`: the last attempt was not answered.
 /// - `ProviderError(Status)`, `ProviderError(ErrorDocument)`, `Unhandled(NotUtf8)`,
 ///   `Unhandled(NoDocument)`: its reply has no status of success, or tells of an error, or is not UTF-8,
 ///   or is no document.
+///
+/// Memory that runs out is a stop. The journal then has gained the beginning of such a part.
 pub fn container_credentials<A: Asking>(
     alloc: Global,
     env: &Env,

@@ -21,15 +21,15 @@ use std::alloc::Global;
 pub enum FullUri {
     /// It is no URI.
     Unreadable,
-    /// It has no host.
+    /// It is a URI without a host.
     Hostless,
     /// It has a host, and no scheme.
     Schemeless,
-    /// It is HTTPS.
+    /// It is HTTPS, at this target.
     Secure(Target),
-    /// It is not HTTPS, and its host is an address.
+    /// It is not HTTPS, and its host is this address.
     AtAddress { target: Target, address: Address },
-    /// It is not HTTPS, and its host is a name.
+    /// It is not HTTPS, and its host is this name.
     AtName { target: Target, host: Text },
 }
 
@@ -120,7 +120,7 @@ fn named(alloc: Global, uri: &Uri) -> Result<FullUri, OutOfMemory>
 }
 
 /// What the text of a full address names, by what `http_uri` reads. A host that is an address may
-/// stand in brackets.
+/// stand in brackets. Nothing is asked. `OutOfMemory` where memory runs out.
 pub fn read_full_uri(alloc: Global, uri: &str) -> Result<FullUri, OutOfMemory>
     ensures { IfOk result (IsFullUri uri.now) }
 {
@@ -187,7 +187,9 @@ fn at_name<A: Asking>(
 }
 
 impl FullUri {
-    /// The target, where it may be asked. Where the host is a name, its addresses are asked for.
+    /// The target, where it may be asked, by the rule and with the errors of [`validate_full_uri`].
+    /// Where it is not HTTPS, its host is a name, and `dns` is set, the addresses of the host are asked
+    /// for, and else nothing.
     #[tactic(auto, using(cfg_world::proofs::Inquiries::asking_steps), unfolding(crate::specs::Targets::full_target))]
     pub fn into_target<A: Asking>(
         self,
@@ -229,8 +231,9 @@ fn follow_full_uri<A: Asking>(
 
 /// The target of a full address of a container's credentials. HTTPS may go anywhere. Else the host has
 /// to be an allowed address (`is_full_uri_ip_allowed`), in brackets or not, or a name whose addresses
-/// are all allowed. `dns` says whether there is a resolver for names. The journal gains the look-up of
-/// the host, where that is asked, and nothing else.
+/// are all allowed; a look-up that answers no address at all refuses nothing. `dns` says whether there is
+/// a resolver for names. The journal gains the look-up of the host, where that is asked, and nothing
+/// else.
 ///
 /// # Errors
 ///
@@ -239,7 +242,7 @@ fn follow_full_uri<A: Asking>(
 /// - `NoDnsResolver`: the host is a name, and there is no resolver.
 /// - `DnsLookupFailed`: the host is a name, and its look-up failed.
 /// - `DisallowedIP`: the host is an address that is not allowed, or a name that has one.
-/// - `OutOfMemory`: memory runs out.
+/// - `OutOfMemory`: memory runs out. The journal then has gained that look-up, or nothing.
 pub fn validate_full_uri<D: Devices>(
     alloc: Global,
     uri: &str,

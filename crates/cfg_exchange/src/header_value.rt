@@ -8,7 +8,8 @@ fn is_header_byte(byte: u8) -> bool
 }
 
 /// Whether the bytes can be the value of a header (RFC 9110, section 5.5): tabs, and bytes that are no
-/// control characters. Bytes above 127 are such.
+/// control characters. Bytes above 127 are such. Blanks may stand at both ends, and no bytes at all are
+/// a value.
 pub fn is_header_value(bytes: &[u8]) -> bool
     ensures { result ≡ is_value bytes.now }
 {

@@ -15,7 +15,7 @@ use std::alloc::Global;
 pub enum Reading {
     /// It holds what was asked for.
     Fine,
-    /// It says why it does not.
+    /// Its status, or the error document that it is, says that it does not.
     Refused,
     /// It holds something else.
     Unreadable,
@@ -28,11 +28,11 @@ pub enum ReplyKind {
     Document,
     /// A token of the instance metadata service, and how many seconds it lives.
     MetadataToken,
-    /// A text.
+    /// A text of the instance metadata service, in UTF-8.
     MetadataText,
 }
 
-/// Whether it is a status of success (RFC 9110, section 15.3).
+/// Whether it is a status of success, from 200 to 299 (RFC 9110, section 15.3).
 pub fn is_success(status: u16) -> bool
     ensures { result ≡ is_success_of status }
 {
@@ -106,12 +106,12 @@ fn text_reading(reply: &HttpReply) -> Reading
 }
 
 impl ReplyKind {
-    /// How a reply reads that is to hold this.
+    /// How a reply reads that is to hold this. `OutOfMemory` where memory runs out.
     ///
     /// | it is to hold | refused | unreadable |
     /// |---|---|---|
     /// | a document | no success, or an error document | a success that is not UTF-8, or no document |
-    /// | a metadata token | the statuses 400 and 403 | a body that is no header value, or no lifetime that is a number of 64 bits |
+    /// | a metadata token | the statuses 400 and 403 | a body that is no header value, or no lifetime of 64 bits |
     /// | a text | no success | a success that is not UTF-8 |
     ///
     /// All else is fine.

@@ -11,7 +11,9 @@ use std::alloc::Global;
 /// Where a request goes: a path, with its query, at an endpoint.
 #[derive(Debug, PartialEq, Eq)]
 pub struct Target {
+    /// A scheme, `://` and an authority, without a path.
     pub endpoint: Text,
+    /// The path, and behind `?` the query, where there is one.
     pub path: Text,
 }
 
@@ -25,7 +27,7 @@ impl Drop for Target {
 }
 
 impl Target {
-    /// The endpoint and the path.
+    /// The endpoint and the path, in this order.
     pub fn into_parts(self) -> (Text, Text)
         ensures endpoint { result.0 ≡ self.endpoint }
         ensures path { result.1 ≡ self.path }
@@ -76,9 +78,10 @@ fn at_agent(alloc: Global, uri: &Uri) -> Result<Target, OutOfMemory>
     Ok(Target { endpoint, path })
 }
 
-/// The target of a relative address of a container: the agent of Amazon ECS at 169.254.170.2, at the
-/// path and query of the text, from which one `/` at the front is taken. None exactly where `http_uri`
-/// reads the text as no URI.
+/// The target of a relative address of a container: the agent of Amazon ECS, `http://169.254.170.2`, at
+/// the path and query of the text, with a `/` before them where they do not begin with one. A scheme and
+/// a host that the text names do not count. None exactly where `http_uri` reads the text as no URI.
+/// `OutOfMemory` where memory runs out.
 pub fn relative_target(alloc: Global, uri: &str) -> Result<Option<Target>, OutOfMemory>
     ensures { IfOk result (IsRelativeUri uri.now) }
 {
@@ -92,7 +95,7 @@ pub fn relative_target(alloc: Global, uri: &str) -> Result<Option<Target>, OutOf
     }
 }
 
-/// The target of a URI of this scheme and this authority.
+/// The target of a URI of this scheme and this authority. `OutOfMemory` where memory runs out.
 pub fn full_target(
     alloc: Global,
     uri: &Uri,

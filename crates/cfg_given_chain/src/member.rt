@@ -29,7 +29,7 @@ use std::alloc::Global;
 /// A member of a chain of credentials providers.
 #[derive(Drop)]
 pub enum Member {
-    /// The environment's variables.
+    /// The environment's variables, as they were handed in.
     Environment(EnvironmentVariableCredentialsProvider),
     /// A process that prints credentials.
     Process(CredentialProcessProvider),
@@ -49,9 +49,9 @@ pub enum Member {
     Default(DefaultCredentialsChain),
     /// A role over the credentials of a base.
     AssumeRole(AssumeRoleProvider),
-    /// These credentials.
+    /// These credentials. Nothing is asked.
     Fixed(Credentials),
-    /// A source of the caller's own.
+    /// A source of the caller's own. Nothing is asked.
     Custom(CustomProvider),
 }
 
@@ -71,7 +71,9 @@ impl Member {
     }
 
     /// What the member answers, over anything that can be asked. The sources and the metadata client are
-    /// the caller's own, for a profile or a default chain.
+    /// the caller's own, for a profile or a default chain, or a role over one. It stops with `Open` at a
+    /// question that is left open, and with `OutOfMemory` where memory runs out, also where a source of the
+    /// caller's own answers so.
     pub fn follow<A: Asking>(
         &self,
         alloc: Global,
@@ -109,6 +111,7 @@ impl Member {
     /// The credentials to go on with where a call was interrupted, if the member has some: those that
     /// were last retrieved from instance metadata, of a provider of metadata and of a default chain, or
     /// what a source of the caller's own falls back on. Nothing is asked, and what is kept stays.
+    /// `OutOfMemory` where memory runs out.
     pub fn fallback_on_interrupt(&self, kept: &Kept) -> Result<Option<Credentials>, OutOfMemory>
         ensures { IfOk result (λ keys. keys ≡ fallback_of (asked_of value fallback (of_box repeated) self.now) (states_of kept.now)) }
     {

@@ -1,9 +1,7 @@
-//! The tests of cfg_given_chain, over public calls: what no clause says.
+//! The tests of roles that a caller assumes, and chains over given members, over public calls: what no clause says.
 #![tactic(auto)]
 
 #[cfg(test)]
-mod chains;
+mod assume_role;
 #[cfg(test)]
-mod own;
-#[cfg(test)]
-mod setup;
+mod given_chain;

@@ -70,7 +70,7 @@ impl Builder {
 
     /// A builder with no variables and no profiles, of tokens that live 21,600 seconds, of four
     /// attempts, and of limits of 1,000 milliseconds to connect and to read, 10,000 for each attempt
-    /// and 30,000 for all of them.
+    /// and 30,000 for all of them. A send that failed is not repeated. `OutOfMemory` where memory runs out.
     pub fn new(alloc: Global) -> Result<Builder, OutOfMemory>
         ensures { IfOk result (λ b. setup_of repeated b ≡ default_setup) }
     {
@@ -85,7 +85,7 @@ impl Builder {
     }
 
     /// With a copy of this configuration, in place of the one that it had. Its variables and its
-    /// selected profile may say where the service is asked.
+    /// selected profile may say where the service is asked. `OutOfMemory` where memory runs out.
     pub fn configure(mut self, config: &ProviderConfig) -> Result<Builder, OutOfMemory>
         ensures { IfOk result (λ b. setup_of repeated b ≡ record (setup_of repeated self) { configuration = config.now }) }
     {
@@ -101,7 +101,8 @@ impl Builder {
         self
     }
 
-    /// Where the service is asked, whatever the configuration says.
+    /// Where the service is asked, whatever the configuration says. One without a scheme or an authority is
+    /// taken here, and refused by [`Client::usable`].
     ///
     /// # Errors
     ///
@@ -125,7 +126,7 @@ impl Builder {
         self
     }
 
-    /// How many seconds a session token is to live.
+    /// How many seconds a session token is to live. IMDSv2 allows 21,600 at most; that is not tested here.
     pub fn token_ttl(mut self, ttl_seconds: u64) -> Builder
         ensures { setup_of repeated result ≡ with_settings (λ s. record s { ttl_seconds = ttl_seconds }) (setup_of repeated self) }
     {
@@ -173,7 +174,9 @@ impl Builder {
         self
     }
 
-    /// The client. Where it asks is read from the configuration now, and nothing is asked for it.
+    /// The client. Where it asks is read from the configuration now, and nothing is asked for it. An
+    /// endpoint or a mode that cannot be used is refused by [`Client::usable`], not here. `OutOfMemory`
+    /// where memory runs out.
     pub fn build(self) -> Result<Client, OutOfMemory>
         ensures { IfOk result (λ client. IsClient (setup_of repeated self) (rules_of repeated client)) }
     {

@@ -10,7 +10,9 @@ pub type BoxedClassifier = Box<dyn ClassifyRetry + Send + Sync + Drop>;
 /// The classifier of a client: its own one, or one that was handed in.
 #[derive(Drop)]
 pub enum Classifier {
+    /// The client's own one.
     Own(ImdsResponseRetryClassifier),
+    /// The one that was handed in.
     Boxed(BoxedClassifier),
 }
 

@@ -123,7 +123,7 @@ impl Client {
         }
     }
 
-    /// A builder of a client.
+    /// A builder of a client, as [`Builder::new`] says. `OutOfMemory` where memory runs out.
     pub fn builder(alloc: Global) -> Result<Builder, OutOfMemory>
         ensures { IfOk result (λ b. setup_of repeated b ≡ default_setup) }
     {
@@ -131,7 +131,7 @@ impl Client {
     }
 
     /// The client of a configuration, with nothing else set. Where it asks is read from the configuration
-    /// now, and nothing is asked for it.
+    /// now, and nothing is asked for it. `OutOfMemory` where memory runs out.
     pub fn configured(alloc: Global, config: &ProviderConfig) -> Result<Client, OutOfMemory>
         ensures { IfOk result (λ client. IsClient (configured config.now) (rules_of repeated client)) }
     {
@@ -141,7 +141,7 @@ impl Client {
     }
 
     /// The body of [`Self::settle`], over anything that can be asked. After a stop what is kept is as
-    /// it was.
+    /// it was. Whether the endpoint can be used is not looked at.
     pub fn follow_settle<A: Asking>(
         &self,
         kept: &mut Option<MetadataToken>,
@@ -160,7 +160,8 @@ impl Client {
         )
     }
 
-    /// The body of [`Self::fetch`], over anything that can be asked.
+    /// The body of [`Self::fetch`], over anything that can be asked. Whether the path and the endpoint can
+    /// be used is not looked at.
     pub fn follow_fetch<A: Asking>(
         &self,
         path: &str,
@@ -246,9 +247,10 @@ impl Client {
         }
     }
 
-    /// A session token: the kept one while more than 120 seconds of it are left, else a new one, which
-    /// is kept in its place. The clock is read first, and once more after the reply to the token
-    /// request. Where that gives no token none is kept.
+    /// A session token of IMDSv2: the kept one while more than 120 seconds of it are left, else a new one,
+    /// which is kept in its place. The clock is read first, and once more after the reply to the token
+    /// request. Where that gives no token none is kept. The endpoint has to be one that can be used, as
+    /// [`Self::usable`] says.
     ///
     /// # Errors
     ///
@@ -270,14 +272,16 @@ impl Client {
     }
 
     /// The receipt of what stands at a path, with this session token: a success whose body is UTF-8.
-    /// It is asked for in attempts, and the last answer decides.
+    /// It is asked for in attempts, all with this token, and the last answer decides. The path and the
+    /// endpoint have to be usable, as [`Self::usable`] says.
     ///
     /// # Errors
     ///
     /// - `ErrorResponse`: the reply has no status of success. It has the reply.
     /// - `Unexpected(NotUtf8)`: its body is not UTF-8.
     /// - `Unexpected(Dispatch)`: the request could not be sent.
-    /// - `IoError`: it was not answered in time, or the answer broke off.
+    /// - `IoError`: it failed in another way, as where it was not answered in time, or the answer was
+    ///   broken. It has the kind of failure.
     /// - `OutOfMemory` where memory runs out. The journal then has gained the beginning of such a part.
     pub fn fetch<D: Devices>(
         &self,
@@ -296,7 +300,8 @@ impl Client {
     }
 
     /// The text that stands at a path. Nothing is asked where [`Self::usable`] refuses the path. Else a
-    /// session token is settled, as [`Self::settle`] says, and then the path is asked for with it.
+    /// session token is settled, as [`Self::settle`] says, and then the path is asked for with it. What is
+    /// kept then stays kept, whatever the answer for the path, the status 401 included.
     ///
     /// # Errors
     ///
@@ -304,7 +309,8 @@ impl Client {
     /// - `FailedToLoadToken`: there is no session token, as [`Self::settle`] says.
     /// - `ErrorResponse`, `Unexpected(NotUtf8)`, `Unexpected(Dispatch)`, `IoError`: as [`Self::fetch`]
     ///   says.
-    /// - `OutOfMemory` where memory runs out. The journal then has gained the beginning of such a part.
+    /// - `OutOfMemory` where memory runs out. The journal then has gained the beginning of such a part, and
+    ///   what is kept is as it was, or the new token.
     pub fn get<D: Devices>(
         &self,
         state: &mut ImdsTokenState,

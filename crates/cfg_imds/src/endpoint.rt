@@ -93,7 +93,7 @@ fn mode_of(text: &str) -> Option<EndpointMode>
 }
 
 /// The mode of a text: `IPv4` or `IPv6`, whatever the ASCII case of its letters. The error `Mode` comes
-/// exactly where the text is neither, and has it.
+/// exactly where the text is neither, and has it. `OutOfMemory` where memory runs out.
 pub fn endpoint_mode(alloc: Global, text: &str) -> Result<EndpointMode, InvalidEndpointMode>
     ensures mode { IfOk result (λ mode. mode_in text.now ≡ some mode) }
     ensures none { IfErr result (λ e. e ≢ invalid.OutOfMemory → (mode_in text.now ≡ none) × (e ≡ invalid.Mode (characters text.now))) }
@@ -201,7 +201,9 @@ fn said_endpoint<'a>(
 /// `AWS_EC2_METADATA_SERVICE_ENDPOINT`, else at that of the key `ec2_metadata_service_endpoint` of the
 /// selected profile, else at the mode's. The mode is the one that was given, else that of
 /// `AWS_EC2_METADATA_SERVICE_ENDPOINT_MODE`, else that of the key `ec2_metadata_service_endpoint_mode`,
-/// else IPv4. A variable that is no text counts as one that is not set.
+/// else IPv4. A variable that is not Unicode counts as one that is not set, an empty one as set. A text
+/// that is no endpoint, or no mode where that is looked at, is answered as such and is no error here.
+/// Nothing is asked. `OutOfMemory` where memory runs out.
 pub fn endpoint_of(
     alloc: Global,
     config: &ProviderConfig,

@@ -114,7 +114,8 @@ fn reply_text(alloc: Global, reply: &HttpReply) -> Result<Text, OutOfMemory>
     }
 }
 
-/// The text of what was fetched.
+/// The text of what was fetched, by a receipt as `Client::fetch` gives it. `OutOfMemory` where memory runs
+/// out.
 #[tactic(auto, unfolding(crate::specs::Fetches::entry_fault, crate::specs::Fetches::entry_text))]
 pub fn entry_text(alloc: Global, receipt: &Receipt) -> Result<Text, OutOfMemory>
     requires { entry_fault_of receipt.now ≡ none }

@@ -15,7 +15,7 @@ fn begins_with_slash(text: &str) -> bool
     }
 }
 
-/// Whether the text begins with `/`, and `http_uri` reads it.
+/// Whether the text begins with `/`, and `http_uri` reads it. `OutOfMemory` where memory runs out.
 #[tactic(auto, using(crate::proofs::Pathing::path_steps))]
 pub fn is_path(alloc: Global, text: &str) -> Result<bool, OutOfMemory>
     ensures { IfOk result (λ b. b ≡ is_path_of text.now) }

@@ -47,8 +47,10 @@ fn region_of_text(
     }
 }
 
-/// The region of the machine: the text at `/latest/meta-data/placement/region`. None where metadata is
-/// switched off, and nothing is asked then; none, too, after each error but that memory ran out.
+/// The region of the machine: the text at `/latest/meta-data/placement/region`, as it stands. None where
+/// metadata is switched off, and nothing is asked then; none, too, after each error but that memory ran
+/// out, which is a stop. What is kept is as [`Client::follow_get`] leaves it, and as it was where metadata
+/// is switched off.
 #[tactic(auto, using(crate::proofs::Located::located_steps), unfolding(crate::specs::Regions::region))]
 pub fn follow_region<A: Asking>(
     alloc: Global,

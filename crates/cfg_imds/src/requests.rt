@@ -20,7 +20,7 @@ pub struct ImdsSettings {
     pub ttl_seconds: u64,
     /// How often a request may be sent in all. 0 is taken as 1.
     pub max_attempts: u32,
-    /// The limits of time of each request.
+    /// The limits of time of each request, in milliseconds.
     pub timeouts: Timeouts,
 }
 

@@ -69,8 +69,9 @@ impl MetadataToken {
     ///   status is looked at.
     /// - `Token(InvalidToken)`: its body is no header value.
     /// - `Token(NoTtl)`: it has no header `x-aws-ec2-metadata-token-ttl-seconds`.
-    /// - `Token(InvalidTtl)`: the header is no number of 64 bits, or the token would end past the last
-    ///   moment of all.
+    /// - `Token(InvalidTtl)`: the header is no number of seconds of 64 bits, or the token would end past
+    ///   the last moment of all.
+    /// - `OutOfMemory` where memory runs out.
     pub fn read(
         alloc: Global,
         reply: Receipt,
@@ -90,7 +91,7 @@ impl MetadataToken {
         }
     }
 
-    /// What is sent with each request.
+    /// What is sent with each request for a path.
     pub fn value(&self) -> &Bytes
         ensures value { result.now ≡ self.now.value }
         ensures read { IsRead self.now }
@@ -98,7 +99,7 @@ impl MetadataToken {
         &self.value
     }
 
-    /// When it ends.
+    /// When it ends: the seconds that its reply tells after the reading of the clock.
     pub fn expiry(&self) -> Instant
         ensures { result ≡ self.now.expiry }
     {

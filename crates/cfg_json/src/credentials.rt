@@ -20,15 +20,22 @@ use std::fmt;
 pub enum JsonCredentials {
     /// Credentials, and when they end.
     RefreshableCredentials {
+        /// `AccessKeyId`.
         access_key_id: Text,
+        /// `SecretAccessKey`.
         secret_access_key: Text,
+        /// `Token` or `SessionToken`.
         session_token: Text,
+        /// `AccountId`, where it is there.
         account_id: Option<Text>,
+        /// The moment of `Expiration` or `ExpiresAt`.
         expiration: Instant,
     },
     /// Why there are none.
     Error {
+        /// `Code`, which is another text than `Success`.
         code: Text,
+        /// `Message`, or `no message` where there is none.
         message: Text,
     },
 }
@@ -55,6 +62,12 @@ fn more_fault(alloc: Global) -> InvalidJsonCredentials
 }
 
 /// The members of a text that is an object and nothing else.
+///
+/// # Errors
+///
+/// - `JsonError(NotObject)`, `JsonError(Syntax)`: as [`only_members`] says.
+/// - `Other`: more than white space follows the object.
+/// - `OutOfMemory`: memory runs out.
 pub fn document_members(alloc: Global, bytes: &[u8]) -> Result<Members, InvalidJsonCredentials>
     ensures { ReadsDocument bytes.now result }
 {
@@ -64,13 +77,15 @@ pub fn document_members(alloc: Global, bytes: &[u8]) -> Result<Members, InvalidJ
     }
 }
 
+/// The last text of a field, or of another one, where one is there.
 pub fn find_text<'a>(members: &'a [Member], field: Field, other: Field) -> Option<&'a Text>
     ensures { option_map (λ t. t.now) result ≡ field_text members.now field other }
 {
     last_text(members, field.as_str(), other.as_str())
 }
 
-/// The last text of a field, or of another one, one of which has to be there.
+/// The last text of a field, or of another one, one of which has to be there. `MissingField` of the first
+/// where neither is.
 pub fn required<'a>(
     members: &'a [Member],
     field: Field,
@@ -84,7 +99,7 @@ pub fn required<'a>(
     }
 }
 
-/// A copy of the last text of a field, where it is there.
+/// A copy of the last text of a field, where it is there. `OutOfMemory` where memory runs out.
 pub fn optional(
     alloc: Global,
     members: &[Member],
@@ -101,7 +116,7 @@ pub fn optional(
     }
 }
 
-/// The moment that an `Expiration` was read as. Where there is none, it is no date.
+/// The moment that an `Expiration` was read as. Where there is none, it is no date: `InvalidField`.
 pub fn dated(moment: Option<Instant>) -> Result<Instant, InvalidJsonCredentials>
     ensures { IsSaid (λ m. m) (dated_at Field.Expiration moment) result }
 {
@@ -186,8 +201,9 @@ fn document(alloc: Global, members: &[Member]) -> Result<JsonCredentials, Invali
 
 /// What a document of credentials says: the text of one JSON object with the fields `Code`,
 /// `AccessKeyId`, `SecretAccessKey`, `Token` or `SessionToken`, `AccountId`, `Expiration` or
-/// `ExpiresAt`, and `Message`. Of a field counts the last text, without regard to the case of ASCII
-/// letters.
+/// `ExpiresAt`, and `Message`. Of a field counts the last text, and of one with two names the last text of
+/// both, without regard to the case of ASCII letters. Where `Code` is another text than `Success`, exactly,
+/// it is an error document, and no other field but `Message` is looked at.
 ///
 /// # Errors
 ///
@@ -198,8 +214,9 @@ fn document(alloc: Global, members: &[Member]) -> Result<JsonCredentials, Invali
 /// - `JsonError(Syntax)`: it is `{`, and no prefix of the text is an object.
 /// - `Other`: more than white space follows the object.
 /// - `MissingField`: where `Code` is absent or `Success`, the first of `AccessKeyId`,
-///   `SecretAccessKey`, `Token` and `Expiration` for which there is no text.
-/// - `InvalidField`: all of these are there, and the expiration is no date in UTC.
+///   `SecretAccessKey`, `Token` and `Expiration` for which there is no text, by either of its names.
+/// - `InvalidField` of `Expiration`: all of these are there, and the expiration is no date in UTC, as
+///   [`parse_date`] reads them.
 /// - `OutOfMemory`: memory runs out.
 pub fn parse_json_credentials(
     alloc: Global,

@@ -1,3 +1,4 @@
+//! What one character of a string is spelled by (RFC 8259, section 7).
 ghost use Rattle.std.specs.Prelude.{◌≡◌, ◌<◌, ◌+◌, ◌≤◌, length, IfSome};
 ghost use Rattle.cfg_json.specs.Characters.{short_escape, code_unit, hex_digit};
 ghost use Rattle.cfg_json.specs.Reading.{hex_at, low_at, unit_at, escape_at, piece_at};
@@ -103,7 +104,8 @@ fn escape(text: &[char]) -> Option<(char, usize)>
     Some((c, 1))
 }
 
-/// The character that is spelled at the front, and how many characters spell it beside the first.
+/// The character that is spelled at the front, and how many characters spell it beside the first. None
+/// where no character of a string is spelled there.
 #[tactic(auto, unfolding(crate::specs::Reading::piece_at))]
 pub fn piece(text: &[char]) -> Option<(char, usize)>
     ensures value { result ≡ piece_at text.now }

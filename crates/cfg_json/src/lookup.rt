@@ -48,7 +48,8 @@ pub fn last_text<'a>(members: &'a [Member], name: &str, other: &str) -> Option<&
     found
 }
 
-/// The last number under a name, as it is written.
+/// The last number under a name, as it is written, without regard to the case of ASCII letters. Members of
+/// another kind change nothing.
 pub fn last_number<'a>(members: &'a [Member], name: &str) -> Option<&'a Text>
     ensures { option_map (λ t. t.now) result ≡ last_number_of name.now members.now }
 {

@@ -8,17 +8,20 @@ pub enum MemberValue {
     Text(Text),
     /// A number, as it is written.
     Number(Text),
-    /// An object, by the place of its opening brace and the place after its closing one.
+    /// An object, by the place of its opening brace and the place after its closing one. Places are counted
+    /// in bytes, from the first one that was read.
     Object { from: usize, to: usize },
     /// An array, and whether an object stands in it at any depth.
     Array { has_object: bool },
-    /// True, false or null.
+    /// `true`, `false` or `null`.
     Other,
 }
 
-/// A member of an object, its key unescaped.
+/// A member of an object.
 pub struct Member {
+    /// Its key, unescaped.
     pub key: Text,
+    /// What it holds.
     pub value: MemberValue,
 }
 
@@ -32,6 +35,8 @@ impl Drop for Member {
 /// what stands before it.
 #[derive(Drop)]
 pub struct Members {
+    /// The members.
     pub list: Seq<Member>,
+    /// The place after the closing brace, in bytes.
     pub end: usize,
 }

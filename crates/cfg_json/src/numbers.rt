@@ -1,3 +1,4 @@
+//! Numbers (RFC 8259, section 6) and the three words.
 ghost use Rattle.std.specs.Prelude.{◌≡◌, option_map};
 ghost use Rattle.cfg_json.specs.Reading.{after_digits, digits_at, after_minus, after_sign, whole_at, fraction_at, exponent_at, number_at, after_front, word_at};
 
@@ -82,7 +83,7 @@ fn skip_exponent(text: &[u8]) -> Option<&[u8]>
     }
 }
 
-/// What follows the number at the front.
+/// What follows the number at the front; none where there is none.
 #[tactic(auto, unfolding(crate::specs::Reading::number_at))]
 pub fn skip_number(text: &[u8]) -> Option<&[u8]>
     ensures { option_map (λ r. r.now) result ≡ number_at text.now }
@@ -103,7 +104,7 @@ fn skip_front<'a>(front: &[u8], text: &'a [u8]) -> Option<&'a [u8]>
     }
 }
 
-/// What follows `true`, `false` or `null` at the front.
+/// What follows `true`, `false` or `null` at the front; none where none of them stands there.
 #[tactic(auto, unfolding(crate::specs::Reading::word_at))]
 pub fn skip_word(text: &[u8]) -> Option<&[u8]>
     ensures { option_map (λ r. r.now) result ≡ word_at text.now }

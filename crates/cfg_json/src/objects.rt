@@ -1,3 +1,4 @@
+//! The members of the outer object (RFC 8259, section 4).
 ghost use Rattle.std.specs.Prelude.{◌≡◌, length};
 ghost use Rattle.cfg_json.specs.Reads.{Reads};
 ghost use Rattle.cfg_json.specs.ReadingObjects.{text_from, number_value_at, text_value_at, nested_value_at, word_value_at, member_value_at, member_at, member_turn_at, members_at, object_at};
@@ -126,7 +127,9 @@ fn read_members(alloc: Global, text: &[u8], total: usize) -> Result<(Vec<Member>
     Err(JsonError::Syntax)
 }
 
-/// The members of the object whose opening brace was read, and what follows it.
+/// The members of the object whose opening brace was read, and what follows it. The text is the end of so
+/// many bytes in total: the places of members that are objects are counted from the first of these.
+/// `Syntax` where there is no such object, `OutOfMemory` where memory runs out.
 #[tactic(auto, unfolding(crate::specs::ReadingObjects::object_at))]
 pub fn read_object(
     alloc: Global,

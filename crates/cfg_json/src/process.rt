@@ -130,10 +130,12 @@ fn process_document(
     Ok(with_keys(alloc, members, id, secret, end, profile)?)
 }
 
-/// The credentials that the document of a process holds: the text of one JSON object with the
-/// fields `Version`, which is the last number of that name and has to be 1, `AccessKeyId`,
-/// `SecretAccessKey`, `SessionToken`, `Expiration` and `AccountId`. Where it names no account, the
-/// credentials are of the profile's. Their provider is `CredentialProcess`.
+/// The credentials that the document of a process holds (AWS SDKs and Tools Reference Guide, Process
+/// credential provider): the text of one JSON object with the fields `Version`, which is the last number of
+/// that name and has to be 1, `AccessKeyId`, `SecretAccessKey`, `SessionToken`, `Expiration` and
+/// `AccountId`. The last three may be absent: then there is no session token, no expiry, or the account is
+/// the profile's. Their provider is `CredentialProcess`. Names are compared without regard to the case of
+/// ASCII letters, and of each field but `Version` the last text counts.
 ///
 /// # Errors
 ///
@@ -143,11 +145,12 @@ fn process_document(
 ///   none.
 /// - `JsonError(Syntax)`: it is `{`, and no prefix of the text is an object.
 /// - `Other`: more than white space follows the object.
-/// - `InvalidField` of `Version`: it is no whole number of 32 bits.
-/// - `MissingField` of `Version`: there is none.
+/// - `InvalidField` of `Version`: it is no whole number of 32 bits, written as digits with a minus or none.
+/// - `MissingField` of `Version`: there is no number of that name.
 /// - `InvalidField` of `version`: it is not 1.
 /// - `MissingField` of `AccessKeyId`, then of `SecretAccessKey`: there is no such text.
-/// - `InvalidField` of `Expiration`: it is no date with a zone.
+/// - `InvalidField` of `Expiration`: it is no date in UTC or with an offset, as [`parse_offset_date`] reads
+///   them.
 /// - `OutOfMemory`: memory runs out.
 pub fn parse_credential_process_json_credentials(
     alloc: Global,

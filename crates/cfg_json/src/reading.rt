@@ -1,3 +1,4 @@
+//! Objects (RFC 8259) at the front of bytes, and alone.
 ghost use Rattle.std.specs.Prelude.{◌≡◌, ℕ, List, Ok, Err, IfOk, IsErrOf};
 ghost use Rattle.cfg_json.specs.declared.member.Member.{Member};
 ghost use Rattle.cfg_json.specs.Objects.{HasObject};
@@ -56,13 +57,14 @@ fn only_list(alloc: Global, bytes: &[u8]) -> Result<Members, JsonError>
     })
 }
 
-/// The members of the object that stands first in the bytes, after white space at most, and the
-/// place where it ends. What follows the object is not looked at.
+/// The members of the object (RFC 8259) that stands first in the bytes, after white space at most, and
+/// the place where it ends, in bytes. What follows the object is not looked at. Its strings are UTF-8, and
+/// it has 128 levels at most, its own counted.
 ///
 /// # Errors
 ///
 /// - `NotObject`: the first byte that is no white space is not `{`, or there is none.
-/// - `Syntax`: it is `{`, and no prefix of the bytes is an object.
+/// - `Syntax`: it is `{`, and no prefix of the bytes is such an object behind white space.
 /// - `OutOfMemory`: memory runs out.
 pub fn members(alloc: Global, bytes: &[u8]) -> Result<Members, JsonError>
     ensures found { IfOk result (λ m. HasObject bytes.now m.list m.end) }
@@ -78,11 +80,11 @@ pub fn members(alloc: Global, bytes: &[u8]) -> Result<Members, JsonError>
 }
 
 /// The members of the object that the bytes are, with white space around it at most, and the place
-/// where it ends.
+/// where it ends, in bytes: white space behind it is not counted.
 ///
 /// # Errors
 ///
-/// Those of `members`, and `More`: an object stands first, and more than white space follows.
+/// Those of [`members`], and `More`: an object stands first, and more than white space follows.
 pub fn only_members(alloc: Global, bytes: &[u8]) -> Result<Members, JsonError>
     ensures found { IfOk result (λ m. HasObject bytes.now m.list m.end × OnlyWhiteSpaceFrom bytes.now m.end) }
     ensures only { (list : List Member) (end : ℕ) → HasObject bytes.now list end → OnlyWhiteSpaceFrom bytes.now end → Answers member_list result (Ok (list, end)) }

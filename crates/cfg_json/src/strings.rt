@@ -1,3 +1,4 @@
+//! Strings (RFC 8259, section 7).
 ghost use Rattle.std.specs.Prelude.{◌≡◌, ◌<◌, ◌++◌, ◌==◌, ◌&&◌, not, length, take, IfSome, IfOk, OnOk, true, false, Some, None, option_map, string_bytes};
 ghost use Rattle.std.specs.List.{list_all};
 ghost use Rattle.std.specs.Char.{encode_utf8};
@@ -60,6 +61,7 @@ fn plain_end(text: &[u8]) -> Option<usize>
     None
 }
 
+/// Appends the character in UTF-8. `OutOfMemory` where memory runs out.
 pub fn push_character(out: &mut String, c: char) -> Result<(), OutOfMemory>
     ensures spelled { OnOk result (string_bytes out.new ≡ string_bytes out.old ++ encode_utf8 c) }
     ensures scalar { scalar c ≡ true }
@@ -83,6 +85,7 @@ fn unescaped(alloc: Global, text: &[char]) -> Result<String, JsonError>
     Ok(out)
 }
 
+/// The characters of a text, in order. `AllocError` where memory runs out.
 pub fn characters_of(alloc: Global, text: &str) -> Result<Vec<char>, AllocError>
     ensures { IfOk result (λ v. v.items ≡ characters text.now) }
 {
@@ -139,7 +142,13 @@ fn read_escaped(alloc: Global, text: &[u8]) -> Result<(Text, &[u8]), JsonError>
     Ok((text_before, text.split_at(end + 1).1))
 }
 
-/// The characters of the string whose first quotation mark was read, and what follows it.
+/// The characters of the string whose first quotation mark was read, unescaped, and what follows it.
+///
+/// # Errors
+///
+/// - `Syntax`: no quotation mark ends it, it is not UTF-8, or it has a control character below 32 or an
+///   escape that is none.
+/// - `OutOfMemory`: memory runs out.
 #[tactic(auto, unfolding(crate::specs::Reading::string_at))]
 pub fn read_string(alloc: Global, text: &[u8]) -> Result<(Text, &[u8]), JsonError>
     ensures { Reads (λ x. (x.0, x.1.now)) result (string_at text.now) }

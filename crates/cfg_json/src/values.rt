@@ -1,3 +1,4 @@
+//! Values that nest (RFC 8259, sections 3 to 5), and keys.
 ghost use Rattle.std.specs.Prelude.{◌≡◌, option_map, length};
 ghost use Rattle.cfg_json.specs.Reads.{Reads};
 ghost use Rattle.cfg_json.specs.Values.{close_of};
@@ -36,7 +37,8 @@ fn skip_leaf(alloc: Global, text: &[u8]) -> Result<(bool, &[u8]), JsonError>
     Ok((false, rest))
 }
 
-/// A key and its colon, and what follows.
+/// The key at the front, unescaped, and what follows its colon. `Syntax` where there is none, `OutOfMemory`
+/// where memory runs out.
 #[tactic(auto, unfolding(crate::specs::ReadingValues::key_at))]
 pub fn read_key(alloc: Global, text: &[u8]) -> Result<(Text, &[u8]), JsonError>
     ensures { Reads (λ p. (p.0, p.1.now)) result (key_at text.now) }
@@ -57,7 +59,8 @@ fn closing(keyed: bool) -> u8
     if keyed { b'}' } else { b']' }
 }
 
-/// Passes over a value that nests to the depth: whether an object stands in it, and what follows.
+/// Passes over the value at the front, which nests to the depth at most: whether it is an object or one
+/// stands in it, and what follows. `Syntax` where there is no such value, `OutOfMemory` where memory runs out.
 #[cycle(nesting)]
 #[tactic(auto, unfolding(crate::specs::ReadingValues::value_at))]
 pub fn skip_value(alloc: Global, text: &[u8], depth: u8) -> Result<(bool, &[u8]), JsonError>

@@ -166,7 +166,7 @@ fn push_braced(out: &mut Written, members: &str) -> Result<(), OutOfMemory>
     out.push('}')
 }
 
-/// Writes an object, member by member, without spaces. Contracts see the text of the members so
+/// Writes an object (RFC 8259), member by member, without spaces. Contracts see the text of the members so
 /// far.
 ///
 /// A call that runs out of memory answers `OutOfMemory`. After that nothing is claimed of what the
@@ -205,7 +205,7 @@ impl ObjectWriter {
         push_quoted(self.alloc, &mut self.members, value)
     }
 
-    /// Writes one more member, an object.
+    /// Writes one more member, an object. No key is looked for among those that are there.
     #[tactic(auto, using(std::proofs::lemmas::Grind::common_steps), unfolding(crate::specs::Writing::with_member))]
     pub fn object(&mut self, key: &str, inner: ObjectWriter) -> Result<(), OutOfMemory>
         ensures { OnOk result (self.new ≡ with_member self.old (characters key.now) (braced inner)) }
@@ -214,7 +214,7 @@ impl ObjectWriter {
         push_braced(&mut self.members, inner.members.as_str())
     }
 
-    /// The text of the object.
+    /// The text of the object, with its braces.
     pub fn finish(self) -> Result<Text, OutOfMemory>
         ensures { IfOk result (λ t. t ≡ braced self) }
     {

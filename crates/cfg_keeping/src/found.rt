@@ -21,8 +21,8 @@ pub enum Found {
         place: Place,
         retrieved: Option<Retrieved>,
     },
-    /// Of the section of a token of IAM Identity Center the load that gave the kept token, and the last
-    /// attempt at a new one.
+    /// Of the section of a token of IAM Identity Center the load that gave the kept token, if one is,
+    /// and the reading of the last attempt at a new one, if any was noted.
     Sso {
         load: Option<Load<CachedSsoToken>>,
         last: Option<Instant>,
@@ -48,7 +48,7 @@ impl Drop for Found {
     }
 }
 
-/// One value more that was found. Where memory runs out the list stays as it was.
+/// One value more that was found. `OutOfMemory` where memory runs out, and the list stays as it was.
 pub fn note(found: &mut Vec<Found>, value: Found) -> Result<(), OutOfMemory>
     ensures ok { OnOk result (map bare found.new.items ≡ map bare found.old.items ++ bare value ∷ []) }
     ensures err { OnErr result (found.new.items ≡ found.old.items) }

@@ -18,6 +18,11 @@ use cfg_world::{Asking, Stop};
 
 /// One holding of the token of IAM Identity Center, wherever its loads are kept. What was found is
 /// added to the list, before anything is asked.
+///
+/// # Errors
+///
+/// The outer error says why it was stopped: memory ran out, or a question was left open. The loads are
+/// then as they were. The inner one is the load's.
 pub fn hold_sso<A: Asking>(
     found: &mut Vec<Found>,
     key: &TokenKey,
@@ -46,6 +51,11 @@ fn sso_value(loads: &Loads<CachedSsoToken>) -> Result<Found, OutOfMemory>
 
 /// One holding of the token of a sign-in session, wherever its loads are kept. What was found is added
 /// to the list, before anything is asked.
+///
+/// # Errors
+///
+/// The outer error says why it was stopped: memory ran out, or a question was left open. The loads are
+/// then as they were. The inner one is the load's.
 pub fn hold_login<A: Asking>(
     found: &mut Vec<Found>,
     key: &TokenKey,

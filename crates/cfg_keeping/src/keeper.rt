@@ -38,8 +38,10 @@ pub trait Keeper {
     /// Whose token is kept.
     ghost key_held: { Self → Option KeyHeld };
 
-    /// A section of the token of IAM Identity Center, on what is kept of it. A finished section leaves
-    /// what it kept in its place, and one that was stopped leaves it as it was.
+    /// A section of the token of IAM Identity Center, on what is kept of it, as [`sso_section`] is
+    /// one. A finished section leaves what comes of it in its place, and one that was stopped before
+    /// its end leaves it as it was. The outer error says why it was stopped, and the inner one is the
+    /// section's.
     fn sso_section<A: Asking>(
         &mut self,
         alloc: Global,
@@ -51,8 +53,10 @@ pub trait Keeper {
         ensures follows { IfSome (key_held self.old) (λ key. HoldsFollows ⟦<A as Asking>⟧ (sso_holding key env.now settings.now) asking.old (holdings self.old) asking.new (holdings self.new) result) }
         ensures key { key_held self.new ≡ key_held self.old };
 
-    /// A section of the token of a sign-in session, on what is kept of it. A finished section leaves what
-    /// it kept in its place, and one that was stopped leaves it as it was.
+    /// A section of the token of a sign-in session, on what is kept of it, as [`login_section`] is
+    /// one. A finished section leaves what comes of it in its place, and one that was stopped before
+    /// its end leaves it as it was. The outer error says why it was stopped, and the inner one is the
+    /// section's.
     fn login_section<A: Asking>(
         &mut self,
         alloc: Global,
@@ -64,9 +68,10 @@ pub trait Keeper {
         ensures follows { IfSome (key_held self.old) (λ key. HoldsFollows ⟦<A as Asking>⟧ (login_holding key env.now settings.now) asking.old (holdings self.old) asking.new (holdings self.new) result) }
         ensures key { key_held self.new ≡ key_held self.old };
 
-    /// A session token of a metadata client, on the one that is kept for the place: that one while it is
-    /// good, else a new one. A finished holding leaves the new token in its place, and none after a
-    /// refusal; one that was stopped leaves what was there.
+    /// A session token of a metadata client, on the one that is kept for the place: that one while more
+    /// than 120 seconds of it are left, else a new one. A finished holding leaves the new token in its
+    /// place, and none after a refusal; one that was stopped before its end leaves what was there. The
+    /// outer error says why it was stopped, and the inner one is `FailedToLoadToken`.
     fn imds_token<A: Asking>(
         &mut self,
         alloc: Global,
@@ -78,8 +83,8 @@ pub trait Keeper {
         ensures follows { HoldsFollows ⟦<A as Asking>⟧ (token_holding (client_rules repeated client.now) place) asking.old (holdings self.old) asking.new (holdings self.new) result }
         ensures key { key_held self.new ≡ key_held self.old };
 
-    /// The credentials that were retrieved for the place, if any were. Nothing is asked, and they stay
-    /// kept. Where memory runs out nothing was held.
+    /// A copy of the credentials that were retrieved for the place, if any were. Nothing is asked, and
+    /// they stay kept. `OutOfMemory` where memory runs out, and nothing was held.
     fn retrieved(&mut self, alloc: Global, place: Place) -> Result<Option<Retrieved>, OutOfMemory>
         ensures found { IfOk result (λ r. HoldsFound (holdings self.old) (holdings self.new) (RetrievedAt place (option_map keys_of_retrieved r))) }
         ensures stays { OnErr result (holdings self.new ≡ holdings self.old) }
@@ -101,14 +106,24 @@ pub trait Keeper {
 }
 
 /// Hands out the kept token of IAM Identity Center while more than 300 seconds of it are left. Else
-/// the token's file is read, and its token refreshed where that is due. The value that was found is
-/// added to the keeper's list, and what comes of the section is kept in its place.
+/// the token's file is read, and its token refreshed where at most 300 seconds of it are left, it has
+/// what a refresh needs, and the last noted attempt, if any, is at least 30 seconds ago. The value
+/// that was found is added to the keeper's list, and what comes of the section is kept in its place:
+/// its token, or none after an error.
 ///
 /// # Errors
 ///
-/// That memory ran out is answered where it does. What was found may then be in the list or not, and
-/// what is kept is as it was. Each other error comes exactly where the section gives it over the value
-/// that was found and the journal's new entries.
+/// Each but the last one comes exactly where the section gives it over the value that was found and the
+/// journal's new entries.
+///
+/// - `FailedToLoadToken`: there is no readable `HOME`, the file could not be read or has no token, or a
+///   new token could not be written to it. Its error says which.
+/// - `ExpiredToken`: the file's token has expired, and cannot be refreshed now, or its refresh failed,
+///   was refused or gave no access token.
+/// - `BadExpirationTimeFromSsoOidc`: a new token's lifetime, in seconds, is below 1, or ends past the
+///   last moment of all. Nothing was written.
+/// - `OutOfMemory`: memory runs out. What was found may then be in the list or not, and what is kept
+///   is as the last finished holding left it.
 pub fn sso_section<P: Keeper, D: Devices>(
     keeper: &mut P,
     alloc: Global,
@@ -128,14 +143,26 @@ pub fn sso_section<P: Keeper, D: Devices>(
 }
 
 /// Hands out the kept token of a sign-in session while more than 300 seconds of it are left. Else the
-/// token's file is read, and its token refreshed where that is due. The value that was found is added to
-/// the keeper's list, and what comes of the section is kept in its place.
+/// token's file is read, and its token refreshed where at most 300 seconds of it are left, and the
+/// last noted attempt, if any, is at least 30 seconds ago. A new token that could not be written to
+/// the file is handed out. The value that was found is added to the keeper's list, and what comes of
+/// the section is kept in its place: its token, or none after an error.
 ///
 /// # Errors
 ///
-/// That memory ran out is answered where it does. What was found may then be in the list or not, and
-/// what is kept is as it was. Each other error comes exactly where the section gives it over the value
-/// that was found and the journal's new entries.
+/// Each but the last one comes exactly where the section gives it over the value that was found and the
+/// journal's new entries.
+///
+/// - `NoHomeDirectory`: neither `AWS_LOGIN_CACHE_DIRECTORY` nor `HOME` is readable.
+/// - `IoError`: the file could not be read.
+/// - `Other`, `JsonError`, `MissingField`: the file has no token.
+/// - `ExpiredToken`: the file's token has expired, and the last noted attempt is less than 30 seconds
+///   ago.
+/// - `RefreshFailed`: a refresh failed, was refused or gave no token, or the new token's lifetime is
+///   below one second or ends past the last moment of all. It has what the user can do, where that is
+///   known.
+/// - `OutOfMemory`: memory runs out. What was found may then be in the list or not, and what is kept
+///   is as the last finished holding left it.
 pub fn login_section<P: Keeper, D: Devices>(
     keeper: &mut P,
     alloc: Global,
@@ -159,10 +186,10 @@ pub fn login_section<P: Keeper, D: Devices>(
 ///
 /// # Errors
 ///
-/// - `FailedToLoadToken`: the last reply gives no token, as
-///   [`MetadataToken::read`](cfg_imds::MetadataToken::read) says. None is kept then.
+/// - `FailedToLoadToken`: the token request was not answered in its last attempt, or the reply gives no
+///   token, as [`MetadataToken::read`](cfg_imds::MetadataToken::read) says. None is kept then.
 /// - `OutOfMemory` where memory runs out. What was found may then be in the list or not, and what is
-///   kept is as it was.
+///   kept is as the last finished holding left it.
 pub fn imds_token<P: Keeper, D: Devices>(
     keeper: &mut P,
     alloc: Global,

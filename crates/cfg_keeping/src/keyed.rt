@@ -19,7 +19,9 @@ use std::marker::Model;
 
 /// The state of a token of either kind.
 pub enum EitherState {
+    /// That of a token of IAM Identity Center.
     Sso(TokenState<CachedSsoToken>),
+    /// That of a token of a sign-in session.
     Login(TokenState<LoginToken>),
 }
 
@@ -56,7 +58,7 @@ impl Model for KeyedState {
 }
 
 impl KeyedState {
-    /// Nothing is kept, and no attempt is noted.
+    /// Nothing is kept, and no attempt is noted. Without a key there is no state.
     pub fn new(alloc: Global, key: Option<TokenKey>) -> KeyedState
         ensures key { key_of result ≡ key }
         ensures sso { sso_kept result ≡ no_token }
@@ -80,7 +82,7 @@ impl KeyedState {
         KeyedState { state: Some(state) }
     }
 
-    /// Whose token it is.
+    /// Whose token it is, where there is a key.
     pub fn key(&self) -> Option<&TokenKey>
         ensures { option_copied result ≡ key_of self.now }
     {
@@ -115,7 +117,8 @@ impl KeyedState {
 }
 
 impl KeyedState {
-    /// One holding of the token of IAM Identity Center. What is kept of a sign-in session stays.
+    /// One holding of the token of IAM Identity Center, as [`hold_sso`] is one, for a key of that
+    /// kind. What is kept of a sign-in session stays.
     pub fn hold_sso<A: Asking>(
         &mut self,
         found: &mut Vec<Found>,
@@ -136,7 +139,8 @@ impl KeyedState {
         }
     }
 
-    /// One holding of the token of a sign-in session. What is kept of IAM Identity Center stays.
+    /// One holding of the token of a sign-in session, as [`hold_login`] is one, for a key of that
+    /// kind. What is kept of IAM Identity Center stays.
     pub fn hold_login<A: Asking>(
         &mut self,
         found: &mut Vec<Found>,

@@ -18,7 +18,7 @@ use cfg_types::{Bytes, OutOfMemory, copy_option};
 use cfg_world::{Asking, Stop};
 use std::alloc::Global;
 
-/// What is kept for one place: the session token, and the credentials that were retrieved.
+/// What is kept for one place: the session token, and the credentials that were retrieved, if any.
 pub struct PlaceState {
     pub(crate) token: Option<MetadataToken>,
     pub(crate) retrieved: Option<Retrieved>,
@@ -49,8 +49,8 @@ impl PlaceState {
 }
 
 /// One holding of the session token of a place, wherever it is kept. What was found is added to the
-/// list, before anything is asked. After a refusal no token is kept, and after a stop the token is as it
-/// was.
+/// list, before anything is asked. After a refusal, which is `FailedToLoadToken`, no token is kept, and
+/// after a stop, which is the outer error, the token is as it was.
 pub fn hold_token<A: Asking>(
     alloc: Global,
     found: &mut Vec<Found>,
@@ -81,7 +81,7 @@ fn note_token(
 }
 
 /// The credentials that were retrieved for a place, wherever they are kept: a copy. What was found is
-/// added to the list. Where memory runs out the list stays as it was.
+/// added to the list. `OutOfMemory` where memory runs out, and the list stays as it was.
 pub fn find_retrieved(
     alloc: Global,
     found: &mut Vec<Found>,

@@ -4,6 +4,8 @@
 /// kept for the one is apart from what is kept for the other.
 #[derive(Clone, Copy, Debug, PartialEq, Eq)]
 pub enum Place {
+    /// The default chain's member.
     Chain,
+    /// A named source of a profile.
     Named,
 }

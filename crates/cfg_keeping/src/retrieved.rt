@@ -40,9 +40,10 @@ impl Drop for Retrieved {
 
 impl Retrieved {
     /// The credentials of a document at a reading of the clock. They end when the document says so,
-    /// where that is after the reading. Else a jitter was asked for, and they end 600 seconds and the
-    /// jitter after the reading; of a jitter at most 300 seconds count. Where that is past the last
-    /// moment of all, they end at the last moment.
+    /// where that is after the reading. Else a jitter was asked for, and as aws-config does they end
+    /// 600 seconds and the jitter after the reading; of a jitter at most 300 seconds count. Where that
+    /// is past the last moment of all, they end at the last moment. `OutOfMemory` where memory runs
+    /// out.
     pub fn read(
         alloc: Global,
         document: RoleDocument,

@@ -153,6 +153,7 @@ impl RoleDocument {
     /// - `ProviderError(ErrorDocument)`: it is an error document of another code.
     /// - `Unhandled(NoDocument)`: it is no document of credentials, as
     ///   [`parse_json_credentials`](cfg_json::parse_json_credentials) says.
+    /// - `OutOfMemory`, as the outer error: memory runs out.
     pub fn read(
         alloc: Global,
         get: Receipt,

@@ -1,5 +1,9 @@
-//! The tests of cfg_keeping, over public calls: what no clause says.
+//! The tests of tokens and what is kept between calls, over public calls: what no clause says.
 #![tactic(auto)]
 
 #[cfg(test)]
-mod holdings;
+mod keeping;
+#[cfg(test)]
+mod login;
+#[cfg(test)]
+mod token;

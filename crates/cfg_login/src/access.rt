@@ -13,10 +13,15 @@ use std::alloc::Global;
 
 /// The keys in a document of credentials.
 pub struct AccessKeys {
+    /// The id of the access key.
     pub access_key_id: Text,
+    /// The secret of the access key.
     pub secret_access_key: Text,
+    /// The session token that goes with the key.
     pub session_token: Text,
+    /// The account, where the document has one.
     pub account_id: Option<Text>,
+    /// When the keys end.
     pub expiration: Instant,
 }
 
@@ -32,7 +37,8 @@ impl Drop for AccessKeys {
     }
 }
 
-/// The bytes from one place to another, as far as they reach.
+/// The bytes from one place to another, as far as they reach. Places are counted in bytes from the
+/// front.
 pub fn between(bytes: &[u8], from: usize, to: usize) -> &[u8]
     ensures { result.now ≡ between_places bytes.now from to }
 {
@@ -40,7 +46,14 @@ pub fn between(bytes: &[u8], from: usize, to: usize) -> &[u8]
     rest.split_at(to.saturating_sub(from).min(rest.len())).0
 }
 
-/// The keys of an object, none of whose members holds an object.
+/// The keys of an object, none of whose members holds an object. The bytes are one object.
+///
+/// # Errors
+///
+/// - `JsonError(Nested)`: a member is an object, or an array with an object in it.
+/// - `JsonError(Document)`: else it is refused as a document of credentials.
+/// - `JsonError(ErrorDocument)`: it is the document of an error.
+/// - `OutOfMemory`: memory runs out.
 #[tactic(auto, unfolding(crate::specs::Access::access_of))]
 pub fn access(alloc: Global, text: &[u8]) -> Result<AccessKeys, LoginTokenError>
     requires { IsObjectText text.now }

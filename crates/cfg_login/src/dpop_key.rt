@@ -7,7 +7,8 @@ ghost use Rattle.cfg_login.specs.DpopKeys.{with_line_feeds as line_feeds_in};
 use cfg_types::{OutOfMemory, Text};
 use std::alloc::{AllocError, Global};
 
-/// The text in which each backslash that is followed by `n` is, with it, a line feed.
+/// The text in which each backslash that is followed by `n` is, with it, a line feed. `OutOfMemory`
+/// where memory runs out.
 pub fn with_line_feeds(alloc: Global, text: &Text) -> Result<Text, OutOfMemory>
     ensures { IfOk result (λ t. t ≡ line_feeds_in text.now) }
 {

@@ -15,7 +15,9 @@ pub fn objects_are_read_where_they_stand()
     ensures { (bytes name : List ℕ) (members : List Member) (end from to : ℕ) → HasObject bytes members end → last_place name members ≡ Some (from, to) → HasObject (between bytes from to) (members_in (between bytes from to)) (to - from) }
 {}
 
-/// What is written for a token is read back as this token.
+/// What is written for a token is read back as this token, where it is as a file gives it: credentials
+/// from `Login` with an end, a session token and an account, texts of Unicode characters, and a key in
+/// which no backslash is followed by `n`.
 pub fn written_tokens_are_read_back()
     ensures { (token : LoginToken) (text : List ℕ) → IsOfFile token → IsLoginText token text → login_file (encode_utf8_all text) ≡ Ok token }
 {}

@@ -9,8 +9,9 @@ ghost use Rattle.cfg_login.specs.LoginFile.{required, key_of, token_of, login_fi
 use crate::access::{AccessKeys, access, between};
 use crate::dpop_key::with_line_feeds;
 use crate::login_token::LoginToken;
-use crate::lookup::{copy_text, find_text, last_place};
+use crate::lookup::last_place;
 use cfg_json::{Member, Members, members};
+use cfg_token::lookup::{copy_text, find_text};
 use cfg_types::{
     AccountId, Credentials, CredentialsBuilder, Field, JsonError, LoginJsonFault, LoginTokenError,
     OutOfMemory, Text, TryCopy,

@@ -6,12 +6,18 @@ use std::fmt;
 /// them needs. The key proves possession (DPoP, RFC 9449).
 #[derive(PartialEq, Eq)]
 pub struct LoginToken {
-    /// Credentials from `Login`, with an end, a session token and an account.
+    /// Credentials from `Login`, with an end, a session token and an account. Without an end the token
+    /// counts as one that has expired.
     pub access_token: Credentials,
+    /// What the file has as `tokenType`.
     pub token_type: Option<Text>,
+    /// What the file has as `idToken`.
     pub identity_token: Option<Text>,
+    /// What a refresh is asked with. A new token has the reply's.
     pub refresh_token: Text,
+    /// The id of the client that asks for a refresh.
     pub client_id: Text,
+    /// The key that proves possession, with line feeds where the file has a backslash and `n`.
     pub dpop_key: Text,
 }
 

@@ -1,19 +1,20 @@
-ghost use Rattle.std.specs.Prelude.{◌≡◌, ◌-◌, length, slice_get, IfOk, OnOk, string_bytes, codes};
+ghost use Rattle.std.specs.Prelude.{◌≡◌, IfOk, string_bytes, codes};
 ghost use Rattle.std.specs.Str.{trim};
 ghost use Rattle.hex.specs.Hex.{encode_lower};
 ghost use Rattle.sha2.specs.Sha256.{sha256};
-ghost use Rattle.cfg_token.specs.Paths.{is_open, as_folder, joined};
 ghost use Rattle.cfg_types.specs.Environment.{variable};
 ghost use Rattle.cfg_login.specs.Paths.{login_path, cache_directory as directory_of};
 ghost use Rattle.cfg_values.specs.Gives.{IsSaid};
 
+use cfg_token::paths::push_part;
 use cfg_types::{Env, LoginTokenError, OutOfMemory, Text};
 use sha2::{Digest, Sha256};
 use std::alloc::Global;
 
-/// The path of the file that keeps the token of a sign-in session in a cache. White space around the
-/// session does not count; the file is named by its SHA-256. The AWS command line interface and the
-/// AWS SDKs share these files.
+/// The path of the file that keeps the token of a sign-in session in the folder of a cache: the SHA-256
+/// of the session in small hexadecimal digits, and `.json`. White space around the session does not
+/// count. The AWS command line interface and the AWS SDKs share these files. `OutOfMemory` where memory
+/// runs out.
 pub fn cached_login_token_path(
     alloc: Global,
     cache_dir: &str,
@@ -35,7 +36,13 @@ fn hashed(alloc: Global, session: &str) -> Result<String, OutOfMemory>
     Ok(hex::encode(alloc, digest)?)
 }
 
-/// The folder that keeps the files of sign-in sessions.
+/// The folder that keeps the files of sign-in sessions: what `AWS_LOGIN_CACHE_DIRECTORY` is set to,
+/// also where that is empty, else `.aws/login/cache` below `HOME`.
+///
+/// # Errors
+///
+/// - `NoHomeDirectory`, as the inner error: neither variable is readable.
+/// - `OutOfMemory`: memory runs out.
 pub fn cache_directory(
     alloc: Global,
     env: &Env,
@@ -52,34 +59,4 @@ pub fn cache_directory(
     let mut cache = String::from_str(alloc, home)?;
     push_part(&mut cache, ".aws/login/cache")?;
     Ok(Ok(cache))
-}
-
-// One part more.
-#[tactic(auto, unfolding(cfg_token::specs::Paths::joined))]
-fn push_part(path: &mut String, part: &str) -> Result<(), OutOfMemory>
-    ensures { OnOk result (string_bytes path.new ≡ joined (string_bytes path.old) part.now) }
-{
-    end_folder(path)?;
-    path.push_str(part)?;
-    Ok(())
-}
-
-// What stands before a part.
-#[tactic(auto, unfolding(cfg_token::specs::Paths::as_folder))]
-fn end_folder(path: &mut String) -> Result<(), OutOfMemory>
-    ensures { OnOk result (string_bytes path.new ≡ as_folder (string_bytes path.old)) }
-{
-    if needs_slash(path.as_str()) {
-        path.push_str("/")?;
-    }
-    Ok(())
-}
-
-fn needs_slash(path: &str) -> bool
-    ensures { result ≡ is_open (slice_get path.now (length path.now - 1)) }
-{
-    match path.as_bytes().last() {
-        Some(last) => *last != b'/',
-        None => false,
-    }
 }

@@ -1,17 +1,20 @@
 //! What the answer to a refresh gives.
 ghost use Rattle.std.specs.Prelude.{◌≡◌, IfOk, option_map};
-ghost use Rattle.cfg_token.specs.SsoTokens.{end_of as end};
 ghost use Rattle.cfg_login.specs.LoginTokens.{renewed_keys, renewed as renewed_token, refusal_words as words_of, refusal_message as message_of, by_token, fails};
 
 use crate::login_token::LoginToken;
 use cfg_token::file_token::Renewal;
+use cfg_token::lifetime::end_of;
 use cfg_types::{
     Credentials, CredentialsBuilder, Instant, LoginTokenError, OutOfMemory, RefusalKind,
     SignInToken, Text, TryCopy, copy_option,
 };
 use std::alloc::Global;
 
-/// What a reply gives, with a token or without one.
+/// What a reply gives: a token with the reply's keys and refresh token and all else of the old one,
+/// which ends `expires_in` seconds after the reading of the clock. Without a token, with a lifetime
+/// below one second, or with one that ends past the last moment of all, it is the error
+/// `RefreshFailed` without a message. `OutOfMemory` where memory runs out.
 pub fn by_reply(
     alloc: Global,
     token: &LoginToken,
@@ -30,7 +33,9 @@ pub fn by_reply(
     Ok(Renewal::Granted(token))
 }
 
-/// What a refusal gives: an error that says what the user can do, where that is known.
+/// What a refusal gives: the error `RefreshFailed`. For `InsufficientPermissions`, `TokenExpired` and
+/// `UserCredentialsChanged` it has a message that says what the user can do, else none. `OutOfMemory`
+/// where memory runs out.
 pub fn by_refusal(
     alloc: Global,
     kind: RefusalKind,
@@ -46,7 +51,7 @@ pub fn by_refusal(
     }
 }
 
-/// An error. The attempt is not noted.
+/// The error `RefreshFailed` with this message. The attempt is not noted.
 pub fn failed(message: Option<Text>) -> Renewal<LoginToken, LoginTokenError>
     ensures { result ≡ fails message }
 {
@@ -69,17 +74,6 @@ fn refusal_words(kind: RefusalKind) -> Option<&'static str>
         ),
         _ => None,
     }
-}
-
-// When a lifetime ends that begins now. None where it is below a second, or ends past the end of time.
-fn end_of(now: Instant, lifetime: i64) -> Option<Instant>
-    ensures { result ≡ end now lifetime }
-{
-    if lifetime < 1 {
-        return None;
-    }
-    let seconds = now.seconds().checked_add(lifetime)?;
-    Instant::new(seconds, now.nanos())
 }
 
 fn renewed(

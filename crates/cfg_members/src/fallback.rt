@@ -14,7 +14,8 @@ pub trait FallsBack: ChainMember {
     /// The value that it has, by what is kept of it.
     ghost fallback: { Self → States → Option Self.Value };
 
-    /// The value to go on with, if it has one. Nothing is asked, and what is kept stays.
+    /// The value to go on with, if it has one, by what is kept of it, which has its key. Nothing is asked,
+    /// and what is kept stays. `OutOfMemory` where memory runs out.
     fn fallback_on_interrupt(
         &self,
         alloc: Global,
@@ -24,7 +25,9 @@ pub trait FallsBack: ChainMember {
         ensures { IfOk result (λ value. value ≡ fallback self.now (states_of kept.now)) };
 }
 
-/// The first member's value that is there, in order, or none. Nothing is asked, and what is kept stays.
+/// The value of the first member that has one to go on with, as aws-config does, or none where no member
+/// has one. What is kept of each member stands at its place. Nothing is asked, and what is kept stays.
+/// `OutOfMemory` where memory runs out.
 pub fn first_fallback<M: FallsBack>(
     alloc: Global,
     members: &[M],

@@ -21,8 +21,16 @@ pub(crate) enum Turn<V, E> {
     Answers(Result<V, E>),
 }
 
-/// Asks the members in order, up to the first one that was loaded or that failed. What is kept of each
-/// member stands at its place.
+/// Asks the members in order, up to the first one that was loaded or that failed, whose answer is the
+/// outcome. Where each one was not loaded, that is the outcome, which tells of each. What is kept of each
+/// member stands at its place, and the values that were found are added to its list.
+///
+/// # Errors
+///
+/// After either stop each kept value is as the last finished holding left it.
+///
+/// - `Open`: a question is left open. Taken up again with one answer more it comes to the next.
+/// - `OutOfMemory` where memory runs out.
 pub fn follow_members<M: ChainMember, A: Asking>(
     alloc: Global,
     members: &[M],

@@ -42,8 +42,10 @@ pub trait ChainMember {
     fn token_key(&self) -> Option<&TokenKey>
         ensures { option_copied result ≡ needs self.now };
 
-    /// Asks what its tree asks, and answers what it reads. Where a question is left open it stops there,
-    /// and taken up again with one answer more it comes to the next.
+    /// Asks what its tree asks, and answers what the tree says over the answers. Where a question is left
+    /// open it stops there with `Open`, and taken up again with one answer more it comes to the next.
+    /// `OutOfMemory` where memory runs out. After a stop each kept value is as the last finished holding
+    /// left it.
     fn follow<A: Asking>(
         &self,
         alloc: Global,
@@ -70,6 +72,7 @@ pub trait ChainMember {
 }
 
 /// What a chain over these members keeps between calls, one for each member in order, with nothing kept.
+/// `OutOfMemory` where memory runs out.
 pub fn new_kept<M: ChainMember>(alloc: Global, members: &[M]) -> Result<Vec<Kept>, OutOfMemory>
     ensures nothing { IfOk result (λ kept. map states_of kept.items ≡ map (λ _. no_states) members.now) }
     ensures keys { IfOk result (λ kept. map kept_key kept.items ≡ map (λ m. M.needs m) members.now) }

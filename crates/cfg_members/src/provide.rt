@@ -20,7 +20,7 @@ use std::alloc::Global;
 ///
 /// # Errors
 ///
-/// - The error of no member that was loaded, where that is so. It tells of each member, in order.
+/// - The chain's own error where no member was loaded. It tells of each member, in order.
 /// - Any other error of a member, where each one before it was not loaded.
 /// - Out of memory where memory runs out. The journal then has gained the beginning of such parts, and
 ///   each kept value is as the last finished holding left it.

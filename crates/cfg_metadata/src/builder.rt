@@ -11,6 +11,7 @@ use cfg_types::{OutOfMemory, Text, TryCopy};
 use std::alloc::Global;
 
 /// Sets up a provider of metadata credentials. A setter changes what it is named for, and nothing else.
+/// One that runs out of memory gives the builder up.
 #[derive(Drop)]
 pub struct Builder {
     alloc: Global,
@@ -24,7 +25,7 @@ impl Builder {
     ghost use Rattle.cfg_metadata.specs.Setups.{setup_of, setting_of, default_metadata, provider_of};
 
     /// A builder with this client, with no variables and no profiles, of the role that the service lists,
-    /// for the default chain.
+    /// for the default chain. `OutOfMemory` where memory runs out.
     pub fn new(alloc: Global, client: Client) -> Result<Builder, OutOfMemory>
         ensures { IfOk result (λ b. setup_of repeated b ≡ default_metadata (client_rules repeated client)) }
     {
@@ -38,7 +39,7 @@ impl Builder {
     }
 
     /// With a copy of this configuration, in place of the one that it had. Its variables may switch
-    /// metadata off.
+    /// metadata off. `OutOfMemory` where memory runs out.
     pub fn configure(mut self, config: &ProviderConfig) -> Result<Builder, OutOfMemory>
         ensures { IfOk result (λ b. setup_of repeated b ≡ record (setup_of repeated self) { configuration = config.now }) }
     {
@@ -47,7 +48,7 @@ impl Builder {
     }
 
     /// The role of this name, that is, of this instance profile. The service is not asked for its list
-    /// then.
+    /// then. `OutOfMemory` where memory runs out.
     pub fn profile(mut self, role: &str) -> Result<Builder, OutOfMemory>
         ensures { IfOk result (λ b. setup_of repeated b ≡ record (setup_of repeated self) { role = some (characters role.now) }) }
     {
@@ -63,7 +64,7 @@ impl Builder {
         self
     }
 
-    /// Where the session token and the retrieved credentials are kept.
+    /// For whom the session token and the retrieved credentials are kept.
     pub fn place(mut self, place: Place) -> Builder
         ensures { setup_of repeated result ≡ record (setup_of repeated self) { place = place } }
     {

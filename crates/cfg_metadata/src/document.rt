@@ -37,7 +37,8 @@ fn read_document(
     }
 }
 
-/// The document at this path, or why there are no keys.
+/// The document at this path, or why there are no keys. An error of the get is `ProviderError(Metadata)`,
+/// and those of the text are those of [`RoleDocument::read`].
 #[tactic(auto, using(cfg_keeping::proofs::HoldingSteps::holding_steps), unfolding(crate::specs::Metadata::document))]
 pub fn get_document<P: Keeper, A: Asking>(
     alloc: Global,
@@ -127,7 +128,8 @@ fn extend_if_due<A: Asking>(
     }
 }
 
-/// A reading of the clock, and the credentials of the document then.
+/// A reading of the clock, and the credentials of the document then. Where they have ended by then a
+/// jitter is asked, in seconds.
 #[tactic(auto, using(cfg_imds::proofs::Steps::said_steps), unfolding(crate::specs::Metadata::dated))]
 pub fn date<A: Asking>(
     alloc: Global,

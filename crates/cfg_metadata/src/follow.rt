@@ -143,7 +143,9 @@ fn answer_refusal<P: Keeper, A: Asking>(
 }
 
 /// The credentials of the machine's role, over anything that can be asked: the body of
-/// [`crate::ImdsCredentialsProvider::provide_credentials`], for who has its parts.
+/// [`crate::ImdsCredentialsProvider::provide_credentials`], for who has its parts. `disabled` says
+/// whether metadata is switched off, and `role` is the role's name, where one is set. The errors are
+/// those that stand there.
 #[tactic(auto, using(cfg_keeping::proofs::HoldingSteps::holding_steps), unfolding(crate::specs::Metadata::metadata))]
 pub fn follow_metadata<P: Keeper, A: Asking>(
     alloc: Global,

@@ -60,6 +60,8 @@ fn token_and_text<P: Keeper, A: Asking>(
 }
 
 /// The receipt of what stands at a path. Nothing is asked where the path or the endpoint is not usable.
+/// Else a session token is settled on the one that is kept for the place. The errors are those of
+/// [`Client::get`].
 #[tactic(auto, using(cfg_keeping::proofs::HoldingSteps::holding_steps), unfolding(crate::specs::Metadata::metadata_get))]
 pub fn metadata_get<P: Keeper, A: Asking>(
     alloc: Global,

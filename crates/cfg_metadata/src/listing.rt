@@ -93,7 +93,9 @@ fn list_role<P: Keeper, A: Asking>(
     }
 }
 
-/// The path of the role that is set, and else of the one that the service lists.
+/// The path of the role that is set, and else of the one that the service lists. An error of the listing
+/// is `CredentialsNotLoaded` where it answers 404 (`MetadataNoRole`) or where its token request could not
+/// be sent (`MetadataUnreachable`), and else `ProviderError(Metadata)`.
 #[tactic(auto, using(cfg_keeping::proofs::HoldingSteps::holding_steps), unfolding(crate::specs::Metadata::path_of_role))]
 pub fn path_of_role<P: Keeper, A: Asking>(
     alloc: Global,

@@ -50,7 +50,7 @@ impl ImdsCredentialsProvider {
     }
 
     /// A builder with this client, with no variables and no profiles, of the role that the service lists,
-    /// for the default chain.
+    /// for the default chain. `OutOfMemory` where memory runs out.
     pub fn builder(alloc: Global, client: Client) -> Result<Builder, OutOfMemory>
         ensures { IfOk result (λ b. setup_of repeated b ≡ default_metadata (client_rules repeated client)) }
     {
@@ -58,7 +58,8 @@ impl ImdsCredentialsProvider {
     }
 
     /// The body of [`Self::provide_credentials`], over anything that can be asked. Where a question is
-    /// left open it stops there.
+    /// left open it stops there. Where memory runs out it stops with `OutOfMemory`. What is kept is then,
+    /// and at an open question, as the last finished holding left it.
     pub fn follow<P: Keeper, A: Asking>(
         &self,
         keeper: &mut P,
@@ -78,7 +79,8 @@ impl ImdsCredentialsProvider {
         )
     }
 
-    /// The credentials of the machine's role, by the provider's name `IMDSv2`.
+    /// The credentials of the machine's role, by the provider's name `IMDSv2`, without an account. Those
+    /// that were retrieved by this call have the feature `CredentialsImds`, and kept ones have none.
     ///
     /// Where metadata is switched off by `AWS_EC2_METADATA_DISABLED` nothing is asked. Else the path
     /// `/latest/meta-data/iam/security-credentials/` gives the role's name, unless one is set; the path
@@ -96,7 +98,7 @@ impl ImdsCredentialsProvider {
     /// - `CredentialsNotLoaded(MetadataNoRole)`: the listing answers 404.
     /// - `CredentialsNotLoaded(MetadataUnreachable)`: the listing's token request could not be sent.
     /// - `ProviderError(Metadata)`: the listing or the document was not got for another reason. It has
-    ///   the client's error.
+    ///   the client's error, which is `Unexpected(Path)` where the role's name makes no path.
     /// - `InvalidConfiguration(MetadataRole)`: the document is an error of the code
     ///   `AssumeRoleUnauthorizedAccess`.
     /// - `ProviderError(ErrorDocument)`: it is an error of another code.
@@ -119,7 +121,8 @@ impl ImdsCredentialsProvider {
     }
 
     /// What a caller may use where a call was interrupted: the credentials that were last retrieved for
-    /// the provider's place, if any were. Nothing is asked, and what is kept stays.
+    /// the provider's place, if any were. Nothing is asked, and what is kept stays. `OutOfMemory` where
+    /// memory runs out.
     pub fn fallback_on_interrupt(&self, kept: &Kept) -> Result<Option<Credentials>, OutOfMemory>
         ensures { IfOk result (λ c. c ≡ (place_states (states_of kept.now) (setting_of repeated self.now).place).retrieved) }
     {

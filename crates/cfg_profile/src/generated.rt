@@ -7,8 +7,13 @@ use cfg_types::OutOfMemory;
 use std::alloc::Global;
 
 /// The set of the profiles `p1` to `pn`, of which `p1` is selected. Each profile `pi` but the last is a
-/// role over the next one: its `role_arn` is `arn:aws:iam::`, the number in twelve digits, `:role/r` and
-/// the number, its `role_session_name` is `s` and the number. The last one has the keys `AK` and `SK`.
+/// role over the next one: its `role_arn` is `arn:aws:iam::`, the number in at least twelve digits,
+/// `:role/r` and the number, its `role_session_name` is `s` and the number. The last one has the keys `AK`
+/// and `SK`. For 0 the set has the profile `p0` alone, with these keys, and no `p1`.
+///
+/// # Errors
+///
+/// `OutOfMemory` where memory runs out.
 pub fn generated_set(alloc: Global, n: u64) -> Result<ProfileSet, OutOfMemory>
     ensures { IfOk result (λ set. set ≡ generated n) }
 {

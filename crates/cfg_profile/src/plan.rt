@@ -10,7 +10,8 @@ use crate::sections::ProfileSet;
 use cfg_types::{OutOfMemory, ProfileFileError, Text, TryCopy};
 use std::alloc::Global;
 
-/// What the selected profile of the set gives credentials by, by the rules of [`plan_of_profile`].
+/// What the selected profile of the set gives credentials by, by the rules of [`plan_of_profile`] and with
+/// its errors. Selected is the profile whose name the set was made with.
 pub fn plan_of(
     alloc: Global,
     set: &ProfileSet,

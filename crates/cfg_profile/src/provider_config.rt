@@ -1,3 +1,4 @@
+//! What providers are given.
 ghost use Rattle.std.specs.Prelude.{◌≡◌, IfOk, Some, None, true, false, [], option_map, MatchOption};
 ghost use Rattle.std.specs.FinMap.{empty};
 ghost use Rattle.cfg_values.specs.Text.{characters};
@@ -67,7 +68,8 @@ impl Model for ProviderConfig {
 }
 
 impl ProviderConfig {
-    /// No variables, no sections, no region, no settings of calls, and no sleep.
+    /// No variables, no sections, no region, no settings of calls, and providers may not sleep.
+    /// `OutOfMemory` where memory runs out.
     pub fn empty(alloc: Global) -> Result<ProviderConfig, OutOfMemory>
         ensures { IfOk result (λ c. c ≡ nothing_configured false) }
     {
@@ -91,6 +93,7 @@ impl ProviderConfig {
     }
 
     /// No variables, no sections, no region and no settings of calls. Providers may sleep.
+    /// `OutOfMemory` where memory runs out.
     pub fn without_region(alloc: Global) -> Result<ProviderConfig, OutOfMemory>
         ensures { IfOk result (λ c. c ≡ nothing_configured true) }
     {
@@ -106,7 +109,7 @@ impl ProviderConfig {
         self
     }
 
-    /// With these sections, or their refusal.
+    /// With these sections, or why they were refused.
     pub fn with_profiles(mut self, profiles: ProfileSource) -> ProviderConfig
         ensures { result ≡ record self { profiles = profiles } }
     {
@@ -114,7 +117,8 @@ impl ProviderConfig {
         self
     }
 
-    /// With the profile of this name, whatever the environment says.
+    /// With the profile of this name selected, whatever the environment says. `OutOfMemory` where memory
+    /// runs out.
     pub fn with_profile_name(
         mut self,
         alloc: Global,
@@ -134,7 +138,7 @@ impl ProviderConfig {
         self
     }
 
-    /// Whether calls go to endpoints that are validated by FIPS 140, or none.
+    /// With or without endpoints that are validated by FIPS 140; none where nothing is said of it.
     pub fn with_use_fips(mut self, use_fips: Option<bool>) -> ProviderConfig
         ensures { result ≡ record self { use_fips = use_fips } }
     {
@@ -142,7 +146,7 @@ impl ProviderConfig {
         self
     }
 
-    /// Whether calls go to endpoints of both IPv4 and IPv6, or none.
+    /// With or without endpoints of both IPv4 and IPv6; none where nothing is said of it.
     pub fn with_use_dual_stack(mut self, use_dual_stack: Option<bool>) -> ProviderConfig
         ensures { result ≡ record self { use_dual_stack = use_dual_stack } }
     {
@@ -150,7 +154,7 @@ impl ProviderConfig {
         self
     }
 
-    /// How often calls are tried.
+    /// With this number of attempts of a call, the first one counted.
     pub fn with_retry_config(mut self, retry_config: RetryConfig) -> ProviderConfig
         ensures { result ≡ record self { retry_config = Some retry_config } }
     {
@@ -158,7 +162,7 @@ impl ProviderConfig {
         self
     }
 
-    /// The limits of time of calls.
+    /// With these limits of time of calls, in milliseconds.
     pub fn with_timeout_config(mut self, timeout_config: Timeouts) -> ProviderConfig
         ensures { result ≡ record self { timeout_config = Some timeout_config } }
     {
@@ -166,7 +170,7 @@ impl ProviderConfig {
         self
     }
 
-    /// With this behavior version, or none.
+    /// With this behavior version, or none. It decides nothing.
     pub fn with_behavior_version(
         mut self,
         behavior_version: Option<BehaviorVersion>,
@@ -192,14 +196,14 @@ impl ProviderConfig {
         &self.env
     }
 
-    /// The sections, or their refusal.
+    /// The sections, or why they were refused.
     pub fn profiles(&self) -> &ProfileSource
         ensures { result.now ≡ self.now.profiles }
     {
         &self.profiles
     }
 
-    /// The name of a profile, where one was given.
+    /// The name of a profile, where one was given. It goes before that of the environment.
     pub fn profile_name(&self) -> Option<&str>
         ensures { option_map (λ n. n.now) result ≡ self.now.profile_name }
     {
@@ -230,14 +234,14 @@ impl ProviderConfig {
         self.use_dual_stack
     }
 
-    /// How often calls are tried, where that was said.
+    /// How often a call may be tried in all, where that was said.
     pub fn retry_config(&self) -> Option<&RetryConfig>
         ensures { option_map (λ r. r.now) result ≡ self.now.retry_config }
     {
         self.retry_config.as_ref()
     }
 
-    /// The limits of time of calls, where they were said.
+    /// The limits of time of calls, in milliseconds, where they were said.
     pub fn timeout_config(&self) -> Option<&Timeouts>
         ensures { option_map (λ t. t.now) result ≡ self.now.timeout_config }
     {
@@ -259,8 +263,8 @@ impl ProviderConfig {
     }
 }
 
-/// The name of the selected profile: the configuration's, else the one in `AWS_PROFILE`, else
-/// `default`.
+/// The name of the selected profile: the one that the configuration was given, else what `AWS_PROFILE` is
+/// set to where that is Unicode, else `default`. An empty name is a name.
 pub fn selected_name(config: &ProviderConfig) -> &str
     ensures { result.now ≡ selected_name_of config.now }
 {

@@ -6,15 +6,17 @@ use crate::sections::ProfileSet;
 use cfg_types::{OutOfMemory, Region};
 use std::alloc::Global;
 
-/// The region of the selected profile of the set, by the rule of [`region_of_profile`].
+/// The region of the selected profile of the set, by the rule of [`region_of_profile`] and with its error.
+/// Selected is the profile whose name the set was made with.
 pub fn region_of(alloc: Global, set: &ProfileSet) -> Result<Option<Region>, OutOfMemory>
     ensures { IfOk result (IsRegion set.now.profiles set.now.selected) }
 {
     region_of_profile(alloc, set, set.selected_profile())
 }
 
-/// The region of the profile of this name: its own, else that of its `source_profile`, and so on. A
-/// path of sources that comes back, or that leads to no profile, has none.
+/// The region of the profile of this name: its own `region`, also an empty one, else that of its
+/// `source_profile`, and so on. None where that comes back, leads to no profile, or ends at a profile with
+/// neither key. `OutOfMemory` where memory runs out.
 pub fn region_of_profile(
     alloc: Global,
     set: &ProfileSet,

@@ -18,7 +18,8 @@ use crate::walk::{End, Path, walk};
 use cfg_types::{OutOfMemory, ProfileFileError, Seq, Text};
 use std::alloc::Global;
 
-/// What the selected profile of the set gives credentials by, by the rules of [`chain_of_profile`].
+/// What the selected profile of the set gives credentials by, by the rules of [`chain_of_profile`] and
+/// with its errors. Selected is the profile whose name the set was made with.
 pub fn resolve_chain(alloc: Global, set: &ProfileSet) -> Result<ProfileChain, ProfileFileError>
     ensures { Gives memory result (IsChain set.now set.now.selected) }
 {
@@ -26,17 +27,26 @@ pub fn resolve_chain(alloc: Global, set: &ProfileSet) -> Result<ProfileChain, Pr
 }
 
 /// What the profile of this name gives credentials by: the base of the last profile on its path, and
-/// the roles of the path, which are assumed from the last to the first.
+/// the roles of the profiles before it, which are assumed from the last to the first. Where the last one
+/// is a role over its own base, by a `credential_source` or as its own source, its role is assumed before
+/// these. A profile behind the first that has both static keys ends the path with them, and is then not
+/// assumed as a role.
 ///
-/// | answer | where |
-/// |---|---|
-/// | `NoProfilesDefined` | there is no profile, or none is called `default` and this one is asked for |
-/// | `MissingProfile` | another profile is not there, this one or a source on its path, or it lacks its SSO region or start URL |
-/// | `CredentialLoop` | the path comes back to one of its profiles |
-/// | `ProfileDidNotContainCredentials` | a profile has no keys, and nothing else: the one of this name, or a role that is its own source |
-/// | `MissingSsoSession`, `InvalidSsoConfig` | the SSO settings of such a profile are at fault |
-/// | `InvalidCredentialSource` | keys of a profile do not go together, a role has both sources or none, or the base behind a role has one of these errors |
-/// | `OutOfMemory` | memory ran out |
+/// # Errors
+///
+/// - `NoProfilesDefined`: there is no profile, or `default` is asked for and is not there.
+/// - `MissingProfile`: another profile is asked for and is not there, or a source on its path is not there.
+/// - `CredentialLoop`: the path comes back to one of its profiles.
+/// - `InvalidCredentialSource`: a role on the path has both `source_profile` and `credential_source`, or
+///   neither.
+/// - The error of the base, where that is the base of the profile of this name or of a role that is its own
+///   source: `ProfileDidNotContainCredentials` where it has no static key and no session token;
+///   `InvalidCredentialSource` where it has some of these but not both keys, or web identity without
+///   `role_arn`; of IAM Identity Center, `InvalidSsoConfig` where start URL or region stand beside a named
+///   session, or one of account and role without the other, `MissingSsoSession` where the named session is
+///   not there, and `MissingProfile` where there is no region or no start URL.
+/// - `InvalidCredentialSource` with the text of such an error, where it is that of another profile's base.
+/// - `OutOfMemory`: memory runs out.
 pub fn chain_of_profile(
     alloc: Global,
     set: &ProfileSet,

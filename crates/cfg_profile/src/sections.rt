@@ -1,3 +1,4 @@
+//! Sections, and sets of them by name.
 ghost use Rattle.std.specs.Prelude.{◌≡◌, ◌↔◌, IsTrue, IfOk, map, option_map, string_bytes};
 ghost use Rattle.std.specs.Option.{option_copied};
 ghost use Rattle.std.specs.FinMap.{get as entry_of, len};
@@ -36,7 +37,7 @@ impl Model for Section {
 }
 
 impl Section {
-    /// A section of this name with these keys and values.
+    /// A section of this name with these keys and values. `OutOfMemory` where memory runs out.
     pub fn new(
         alloc: Global,
         name: &str,
@@ -50,7 +51,7 @@ impl Section {
         })
     }
 
-    /// A section of this name, without a copy of it.
+    /// A section of this name with these keys and values, whose name is taken and not copied.
     pub fn of(name: String, properties: Vec<(String, String)>) -> Section
         ensures { result ≡ record { name = string_bytes name; properties = map bytes_of properties.items } }
     {
@@ -77,14 +78,14 @@ impl Section {
         Ok((name, message))
     }
 
-    /// The value of a key, where it is there.
+    /// The value of a key, as it stands there, an empty one too; none where the key is not there.
     pub fn get(&self, key: &str) -> Option<&str>
         ensures { option_map (λ v. v.now) result ≡ property self.now key.now }
     {
         last_value(self.properties.as_slice(), key)
     }
 
-    /// The value of a key as a text of its own, where it is there.
+    /// The value of a key as a text of its own, where it is there. `OutOfMemory` where memory runs out.
     pub fn text_property(&self, alloc: Global, key: &str) -> Result<Option<Text>, OutOfMemory>
         ensures { IfOk result (λ t. t ≡ text_property_of self.now key.now) }
     {
@@ -94,7 +95,7 @@ impl Section {
         }
     }
 
-    /// The value of a key as the id of an account, where it is there.
+    /// The value of a key as the id of an account, where it is there. `OutOfMemory` where memory runs out.
     pub fn account_property(
         &self,
         alloc: Global,
@@ -184,7 +185,8 @@ impl Model for ProfileSet {
 impl ProfileSet {
     ghost use Rattle.cfg_profile.specs.SectionSets.{sections_by_name, selected_property};
 
-    /// The profiles and sessions of these sections, with the profile of this name selected.
+    /// The profiles and sessions of these sections, with the profile of this name selected, which need not
+    /// be there. `OutOfMemory` where memory runs out.
     pub fn new(
         alloc: Global,
         profiles: Vec<Section>,
@@ -203,28 +205,28 @@ impl ProfileSet {
         })
     }
 
-    /// The profile of this name, lent.
+    /// The profile of this name, lent, where it is there.
     pub fn get_profile(&self, name: &str) -> Option<&Section>
         ensures { option_copied result ≡ entry_of self.now.profiles name.now }
     {
         self.profiles.get(name)
     }
 
-    /// How many profiles there are.
+    /// How many profiles there are, those of one name counted once.
     pub fn profile_count(&self) -> usize
         ensures { result ≡ len self.now.profiles }
     {
         self.profiles.len()
     }
 
-    /// Whether there is no profile.
+    /// Whether there is no profile. Sessions do not count.
     pub fn is_empty(&self) -> bool
         ensures { IsTrue result ↔ (len self.now.profiles ≡ 0) }
     {
         self.profiles.is_empty()
     }
 
-    /// The session of this name, lent.
+    /// The session of IAM Identity Center of this name, lent, where it is there.
     pub fn sso_session(&self, name: &str) -> Option<&Section>
         ensures { option_copied result ≡ entry_of self.now.sessions name.now }
     {
@@ -277,7 +279,9 @@ fn by_name(alloc: Global, sections: Vec<Section>) -> Result<TextMap<Section>, Ou
 
 /// Sections, or why they were refused.
 pub enum ProfileSource {
+    /// The sections that were handed in.
     Sections(ProfileSet),
+    /// The reason why there are none, in words.
     Refused(Text),
 }
 

@@ -1,3 +1,4 @@
+//! How the calls of a configuration are sent.
 ghost use Rattle.std.specs.Prelude.{◌≡◌, IfOk};
 ghost use Rattle.cfg_profile.specs.Settings.{attempts_of, timeouts_of, settings_of};
 
@@ -5,8 +6,10 @@ use crate::provider_config::ProviderConfig;
 use cfg_types::{CallSettings, OutOfMemory, Timeouts, TryCopy};
 use std::alloc::Global;
 
-/// How the calls of a configuration are sent: its region, its endpoints and its limits of time, in as
-/// many attempts as its retry configuration says, and in three where it has none.
+/// How the calls of a configuration are sent: its region, its endpoints and its limits of time in
+/// milliseconds, in as many attempts as its retry configuration says, and in three where it has none, as in
+/// the standard retry mode of the AWS SDKs. Where it has no limits of time, they are left to the transport.
+/// `OutOfMemory` where memory runs out.
 pub fn call_settings(alloc: Global, config: &ProviderConfig) -> Result<CallSettings, OutOfMemory>
     ensures { IfOk result (λ s. s ≡ settings_of config.now) }
 {

@@ -1,30 +1,21 @@
 -- A script has one line of its default region chain.
-use Rattle.std.proofs.Common.{◌≡◌, ℕ, List, [], ◌++◌, Bool, Option, None, Result, Ok, Err, IfOk, sym, ap, ◌∙◌, subst}
+use Rattle.std.proofs.Common.{◌≡◌, ℕ, List, [], ◌++◌, Bool, Result, Ok, Err, IfOk, sym, ap, ◌∙◌, subst}
 use Rattle.std.specs.Prelude.{is_some}
 use Rattle.cfg_world.specs.declared.script.DeviceLists.{DeviceLists}
 use Rattle.cfg_world.specs.Fits.{Pair}
-use Rattle.cfg_world.specs.Held.{Held}
-use Rattle.cfg_world.specs.Grows.{Grows}
 use Rattle.cfg_world.specs.Script.{Script, Allows, Stands, Given, start}
 use Rattle.cfg_world.specs.Asked.{Same, StandsOn}
-use Rattle.cfg_imds.proofs.OneEndpoint.{one_endpoint}
 use Rattle.cfg_profile.specs.Configuration.{Configuration}
 use Rattle.cfg_region.specs.ChainParts.{AreParts}
 use Rattle.cfg_region.specs.Defaults.{DefaultRegions, IsDefault, default_trees}
-use Rattle.cfg_region.specs.DefaultSetups.{DefaultSetup, nothing_set}
+use Rattle.cfg_region.specs.DefaultSetups.{DefaultSetup, nothing_set, default_configured}
 use Rattle.cfg_region.specs.Environments.{Told}
 use Rattle.cfg_region.proofs.Chains.{one_region_told}
+use Rattle.cfg_region.proofs.OneSource.{one_default}
 use Rattle.cfg_script.specs.Script.{Plain}
 use Rattle.cfg_script.specs.Devices.{lists_of}
 use Rattle.cfg_program.specs.Calls.{configured}
 use Rattle.cfg_program.specs.Regions.{shown_region, TellsRegion, RegionAnswers}
-
-same_chain : (a b : DefaultRegions) → a.configuration ≡ b.configuration → a.profile_name ≡ b.profile_name → a.endpoint ≡ b.endpoint → a ≡ b
-same_chain a b c n e = λ i. record { configuration = c i; profile_name = n i; endpoint = e i }
-
--- a configuration has one default region chain
-one_chain : (conf : Configuration) (a b : DefaultRegions) → IsDefault conf None a → IsDefault conf None b → a ≡ b
-one_chain conf a b x y = same_chain a b (x.configuration ∙ sym y.configuration) (x.profile_name ∙ sym y.profile_name) (one_endpoint conf None None a.endpoint b.endpoint x.endpoint y.endpoint)
 
 one_told : (chain : DefaultRegions) (lists : DeviceLists) (a b : Bool) (line other : List ℕ) → TellsRegion chain lists a line → TellsRegion chain lists b other → (a ≡ b) × (line ≡ other)
 one_told chain lists a b line other x y =
@@ -35,7 +26,7 @@ one_told chain lists a b line other x y =
 
 pub one_region : (p : Plain) (a b : Bool) (line other : List ℕ) → RegionAnswers p a line → RegionAnswers p b other → (a ≡ b) × (line ≡ other)
 one_region p a b line other x y =
-    one_told x.chain (lists_of p) a b line other x.tells (subst (λ (c : DefaultRegions). TellsRegion c (lists_of p) b other) (one_chain (configured p) y.chain x.chain y.is x.is) y.tells)
+    one_told x.chain (lists_of p) a b line other x.tells (subst (λ (c : DefaultRegions). TellsRegion c (lists_of p) b other) (one_default (configured p) y.chain x.chain y.is x.is) y.tells)
 
 -- over scripted devices that nothing was asked of the answers are those that the lists give
 pub given_from_start : (was now : Script) (part : List Pair) → was.place ≡ start → Same (Allows was) (Allows now) → StandsOn (Stands was) (Stands now) part → Given was.lists start part
@@ -55,10 +46,9 @@ told_over chain was now journal region there none lines fresh same stands parts 
 
 -- what the builder of the chain was given
 pub default_is : (empty given : DefaultSetup) (config conf : Configuration) (chain : DefaultRegions) → empty ≡ nothing_set → given ≡ record empty { configuration = config } → config ≡ conf
-    → IsDefault given.configuration given.profile_name chain → IsDefault conf None chain
+    → IsDefault (default_configured given) chain → IsDefault conf chain
 default_is empty given config conf chain n s c is =
-    subst (λ (k : Configuration). IsDefault k None chain) (ap (λ (x : DefaultSetup). x.configuration) s ∙ c)
-    (subst (λ (o : Option (List ℕ)). IsDefault given.configuration o chain) (ap (λ (x : DefaultSetup). x.profile_name) s ∙ ap (λ (x : DefaultSetup). x.profile_name) n) is)
+    subst (λ (k : Configuration). IsDefault k chain) (ap default_configured (s ∙ ap (λ (x : DefaultSetup). let base : DefaultSetup = x in record base { configuration = config }) n) ∙ c) is
 
 pub if_ok : {A E : Type 0} {P Q : A → Type 0} (r : Result A E) → ((a : A) → P a → Q a) → IfOk r P → IfOk r Q
 if_ok (Ok a) f h = f a h

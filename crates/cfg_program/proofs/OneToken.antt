@@ -51,3 +51,16 @@ token_over conf was now old new found journal told out is_token none lines fresh
   token = is;
   shows = shows ∙ ap (λ (l : List ℕ). l ++ shown_token out told) empty ∙ ap (λ (j : List Pair). shown_token out j) own;
 }
+
+-- and over devices that allow what those did
+pub tells_since : (conf : Configuration) (was now : Script) (is_token : Bool) (line : List ℕ) → Same (Allows was) (Allows now) → TellsToken conf now.lists is_token line → TellsToken conf was.lists is_token line
+tells_since conf was now is_token line same t = record {
+  found = t.found;
+  journal = t.journal;
+  out = t.out;
+  kept = t.kept;
+  call = t.call;
+  agrees = same.from t.journal t.agrees;
+  token = t.token;
+  shows = t.shows;
+}

@@ -1,5 +1,5 @@
 -- The call of the default region chain.
-use Rattle.std.specs.Prelude.{◌≡◌, ℕ, List, ◌++◌, Bool, Option, Some, None, is_some, codes}
+use Rattle.std.specs.Prelude.{◌≡◌, ℕ, List, ◌++◌, Bool, Some, None, is_some, codes}
 use Rattle.std.specs.Str.{encode_utf8_all}
 use Rattle.cfg_world.specs.declared.script.DeviceLists.{DeviceLists}
 use Rattle.cfg_world.specs.Fits.{Pair}
@@ -34,5 +34,5 @@ pub record TellsRegion (chain : DefaultRegions) (lists : DeviceLists) (is_there 
 -- the call of the default region chain over what a script configures, but for its region
 pub record RegionAnswers (p : Plain) (is_there : Bool) (line : List ℕ) : Type 0 where
   pub chain : DefaultRegions
-  pub is : IsDefault (configured p) None chain
+  pub is : IsDefault (configured p) chain
   pub tells : TellsRegion chain (lists_of p) is_there line

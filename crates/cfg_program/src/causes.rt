@@ -11,7 +11,8 @@ use percent_encoding::percent_encode_byte;
 use std::alloc::AllocError;
 
 /// Writes what an error comes of, from the outside in: each text on a line of its own, two spaces deeper than
-/// the error's line, and for each level of a chain's members two spaces more.
+/// the error's line, and for each level of a chain's members two spaces more. Control characters and `%` are `%`
+/// and two hexadecimal digits. `OutOfMemory` where memory runs out.
 pub fn write_causes(lines: &mut Vec<u8>, error: &CredentialsError) -> Result<(), OutOfMemory>
     ensures { OnOk result (lines.new.items ≡ lines.old.items ++ shown_causes (causes_of_error error.now)) }
 {

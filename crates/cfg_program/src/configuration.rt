@@ -10,7 +10,7 @@ use cfg_script::ScriptProfiles;
 use cfg_types::{Env, EnvText, OutOfMemory, Region};
 use std::alloc::Global;
 
-/// What the script configures, but for its region.
+/// What the script configures, but for its region. `OutOfMemory` where memory runs out.
 pub fn configuration(
     alloc: Global,
     variables: Vec<(String, EnvText)>,
@@ -39,8 +39,8 @@ fn source(alloc: Global, profiles: ScriptProfiles) -> Result<ProfileSource, OutO
     }
 }
 
-/// These variables, sections and selected name, and whether providers may sleep. The region comes to
-/// the chain as an override.
+/// These variables, sections and selected name, and whether providers may sleep. There is no region: a chain
+/// is given it when it is built. `OutOfMemory` where memory runs out.
 pub fn configured_with(
     alloc: Global,
     variables: Vec<(String, EnvText)>,
@@ -74,7 +74,7 @@ fn sections(
     Ok(sections)
 }
 
-/// The region of this name, or none.
+/// The region of this name, or none. `OutOfMemory` where memory runs out.
 pub fn region_named(alloc: Global, name: Option<String>) -> Result<Option<Region>, OutOfMemory>
     ensures { IfOk result (λ r. r ≡ option_map characters (option_map (λ t. string_bytes t) name)) }
 {

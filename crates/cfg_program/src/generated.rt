@@ -15,7 +15,8 @@ use cfg_world::DeviceLists;
 use std::alloc::Global;
 
 /// Makes the call over the set of `n` profiles, each but the last a role over the next one, and over
-/// devices that grant one exchange for each role. There are no sources of the caller's own.
+/// devices that grant one exchange for each role. There are no sources of the caller's own. `OutOfMemory` where
+/// memory runs out.
 pub fn generate(alloc: Global, n: u64) -> Result<Answered, OutOfMemory>
     requires { n ≤ MOST_PROFILES }
     ensures { IfOk result (λ a. GeneratedAnswers n a.is_ok a.lines.items) }
@@ -48,7 +49,7 @@ fn lists(alloc: Global, n: u64) -> Result<DeviceLists, OutOfMemory>
     Ok(lists)
 }
 
-// The reply to the exchange of this number.
+// The reply to the exchange of this number, counted from 1. Its credentials expire so many seconds after 1700000000.
 fn granted(alloc: Global, j: u64) -> Result<Reply, OutOfMemory>
     requires { j ≤ MOST_PROFILES }
     ensures { IfOk result (λ reply. Ok reply ≡ reply_of j) }

@@ -8,6 +8,7 @@ use std::alloc::{AllocError, Global};
 /// The longest script, in bytes.
 pub const LIMIT: usize = 1_048_576;
 
+// The most bytes that are asked of the source at once.
 const PIECE: usize = 16_384;
 
 /// Why the input was not read.
@@ -15,6 +16,7 @@ const PIECE: usize = 16_384;
 pub enum InputError {
     /// The source failed.
     Fault,
+    /// Memory ran out.
     OutOfMemory,
     /// There are more bytes than the limit.
     TooLong,
@@ -45,8 +47,9 @@ impl From<AllocError> for InputError {
     }
 }
 
-/// All bytes of the source, read to its end. Where there are more than the limit, one more than the
-/// limit is read, and the others are left.
+/// All bytes of the source, read to its end. Where there are more than the limit, it is `TooLong`: one more
+/// than the limit is read, and the others are left. `Fault` where the source failed, and `OutOfMemory` where
+/// memory ran out; what was read before is not handed out.
 pub fn read_all<S: Source>(alloc: Global, source: &mut S) -> Result<Vec<u8>, InputError>
     ensures all { IfOk result (λ v. IfSome (S.left source.old) (λ b. b ≡ v.items)) }
     ensures none_left { IfOk result (λ v. IfSome (S.left source.new) (λ b. b ≡ [])) }

@@ -54,15 +54,16 @@ pub fn one_number_has_one_line()
         GeneratedAnswers n is_credentials line → GeneratedAnswers n is_other other → (is_credentials ≡ is_other) × (line ≡ other) }
 {}
 
-/// Of the statuses that depend on the words, the input and the world's answers alone, one run meets the case of one.
+/// Of the statuses that depend on the words, the input and the world's answers alone, one run meets the case of one,
+/// where the bytes of the input are known.
 pub fn statuses_exclude_one_another()
     ensures { (seen : Seen) (handed : Handed) (word : Option Asked) (one other : Ended) → BytesAreKnown seen → IsTrue (depends_on_input one) → IsTrue (depends_on_input other)
         → EndsRun seen handed word one → EndsRun seen handed word other → one ≡ other }
 {}
 
-/// Two runs over the same input to which the same is handed, whatever their sinks held, end with the same status and write
-/// the same bytes, where the journals of their worlds gain the same, and the status of both depends on the words, the
-/// input and the world's answers alone.
+/// Two runs over the same known input to which the same is handed, whatever their sinks held, end with the same
+/// status and write the same bytes, where the journals of their worlds gain the same, and the status of both depends
+/// on the words, the input and the world's answers alone.
 pub fn runs_over_one_input_are_alike()
     ensures { (one other : Seen) (handed : Handed) (word : Option Asked) (ended ended_other : Ended) → BytesAreKnown one → one.source.left ≡ other.source.left → GainTheSame one other
         → IsTrue (depends_on_input ended) → IsTrue (depends_on_input ended_other)

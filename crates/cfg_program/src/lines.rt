@@ -10,7 +10,7 @@ use percent_encoding::{AsciiSet, CONTROLS, ascii_set, percent_encode};
 use std::alloc::AllocError;
 use std::string::ToString;
 
-/// The bytes of a text that a line escapes: these, and those from 128.
+/// The bytes of a text that a line escapes: control characters, the space and `%`; and those from 128, as always.
 pub const ESCAPED: AsciiSet = ascii_set!(CONTROLS.add(b' ').add(b'%'));
 
 /// The form of a call's line.
@@ -20,11 +20,13 @@ pub enum LineForm {
     Call,
     /// The same, and below the line of an error what the error comes of.
     Why,
-    /// This number of profiles, how many roles were asked for, and the id of the last key.
+    /// This number of profiles, how many roles were asked for, and the id of the last key. An error has the
+    /// line of `Call`.
     Generated(u64),
 }
 
-/// Writes the line of a call's outcome and of the questions that it asked, in this form.
+/// Writes the line of a call's outcome and of the questions that it asked, in this form. `OutOfMemory` where memory
+/// runs out.
 pub fn write_call(
     line: &mut Vec<u8>,
     form: LineForm,
@@ -145,6 +147,8 @@ fn write_credentials(line: &mut Vec<u8>, credentials: &Credentials) -> Result<()
     Ok(())
 }
 
+/// Writes the kinds of the questions in order, joined by `,`, each with `!` where it failed; `-` where nothing was
+/// asked. `AllocError` where memory runs out.
 pub fn write_kinds(line: &mut Vec<u8>, journal: &[Entry]) -> Result<(), AllocError>
     ensures { OnOk result (line.new.items ≡ line.old.items ++ kinds_of journal.now) }
 {
@@ -207,13 +211,15 @@ fn request_name(request: &Request) -> &'static [u8]
     }
 }
 
+/// Writes these bytes as they are. `AllocError` where memory runs out.
 pub fn write_word(line: &mut Vec<u8>, word: &[u8]) -> Result<(), AllocError>
     ensures { OnOk result (line.new.items ≡ line.old.items ++ word.now) }
 {
     line.extend_from_slice(word)
 }
 
-// `=` and the bytes of the text, those that are escaped as `%` and two digits.
+/// Writes `=` and the bytes of the text, those that are escaped as `%` and two hexadecimal digits. `AllocError` where
+/// memory runs out.
 pub fn write_text(line: &mut Vec<u8>, text: &str) -> Result<(), AllocError>
     ensures { OnOk result (line.new.items ≡ line.old.items ++ shown_text text.now) }
 {
@@ -222,7 +228,8 @@ pub fn write_text(line: &mut Vec<u8>, text: &str) -> Result<(), AllocError>
     write_word(line, escaped.as_bytes())
 }
 
-// Seconds, `.` and nine digits, or `none`.
+/// Writes the seconds since the epoch, `.` and nine digits of nanoseconds, or `none`. `AllocError` where memory runs
+/// out.
 pub fn write_expiry(line: &mut Vec<u8>, expiry: Option<Instant>) -> Result<(), AllocError>
     ensures { OnOk result (line.new.items ≡ line.old.items ++ shown_expiry expiry) }
 {

@@ -14,7 +14,8 @@ use cfg_world::{Devices, World};
 use std::alloc::Global;
 
 /// Makes one call of the default chain over these variables, the caller's own sources and this world, without
-/// sections and without a region. The world's journal gains the questions of the call.
+/// sections and without a region. The world's journal gains the questions of the call. `OutOfMemory` where memory
+/// runs out; the journal then may have gained some of them.
 pub fn call_locally<D: Devices>(
     alloc: Global,
     variables: Vec<(String, EnvText)>,

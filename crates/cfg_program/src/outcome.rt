@@ -10,12 +10,15 @@ use cfg_world::Entry;
 /// What calls answered: whether the last one gave what it was asked for, and their lines.
 #[derive(Drop)]
 pub struct Answered {
+    /// Whether the last call gave what it was asked for: credentials, a region or a token.
     pub is_ok: bool,
+    /// The lines of the calls, in order.
     pub lines: Vec<u8>,
 }
 
 /// What a call answered. A caller that lets it go drops it by one call.
 pub struct Outcome {
+    /// Its credentials, or its error.
     pub answer: Result<Credentials, CredentialsError>,
 }
 
@@ -25,7 +28,8 @@ impl Drop for Outcome {
     }
 }
 
-/// Writes the line of a call behind the others, and tells whether it gave credentials.
+/// Writes the line of a call behind the others, and tells whether it gave credentials. `OutOfMemory` where memory
+/// runs out, also where that is what the call answered.
 pub fn tell(
     lines: &mut Vec<u8>,
     form: LineForm,

@@ -5,7 +5,8 @@ ghost use Rattle.cfg_program.specs.Streams.{GrowsByPrefix};
 
 use cfg_world::{Sink, StreamFault};
 
-/// Writes all the bytes. After an error a prefix of them was written.
+/// Writes all the bytes. After an error a prefix of them was written, which may be empty: `Failed` where the sink
+/// failed, and `OutOfMemory` where memory ran out.
 pub fn write_all<K: Sink>(sink: &mut K, bytes: &[u8]) -> Result<(), StreamFault>
     ensures done { OnOk result (Appends (K.written sink.old) (K.written sink.new) bytes.now) }
     ensures part { OnErr result (GrowsByPrefix (K.written sink.old) (K.written sink.new) bytes.now) }

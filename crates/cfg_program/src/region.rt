@@ -16,7 +16,8 @@ use cfg_world::{Entry, ScriptDevices, World};
 use std::alloc::{AllocError, Global};
 
 /// Makes the call of the default region chain over what the script configures, and over the devices with
-/// the script's answers. The script's own region is left aside, since the chain has no override.
+/// the script's answers. The script's own region is left aside, since the chain takes none. `OutOfMemory` where
+/// memory runs out.
 pub fn find_region(alloc: Global, script: Script) -> Result<Answered, OutOfMemory>
     requires { AllFit (lists_of (plain script)) }
     ensures { IfOk result (λ a. RegionAnswers (plain script) a.is_ok a.lines.items) }

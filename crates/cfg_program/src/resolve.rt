@@ -20,7 +20,8 @@ use cfg_world::{DeviceLists, Devices, ScriptDevices, World};
 use std::alloc::Global;
 
 /// Makes the calls that the script describes: over the chain with the script's configuration and the
-/// caller's own sources, and over the devices with the script's answers. Their lines have this form.
+/// caller's own sources, and over the devices with the script's answers. Their lines have this form. `OutOfMemory`
+/// where memory runs out.
 pub fn resolve(
     alloc: Global,
     script: Script,
@@ -44,7 +45,8 @@ pub fn resolve(
 }
 
 /// So many calls with this configuration, these sources of the caller's own and this region, over devices
-/// that answer from these lists, and their lines in this form. Nothing is kept before the first.
+/// that answer from these lists, and their lines in this form. Nothing is kept before the first. `OutOfMemory` where
+/// memory runs out.
 pub fn answer_over(
     alloc: Global,
     config: ProviderConfig,
@@ -80,7 +82,8 @@ fn answer(
     calls(alloc, &chain, custom, count, form, world)
 }
 
-/// The default chain with this region, or none, as its override. Nothing is asked.
+/// The default chain with this region, or none, in place of the configuration's. Nothing is asked. `OutOfMemory`
+/// where memory runs out.
 pub fn chain_of<D: Devices>(
     alloc: Global,
     config: ProviderConfig,

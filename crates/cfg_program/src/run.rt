@@ -36,11 +36,12 @@ use std::alloc::Global;
 
 /// Does what the words ask for: tells a text, or reads a script from the source and writes the lines
 /// of its calls, or of its default region or token chain, to the sink, or writes the line of the call
-/// over a set of profiles that comes from a number, or of the call over `env` and the world. The words are tested first: without one that reads a
-/// script the source stays as it was, and for an unknown command the sink too. Nothing is written before
-/// the script was read to its end. Profiles find the sources in `custom` by `credential_source`, but for
-/// those of `generate`. The word `local` alone asks the world, whose journal gains its questions; without
-/// it `env` is left aside, and the world stays as it was.
+/// over a set of profiles that comes from a number, or of the call over `env` and the world. It answers how that
+/// ended. The words are tested first: without one that reads a script the source stays as it was, and for an
+/// unknown command the sink too. Nothing is written before the script was read to its end. The words `resolve`,
+/// `why` and `local` alone lend the sources in `custom`, which profiles find by `credential_source`. The word
+/// `local` alone asks the world, whose journal gains its questions; without it `env` is left aside, and the world
+/// stays as it was.
 pub fn run<S: Source, K: Sink, D: Devices>(
     alloc: Global,
     words: &[String],

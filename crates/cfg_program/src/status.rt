@@ -4,13 +4,13 @@ ghost use Rattle.cfg_program.specs.Statuses.{number_of};
 /// How a run of the program ended.
 #[derive(Clone, Copy, Debug, PartialEq, Eq)]
 pub enum Status {
-    /// The last call gave credentials, or a text was told.
+    /// The last call gave credentials, a region or a token, or a text was told.
     Done,
-    /// The last call answered an error.
+    /// The last call answered an error, or gave no region.
     Refused,
-    /// Unknown command.
+    /// Unknown command. Nothing was read or written.
     Words,
-    /// The input is no script.
+    /// The input is no script, or one of several calls where the word makes one.
     NoScript,
     /// The input could not be read.
     SourceFault,
@@ -18,7 +18,7 @@ pub enum Status {
     SinkFault,
     /// Memory ran out.
     OutOfMemory,
-    /// The input is longer than a script may be.
+    /// The input is longer than a script may be: more than [`crate::LIMIT`] bytes.
     TooLong,
     /// The questions differ from a given history. Nothing has a history yet, so no run ends so.
     HistoryDiffers,

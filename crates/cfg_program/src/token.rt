@@ -1,5 +1,6 @@
 //! The call of the default token chain.
-ghost use Rattle.std.specs.Prelude.{◌≡◌, ◌++◌, false, is_ok, IfOk, OnOk};
+ghost use Rattle.std.specs.Prelude.{◌≡◌, ◌++◌, [], false, is_ok, IfOk, OnOk};
+ghost use Rattle.cfg_world.specs.Grows.{Grows};
 ghost use Rattle.cfg_world.specs.Script.{AllFit};
 ghost use Rattle.cfg_script.specs.Script.{plain};
 ghost use Rattle.cfg_script.specs.Devices.{lists_of};
@@ -15,11 +16,12 @@ use cfg_chain::ProviderConfig;
 use cfg_region::RegionSource;
 use cfg_script::Script;
 use cfg_types::{OutOfMemory, Region, Token, TokenError};
-use cfg_world::{Entry, ScriptDevices, World};
+use cfg_world::{Devices, Entry, ScriptDevices, World};
 use std::alloc::{AllocError, Global};
 
 /// Makes the call of the default token chain over what the script configures, and over the devices with
-/// the script's answers. Nothing is kept before it. The script's region is the chain's.
+/// the script's answers. Nothing is kept before it. The script's region is the chain's. `OutOfMemory` where memory
+/// runs out.
 pub fn find_token(alloc: Global, script: Script) -> Result<Answered, OutOfMemory>
     requires { AllFit (lists_of (plain script)) }
     ensures { IfOk result (λ a. TokenAnswers (plain script) a.is_ok a.lines.items) }
@@ -41,15 +43,15 @@ pub fn find_token(alloc: Global, script: Script) -> Result<Answered, OutOfMemory
     ask_token(alloc, &chain, &mut world)
 }
 
-// The default chain with this region, or none, as its override. Nothing is asked.
-fn token_chain(
+// The default chain with this region, or none, in place of the configuration's. Nothing is asked.
+fn token_chain<D: Devices>(
     alloc: Global,
     config: ProviderConfig,
     region: Option<Region>,
-    world: &mut World<ScriptDevices>,
+    world: &mut World<D>,
 ) -> Result<DefaultTokenChain, OutOfMemory>
     ensures chain { IfOk result (λ chain. chain ≡ record config { region = region }) }
-    ensures world { world.new ≡ world.old }
+    ensures world { IfOk result (λ chain. Grows ⟦<D as Devices>⟧ [] world.old world.new) }
 {
     let builder = DefaultTokenChain::builder(alloc)?.configure(config);
     builder.region(RegionSource::Fixed(region)).build(world)
@@ -84,7 +86,8 @@ impl Drop for Outcome {
     }
 }
 
-// Writes the call's line, and tells whether it gave a token.
+// Writes the call's line, and tells whether it gave a token. `OutOfMemory` where memory runs out, also where that is
+// what the call answered.
 fn tell(
     lines: &mut Vec<u8>,
     outcome: &Result<Token, TokenError>,

@@ -4,7 +4,9 @@ ghost use Rattle.cfg_program.specs.Words.{word_named, count_of};
 /// What the words after the program's name ask for.
 #[derive(Clone, Copy, Debug, PartialEq, Eq)]
 pub enum Word {
+    /// The text [`HELP`].
     Help,
+    /// The text [`VERSION`].
     Version,
     /// The calls that a script describes.
     Resolve,
@@ -16,11 +18,11 @@ pub enum Word {
     Token,
     /// One call over the variables and the world that are handed in.
     Local,
-    /// The call over a set of so many profiles.
+    /// One call over a set of so many profiles, at most [`MOST_PROFILES`].
     Generate(u64),
 }
 
-/// The largest number that `generate` takes.
+/// The largest number of profiles that `generate` takes.
 pub const MOST_PROFILES: u64 = 1_000;
 
 /// What `--version` tells.
@@ -52,7 +54,8 @@ usage: bujerova resolve < SCRIPT
        bujerova generate N
        bujerova --help | --version";
 
-/// What the words ask for, if it is one thing that is known.
+/// What the words ask for, if it is one thing that is known. The number of `generate` is 1 to [`MOST_PROFILES`], in
+/// decimal digits without sign or leading zero.
 pub fn word_of(words: &[String]) -> Option<Word>
     ensures word { result ≡ word_named (map (λ w. string_bytes w) words.now) }
     ensures most { (n : ℕ) → result ≡ Some (Word.Generate n) → n ≤ MOST_PROFILES }
@@ -100,7 +103,7 @@ fn numbered(word: &str, number: &str) -> Option<Word>
     }
 }
 
-// The number of a text, in decimal digits, without sign or leading zero.
+// The number of a text, in decimal digits, without sign or leading zero, from 1 to the largest that is taken.
 fn count_in(text: &str) -> Option<u64>
     ensures value { result ≡ count_of text.now }
     ensures most { IfSome result (λ n. n ≤ MOST_PROFILES) }

@@ -1,7 +1,7 @@
-//! The tests of cfg_program, over public calls: what no clause says.
+//! The tests of bearer tokens and the program, over public calls: what no clause says.
 #![tactic(auto)]
 
 #[cfg(test)]
-mod own;
+mod bearer;
 #[cfg(test)]
 mod program;

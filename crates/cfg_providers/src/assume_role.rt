@@ -1,3 +1,4 @@
+//! The roles of a profile, assumed one after another.
 ghost use Rattle.std.specs.Prelude.{◌≡◌, IfOk};
 ghost use Rattle.cfg_world.specs.Follows.{Follows};
 ghost use Rattle.cfg_providers.specs.AssumeRole.{request as request_of, granted as granted_of, in_role, assumes, assumes_roles};
@@ -12,8 +13,17 @@ use cfg_types::{
 use cfg_world::{Asking, NotGranted, Stop, leaves};
 use std::alloc::Global;
 
-/// Assumes these roles in order, the first with the base, and answers the last one's credentials.
-/// The first exchange that fails ends it.
+/// Assumes these roles in order, the first with the base, each later one with the credentials of the one
+/// before, and answers the last one's credentials; without roles the base. Each role is one `AssumeRole`;
+/// before one without a name for its session the clock is read, and the name is
+/// `assume-role-from-profile-` and the milliseconds. The first exchange that fails ends it.
+///
+/// # Errors
+///
+/// `ProviderError(Role)` around `ProviderError(Sent)`, where the request failed, around
+/// `ProviderError(Refused)`, where it was refused, around `Unhandled(StsNoCredentials)`, where the reply
+/// has no credentials, or around `Unhandled(StsArn)`, where its ARN has fewer than five parts. Memory that
+/// runs out is a stop. The journal then has gained the beginning of such a part.
 #[tactic(auto, using(crate::proofs::RoleSteps::role_steps))]
 pub fn assume_roles<A: Asking>(
     alloc: Global,

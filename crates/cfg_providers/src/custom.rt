@@ -21,11 +21,12 @@ pub trait ProvideCredentials: Send + Sync {
     /// What it falls back on.
     ghost fallback: { Self → Option Keys };
 
-    /// The credentials, or why there are none.
+    /// The credentials, or why there are none. `OutOfMemory` where memory runs out.
     fn provide_credentials(&self) -> Result<Credentials, CredentialsError>
         ensures { is_memory result ≡ false → result ≡ value self.now };
 
-    /// The credentials to go on with where a call was interrupted. Most sources have none.
+    /// The credentials to go on with where a call was interrupted. Most sources have none. `OutOfMemory`
+    /// where memory runs out.
     fn fallback_on_interrupt(&self) -> Result<Option<Credentials>, OutOfMemory>
         ensures { IfOk result (λ keys. keys ≡ fallback self.now) };
 }
@@ -52,7 +53,7 @@ impl CustomSource {
         &self.name
     }
 
-    /// What the source answers. Its own errors are its own, and where memory runs out it says so.
+    /// What the source answers, with its own errors. `OutOfMemory` where memory runs out.
     pub fn provide_credentials(&self) -> Result<Credentials, CredentialsError>
         ensures { is_memory result ≡ false → result ≡ (named value self.now).1 }
     {
@@ -74,7 +75,8 @@ pub fn custom_source<'a>(sources: &'a [CustomSource], name: &Text) -> Option<&'a
     found
 }
 
-/// What the source of this name answers, where there is one, by the rule of [`custom_source`].
+/// What the source of this name answers, where there is one, by the rule of [`custom_source`]. None
+/// where there is none. An error is the source's own, or `OutOfMemory` where memory runs out.
 pub fn provide_by_name(
     sources: &[CustomSource],
     name: &Text,
@@ -88,7 +90,7 @@ pub fn provide_by_name(
     }
 }
 
-/// The names of these sources, in order, as a plan takes them.
+/// The names of these sources, in order, as a plan takes them. `OutOfMemory` where memory runs out.
 pub fn names_of(alloc: Global, sources: &[CustomSource]) -> Result<Vec<Text>, OutOfMemory>
     ensures { IfOk result (λ names. names.items ≡ map (λ s. s.0) (map (named value) sources.now)) }
 {

@@ -49,7 +49,8 @@ impl Model for Builder {
 
 impl Builder {
     /// With a copy of this configuration, in place of the one that it had. Its variables say where the
-    /// credentials are, and its `sleep_impl` whether there are three attempts or one.
+    /// credentials are, and its `sleep_impl` whether there are three attempts at most or one.
+    /// `OutOfMemory` where memory runs out.
     pub fn configure(mut self, config: &ProviderConfig) -> Result<Builder, OutOfMemory>
         ensures { IfOk result (λ b. b ≡ record self { configuration = config.now }) }
     {
@@ -82,7 +83,7 @@ impl Builder {
         self
     }
 
-    /// The provider.
+    /// The provider. The address is looked at in its calls alone. `OutOfMemory` where memory runs out.
     pub fn build(self) -> Result<EcsCredentialsProvider, OutOfMemory>
         ensures { IfOk result (λ p. p ≡ self) }
     {
@@ -138,7 +139,7 @@ impl Model for EcsCredentialsProvider {
 
 impl EcsCredentialsProvider {
     /// A builder with no variables, with a resolver for names of hosts, and with limits of 2,000
-    /// milliseconds to connect and 5,000 to read.
+    /// milliseconds to connect and 5,000 to read. `OutOfMemory` where memory runs out.
     pub fn builder(alloc: Global) -> Result<Builder, OutOfMemory>
         ensures { IfOk result (λ b. b ≡ container_setup (nothing_configured true)) }
     {
@@ -163,6 +164,7 @@ impl EcsCredentialsProvider {
     }
 
     /// Where the variables of the configuration say that the credentials are. Nothing is asked for it.
+    /// `OutOfMemory` where memory runs out.
     pub fn container_uri(&self) -> Result<ContainerUri, OutOfMemory>
         ensures { IfOk result (IsContainerUri self.now.configuration.environment) }
     {
@@ -221,11 +223,14 @@ impl EcsCredentialsProvider {
     ///
     /// # Errors
     ///
-    /// - `ProviderError(File)`: the token's file could not be read, also where no address is set.
+    /// - `ProviderError(File)`: the token's file could not be read, also where no address is set. It has
+    ///   the path.
     /// - `InvalidConfiguration(AuthToken)`: the token is no header value.
     /// - `CredentialsNotLoaded(NotConfigured)`: the token is fine or not set, and neither address is
     ///   set.
-    /// - `InvalidConfiguration(RelativeUri)`, `InvalidConfiguration(FullUri)`: the address is refused.
+    /// - `InvalidConfiguration(RelativeUri)`: the relative address is no URI. It has the text.
+    /// - `InvalidConfiguration(FullUri)`: the full address is refused. It has the text, and why
+    ///   (`InvalidFullUriError`).
     /// - `Unhandled(Sent)`: the last attempt failed.
     /// - `ProviderError(Status)`: its reply has no status of success.
     /// - `ProviderError(ErrorDocument)`, `Unhandled(NotUtf8)`, `Unhandled(NoDocument)`: its body tells

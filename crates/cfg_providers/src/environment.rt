@@ -1,3 +1,4 @@
+//! Credentials in environment variables.
 ghost use Rattle.std.specs.Prelude.{◌≡◌, IfOk, option_map, false};
 ghost use Rattle.std.specs.Result.{result_err};
 ghost use Rattle.cfg_values.specs.Text.{characters};
@@ -18,7 +19,9 @@ use std::marker::Model;
 
 /// The keys that the variables of the AWS SDKs and tools hold: `AWS_ACCESS_KEY_ID`,
 /// `AWS_SECRET_ACCESS_KEY` with its older name `SECRET_ACCESS_KEY`, `AWS_SESSION_TOKEN` and
-/// `AWS_ACCOUNT_ID`.
+/// `AWS_ACCOUNT_ID`. The last two may be absent, blank or not Unicode, and are used without the white
+/// space at their ends; the keys are used as they are. There is no expiry. The refusals are the errors of
+/// [`EnvironmentVariableCredentialsProvider::provide_credentials`], and memory that runs out is a stop.
 #[tactic(auto, unfolding(crate::specs::EnvironmentKeys::environment))]
 pub fn environment_credentials(
     alloc: Global,
@@ -36,7 +39,9 @@ pub fn environment_credentials(
     Ok(builder.features(origin).build()?)
 }
 
-/// The keys that the variables hold, as a provider's answer. Nothing is asked for them.
+/// The keys that the variables hold, as a provider's answer. Nothing is asked for them. The errors are
+/// those of [`EnvironmentVariableCredentialsProvider::provide_credentials`], and memory that runs out is a
+/// stop.
 #[tactic(auto, using(crate::proofs::QuietSteps::quiet_steps))]
 pub fn follow_environment<A: Asking>(
     alloc: Global,
@@ -165,7 +170,8 @@ impl EnvironmentVariableCredentialsProvider {
         follow_environment(self.alloc, &self.env, asking)
     }
 
-    /// The keys that the variables hold. The world is asked nothing, and stays as it was.
+    /// The keys that the variables hold, by the provider's name `EnvironmentVariable`. The world is asked
+    /// nothing, and stays as it was.
     ///
     /// # Errors
     ///

@@ -17,8 +17,9 @@ use cfg_world::{Asking, Devices, Stop, World, run_command};
 use std::alloc::Global;
 use std::marker::Model;
 
-/// Runs this command, and answers the credentials that it prints. The account is the one that its
-/// document names, or else this one.
+/// Runs this command once, and answers the credentials that it prints, by the provider's name
+/// `CredentialProcess`. The account is the one that its document names, or else this one. The errors
+/// are those of [`CredentialProcessProvider::provide_credentials`], and memory that runs out is a stop.
 #[tactic(auto, using(cfg_world::proofs::Inquiries::asking_steps, crate::proofs::QuietSteps::quiet_steps), unfolding(crate::specs::Processes::credential_process))]
 pub fn credential_process<A: Asking>(
     alloc: Global,
@@ -175,7 +176,8 @@ impl Model for CredentialProcessProvider {
 }
 
 impl CredentialProcessProvider {
-    /// A provider over the command of this text, which a shell runs.
+    /// A provider over the command of this text, which a shell runs, without an account. `OutOfMemory`
+    /// where memory runs out.
     pub fn new(alloc: Global, command: &str) -> Result<CredentialProcessProvider, OutOfMemory>
         ensures { IfOk result (λ p. p ≡ record { command = characters command.now; account_id = None }) }
     {
@@ -187,7 +189,8 @@ impl CredentialProcessProvider {
         })
     }
 
-    /// With the account that its credentials are of where their document names none.
+    /// With the account that its credentials are of where their document names none, in place of one that
+    /// was set before.
     pub fn with_account_id(mut self, account_id: AccountId) -> CredentialProcessProvider
         ensures { result ≡ record self { account_id = Some account_id } }
     {
@@ -205,7 +208,9 @@ impl CredentialProcessProvider {
         credential_process(self.alloc, &self.command, self.account_id.as_ref(), asking)
     }
 
-    /// Runs the command once, and answers the credentials that it prints.
+    /// Runs the command once, and answers the credentials that it prints, by the provider's name
+    /// `CredentialProcess`. See [Process credential
+    /// provider](https://docs.aws.amazon.com/sdkref/latest/guide/feature-process-credentials.html).
     ///
     /// # Errors
     ///

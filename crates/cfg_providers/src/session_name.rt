@@ -8,7 +8,8 @@ use cfg_world::{Asking, Stop, read_clock};
 use std::alloc::Global;
 use std::string::ToString;
 
-/// A name for a session: the base, a hyphen, and the milliseconds from the epoch to now.
+/// A name for a session: the base, a hyphen, and the whole milliseconds from the epoch to now, in
+/// decimal digits. `OutOfMemory` where memory runs out.
 pub fn default_session_name(alloc: Global, base: &str, now: Instant) -> Result<Text, OutOfMemory>
     ensures { IfOk result (λ name. name ≡ default_name base.now now) }
 {

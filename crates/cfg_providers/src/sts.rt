@@ -1,3 +1,4 @@
+//! Credentials in the replies of AWS STS.
 ghost use Rattle.std.specs.Prelude.{◌≡◌, IfOk, option_map};
 ghost use Rattle.cfg_values.specs.Gives.{Gives};
 ghost use Rattle.cfg_values.specs.Text.{characters};
@@ -10,8 +11,13 @@ use cfg_types::{
 };
 use std::alloc::Global;
 
-/// The credentials of a reply, from the provider of this name. The account is the fifth part of the
-/// reply's ARN. A reply without credentials is refused, and so is an ARN of fewer parts.
+/// The credentials of a reply, with its expiry, from the provider of this name. The account is the fifth
+/// part of the reply's ARN, and none where the reply has no ARN.
+///
+/// # Errors
+///
+/// `StsNoCredentials`: the reply has no credentials. `StsArn` with the ARN: it has fewer than five parts.
+/// `OutOfMemory` where memory runs out.
 #[tactic(auto, unfolding(crate::specs::Sts::into_credentials))]
 pub fn into_credentials(
     alloc: Global,

@@ -27,7 +27,9 @@ use std::marker::Model;
 /// A role, and the file of the token that it is assumed with.
 #[derive(Debug)]
 pub struct WebIdentity {
+    /// The path of the file that holds the token.
     pub web_identity_token_file: Text,
+    /// The ARN of the role.
     pub role_arn: Text,
     /// The name of the session, where one is given.
     pub session_name: Option<Text>,
@@ -46,8 +48,11 @@ impl Drop for WebIdentity {
 /// A web identity that stands in place of the environment's.
 #[derive(Debug)]
 pub struct StaticConfiguration {
+    /// The path of the file that holds the token.
     pub web_identity_token_file: Text,
+    /// The ARN of the role.
     pub role_arn: Text,
+    /// The name of the session.
     pub session_name: Text,
 }
 
@@ -94,7 +99,8 @@ impl SessionPolicies {
 
 /// Assumes the given web identity, or else the one that the environment names, for a session under
 /// these policies. A session without a name gets one from a reading of the clock:
-/// `web-identity-token-` and the milliseconds.
+/// `web-identity-token-` and the milliseconds. The errors are those of
+/// [`WebIdentityTokenCredentialsProvider::provide_credentials`], and memory that runs out is a stop.
 #[tactic(auto, using(crate::proofs::QuietSteps::quiet_steps), unfolding(crate::specs::WebIdentities::web_identity))]
 pub fn web_identity<A: Asking>(
     alloc: Global,
@@ -175,8 +181,10 @@ fn needed(alloc: Global, env: &Env, name: &str) -> Result<Text, Halt<Credentials
 }
 
 /// Assumes this web identity: a name for its session, then its file, then one
-/// `AssumeRoleWithWebIdentity`, which sends these policies along. A name that is made begins with
-/// `base`.
+/// `AssumeRoleWithWebIdentity`, which sends these policies along. A session without a name gets one from
+/// a reading of the clock: `base`, a hyphen and the milliseconds. The errors are those of
+/// [`WebIdentityTokenCredentialsProvider::provide_credentials`] but for `CredentialsNotLoaded`, and memory
+/// that runs out is a stop.
 #[tactic(auto, using(cfg_world::proofs::Inquiries::asking_steps), unfolding(crate::specs::WebIdentities::assumes_by_web_identity))]
 pub fn assume_by_web_identity<A: Asking>(
     alloc: Global,
@@ -372,7 +380,9 @@ impl Model for Builder {
 }
 
 impl Builder {
-    /// With a copy of this configuration, in place of the one that it had.
+    /// With a copy of this configuration, in place of the one that it had. Its variables name the web
+    /// identity where none is given, and its settings say how AWS STS is called. `OutOfMemory` where memory
+    /// runs out.
     pub fn configure(mut self, config: &ProviderConfig) -> Result<Builder, OutOfMemory>
         ensures { IfOk result (λ b. b ≡ record self { configuration = config.now }) }
     {
@@ -388,8 +398,8 @@ impl Builder {
         self
     }
 
-    /// With this policy, a text in JSON, for its sessions. It is not read here, and stands beside the
-    /// ARNs.
+    /// With this policy, a text in JSON, for its sessions, in place of the one that it had. It is not read
+    /// here, and stands beside the ARNs. `OutOfMemory` where memory runs out.
     pub fn policy(mut self, policy: &str) -> Result<Builder, OutOfMemory>
         ensures { IfOk result (λ b. b ≡ record self { policies = record self.policies { policy = Some (characters policy.now) } }) }
     {
@@ -398,7 +408,7 @@ impl Builder {
     }
 
     /// With the managed policies of these ARNs for its sessions, in place of those that it had. They
-    /// are sent in this order.
+    /// are sent in this order, and none is read here. `OutOfMemory` where memory runs out.
     pub fn policy_arns(mut self, policy_arns: Vec<String>) -> Result<Builder, OutOfMemory>
         ensures { IfOk result (λ b. b ≡ record self { policies = record self.policies { policy_arns = Some (map (λ arn. characters (string_bytes arn)) policy_arns.items) } }) }
     {
@@ -406,7 +416,7 @@ impl Builder {
         Ok(self)
     }
 
-    /// The provider.
+    /// The provider. The variables are looked at in its calls alone. `OutOfMemory` where memory runs out.
     pub fn build(self) -> Result<WebIdentityTokenCredentialsProvider, OutOfMemory>
         ensures { IfOk result (λ p. p ≡ self) }
     {
@@ -468,7 +478,8 @@ impl Model for WebIdentityTokenCredentialsProvider {
 }
 
 impl WebIdentityTokenCredentialsProvider {
-    /// A builder with no variables, no region, no static configuration and no policies.
+    /// A builder with no variables, no region, no static configuration and no policies. `OutOfMemory` where
+    /// memory runs out.
     pub fn builder(alloc: Global) -> Result<Builder, OutOfMemory>
         ensures { IfOk result (λ b. b ≡ record { configuration = nothing_configured true; given = None; policies = no_policies }) }
     {
@@ -496,16 +507,19 @@ impl WebIdentityTokenCredentialsProvider {
         )
     }
 
-    /// Reads the file of the token, and assumes the role with it.
+    /// Reads the file of the token, and assumes the role with it by one `AssumeRoleWithWebIdentity`, by the
+    /// provider's name `WebIdentityToken`. Before that the clock is read where the session has no name,
+    /// which is then `web-identity-token-` and the milliseconds. The token is sent as the file holds it.
     ///
     /// # Errors
     ///
     /// - `CredentialsNotLoaded(NotSet)`: without a static configuration, `AWS_WEB_IDENTITY_TOKEN_FILE`
     ///   or else `AWS_ROLE_ARN` is not set to a text. Nothing is asked then.
-    /// - `ProviderError(File)`: the file could not be read.
+    /// - `ProviderError(File)`: the file could not be read. It has the path.
     /// - `Unhandled(NotUtf8)`: what it holds is not UTF-8.
     /// - `ProviderError(Sent)`, `ProviderError(Refused)`: the request failed or was refused.
-    /// - `Unhandled(StsNoCredentials)`, `Unhandled(StsArn)`: its reply gives no credentials.
+    /// - `Unhandled(StsNoCredentials)`, `Unhandled(StsArn)`: its reply has no credentials, or has an ARN of
+    ///   fewer than five parts.
     /// - `OutOfMemory` where memory runs out. The journal then has gained the beginning of such a part.
     pub fn provide_credentials<D: Devices>(
         &self,

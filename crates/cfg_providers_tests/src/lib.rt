@@ -1,7 +1,11 @@
-//! The tests of cfg_providers, over public calls: what no clause says.
+//! The tests of the providers of credentials, over public calls: what no clause says.
 #![tactic(auto)]
 
 #[cfg(test)]
-mod custom;
+mod metadata;
 #[cfg(test)]
 mod providers;
+#[cfg(test)]
+mod sign_in;
+#[cfg(test)]
+mod sso;

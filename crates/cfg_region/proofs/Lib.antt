@@ -3,3 +3,4 @@ pub mod Chains
 pub mod RegionSteps
 pub mod Loads
 pub mod OneSource
+pub mod GivenRegions

@@ -23,10 +23,10 @@ use Rattle.cfg_region.specs.Metadata.{IsGot}
 use Rattle.cfg_region.specs.Sources.{ByDefault, tree}
 
 module _ {D : Type 0} {d : Ghosts D} where
-  stays_by : (part : List Pair) (old new : Held D) → Grows d part old new → Stays d part old new
+  pub stays_by : (part : List Pair) (old new : Held D) → Grows d part old new → Stays d part old new
   stays_by part old new g = record { journal = g.journal; fits = g.fits; same = g.same; counted = g.counted }
 
-  grows_here : (old : Held D) → Grows d [] old old
+  pub grows_here : (old : Held D) → Grows d [] old old
   grows_here old = record { journal = sym (append-nil old.journal); fits = tt; same = Same-refl _; counted = Counted-none _; stands = StandsOn-none (d.stands old.devices) }
 
   -- ---- instance metadata
@@ -69,7 +69,7 @@ module _ {D : Type 0} {d : Ghosts D} where
   -- ---- a region for a configuration
 
   pub loaded : (conf held set : Configuration) (chain : DefaultRegions) (old new : Held D) (told : Told) (part : List Pair) →
-      IsDefault conf None chain → Grows d part old new → Reads (default_tree chain) part told → held ≡ chain.configuration → set ≡ record held { region = told } → RegionSet d None conf old new set
+      IsDefault conf chain → Grows d part old new → Reads (default_tree chain) part told → held ≡ chain.configuration → set ≡ record held { region = told } → RegionSet d None conf old new set
   unfolding tree
   loaded conf held set chain old new told part is_default grows reads kept is = record {
     source = ByDefault chain;
@@ -82,7 +82,7 @@ module _ {D : Type 0} {d : Ghosts D} where
   }
 
   pub load_breaks : (conf : Configuration) (chain : DefaultRegions) (old new : Held D) (part : List Pair) →
-      IsDefault conf None chain → Stays d part old new → Begun (default_tree chain) part → RegionBreaks d None conf old new
+      IsDefault conf chain → Stays d part old new → Begun (default_tree chain) part → RegionBreaks d None conf old new
   unfolding tree
   load_breaks conf chain old new part is_default stays begun = inr (record {
     source = ByDefault chain;

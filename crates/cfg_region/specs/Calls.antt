@@ -29,7 +29,7 @@ pub record Asks {D R : Type 0} (d : Ghosts D) (inquiry : Inquiry R) (old new : H
 -- the source that is asked: the one that was given, else a default chain over the configuration
 abbrev pub IsAsked : Option Source → Configuration → Source → Type 0
 IsAsked (Some given) conf source = source ≡ given
-IsAsked None conf source = (chain : DefaultRegions) × IsDefault conf None chain × (source ≡ ByDefault chain)
+IsAsked None conf source = (chain : DefaultRegions) × IsDefault conf chain × (source ≡ ByDefault chain)
 
 -- The journal grew by exactly the part of that source, and what it gives, none included, is the region of
 -- the configuration, of which nothing else changed.

@@ -2,10 +2,11 @@
 use Rattle.std.specs.Prelude.{ℕ, List, true, Option, None, refl}
 use Rattle.std.specs.Coded.{Coded, code_by, coded×, coded_ℕ, coded_list, coded_option}
 use Rattle.cfg_profile.specs.Configuration.{Configuration, configuration_code, nothing_configured}
+use Rattle.cfg_region.specs.ProfileSetups.{with_name}
 
 pub record DefaultSetup : Type 0 where
   pub configuration : Configuration
-  -- the name of the profile that is asked, in place of the selected one
+  -- in place of the configuration's
   pub profile_name : Option (List ℕ)
 
 abbrev pub default_setup_code : Coded DefaultSetup
@@ -17,3 +18,7 @@ default_setup_code = code_by (Configuration × Option (List ℕ))
 -- a builder that nothing was given to
 abbrev pub nothing_set : DefaultSetup
 nothing_set = record { configuration = nothing_configured true; profile_name = None }
+
+-- what the chain that is built is configured by
+abbrev pub default_configured : DefaultSetup → Configuration
+default_configured s = with_name s.profile_name s.configuration

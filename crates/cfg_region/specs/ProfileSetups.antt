@@ -1,4 +1,5 @@
--- What a builder of a profile's region provider was set to, and what it builds.
+-- What the builder of a provider that reads a profile was set to, and what it builds: of a region,
+-- of credentials, of a token.
 use Rattle.std.specs.Option.{option_or}
 use Rattle.std.specs.Prelude.{ℕ, List, true, Option, None, unwrap_or, refl}
 use Rattle.std.specs.Coded.{Coded, code_by, coded×, coded_ℕ, coded_list, coded_option}

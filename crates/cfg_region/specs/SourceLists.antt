@@ -1,5 +1,5 @@
 -- A chain of sources, as contracts see it.
-use Rattle.std.specs.Prelude.{◌≡◌, List, [], ◌∷◌, ◌++◌, map, None}
+use Rattle.std.specs.Prelude.{◌≡◌, List, [], ◌∷◌, ◌++◌, map}
 use Rattle.std.specs.declared.alloc.Global.{Global}
 use Rattle.std.specs.declared.dyn_box.DynBox.{DynBox}
 use Rattle.cfg_profile.specs.Configuration.{Configuration}
@@ -31,5 +31,5 @@ chain_tree sources = first_given (trees sources)
 -- behind the sources that were there stands a default chain over this configuration
 pub record EndsByDefault (conf : Configuration) (before after : List Source) : Type 0 where
   pub chain : DefaultRegions
-  pub is_default : IsDefault conf None chain
+  pub is_default : IsDefault conf chain
   pub are : after ≡ before ++ ByDefault chain ∷ []

@@ -41,7 +41,7 @@ fn follow_sources<A: Asking>(
 impl RegionProviderChain {
     ghost use Rattle.cfg_region.specs.SourceLists.{sources_of, trees, chain_tree, EndsByDefault};
 
-    /// A chain of this source.
+    /// A chain of this source. `OutOfMemory` where memory runs out.
     pub fn first_try(
         alloc: Global,
         source: RegionSource,
@@ -53,7 +53,7 @@ impl RegionProviderChain {
         Ok(RegionProviderChain { alloc, sources })
     }
 
-    /// With this source behind those that it has.
+    /// With this source behind those that it has. `OutOfMemory` where memory runs out.
     pub fn or_else(mut self, source: RegionSource) -> Result<RegionProviderChain, OutOfMemory>
         ensures { IfOk result (λ c. sources_of told_region repeated c ≡ sources_of told_region repeated self ++ source_of told_region repeated source ∷ []) }
     {
@@ -61,31 +61,37 @@ impl RegionProviderChain {
         Ok(self)
     }
 
-    /// A chain of the default chain of this configuration.
+    /// A chain of the default chain of this configuration, for which nothing is asked yet. `OutOfMemory` where
+    /// memory runs out.
     pub fn default_provider(
         alloc: Global,
         config: ProviderConfig,
     ) -> Result<RegionProviderChain, OutOfMemory>
         ensures { IfOk result (λ c. EndsByDefault config [] (sources_of told_region repeated c)) }
     {
-        let default = DefaultRegionChain::of(alloc, config, None)?;
+        let default = DefaultRegionChain::of(alloc, config)?;
         let chain = RegionProviderChain::first_try(alloc, RegionSource::Default(default))?;
         Ok(chain)
     }
 
-    /// With the default chain of this configuration behind those that it has.
+    /// With the default chain of this configuration behind those that it has. `OutOfMemory` where memory runs
+    /// out.
     pub fn or_default_provider(
         self,
         config: ProviderConfig,
     ) -> Result<RegionProviderChain, OutOfMemory>
         ensures { IfOk result (λ c. EndsByDefault config (sources_of told_region repeated self) (sources_of told_region repeated c)) }
     {
-        let default = DefaultRegionChain::of(self.alloc, config, None)?;
+        let default = DefaultRegionChain::of(self.alloc, config)?;
         let chain = self.or_else(RegionSource::Default(default))?;
         Ok(chain)
     }
 
     /// The body of [`Self::region`], over anything that can be asked.
+    ///
+    /// # Errors
+    ///
+    /// `Stop::OutOfMemory` where memory runs out, `Stop::Open` where an answer is not known yet.
     pub fn follow<A: Asking>(&self, asking: &mut A) -> Result<Option<Region>, Stop>
         ensures { Follows ⟦<A as Asking>⟧ (chain_tree (sources_of told_region repeated self.now)) asking.old asking.new result }
     {
@@ -97,7 +103,8 @@ impl RegionProviderChain {
     ///
     /// # Errors
     ///
-    /// `OutOfMemory` where memory runs out. The journal then has gained the beginning of such parts.
+    /// `OutOfMemory` where memory runs out. The journal then has gained the beginning of what the call asks, or
+    /// nothing.
     pub fn region<D: Devices>(&self, world: &mut World<D>) -> Result<Option<Region>, OutOfMemory>
         ensures tells { IfOk result (λ region. Tells ⟦<D as Devices>⟧ (trees (sources_of told_region repeated self.now)) world.old world.new region) }
         ensures breaks { OnErr result (CallBreaks ⟦<D as Devices>⟧ (chain_tree (sources_of told_region repeated self.now)) world.old world.new) }

@@ -13,7 +13,7 @@ pub trait ProvideRegion: Send + Sync {
     /// What it tells.
     ghost told_region: { Self → Told };
 
-    /// The region, or none.
+    /// The region, or none. `OutOfMemory` where memory runs out.
     fn region(&self) -> Result<Option<Region>, OutOfMemory>
         ensures { IfOk result (λ region. region ≡ told_region self.now) };
 }

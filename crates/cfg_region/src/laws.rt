@@ -1,18 +1,23 @@
 //! Laws of regions, each on a call that carries it.
-ghost use Rattle.std.specs.Prelude.{◌≡◌, ◌↔◌, ℕ, List, Option, None};
+ghost use Rattle.std.specs.Prelude.{◌≡◌, ◌↔◌, ℕ, List, [], Option, Some, None};
 ghost use Rattle.cfg_values.specs.TextMap.{Named};
 ghost use Rattle.cfg_world.specs.declared.script.DeviceLists.{DeviceLists as Lists};
 ghost use Rattle.cfg_world.specs.Fits.{Pair};
+ghost use Rattle.cfg_world.specs.Grows.{Grows};
+ghost use Rattle.cfg_world.specs.Held.{Held};
 ghost use Rattle.cfg_world.specs.Inquiry.{Inquiry, Reads, Begun};
 ghost use Rattle.cfg_world.specs.Script.{Place, Given};
 ghost use Rattle.cfg_profile.specs.Configuration.{Configuration};
 ghost use Rattle.cfg_profile.specs.SectionParts.{SectionParts};
 ghost use Rattle.cfg_profile.specs.Regions.{IsRegion};
-ghost use Rattle.cfg_region.specs.Calls.{IsAsked};
+ghost use Rattle.cfg_region.specs.Calls.{IsAsked, RegionSet};
 ghost use Rattle.cfg_region.specs.Chains.{first_given};
 ghost use Rattle.cfg_region.specs.ChainParts.{AreParts, NoneGives, AreBegunParts};
+ghost use Rattle.cfg_region.specs.Environments.{Told};
 ghost use Rattle.cfg_region.specs.Profiles.{named_region};
-ghost use Rattle.cfg_region.specs.Sources.{Source};
+ghost use Rattle.cfg_region.specs.Sources.{Source, Given as GivenRegion};
+
+use cfg_world::Devices;
 
 /// The journal of a chain is the parts of its sources in order, up to the first that gave a value, and the
 /// other way round: whatever its sources and values are, the chain asks what its sources ask.
@@ -44,6 +49,18 @@ pub fn one_script_one_region<R>()
 /// instance metadata where the configuration says.
 pub fn a_configuration_asks_one_source()
     ensures { (given : Option Source) (conf : Configuration) (one other : Source) → IsAsked given conf one → IsAsked given conf other → one ≡ other }
+{}
+
+/// A configuration that is given a region, or none, has it, and nothing is asked for it. What builds a default
+/// chain ensures `RegionSet` of its source.
+pub fn a_given_region_asks_nothing<D: Devices>()
+    ensures { (told : Told) (conf set : Configuration) (old new : Held D) → RegionSet ⟦<D as Devices>⟧ (Some (GivenRegion told)) conf old new set → Grows ⟦<D as Devices>⟧ [] old new × (set ≡ record conf { region = told }) }
+{}
+
+/// Over one script of devices, from one place, a configuration gets one region, and the same is asked for it.
+pub fn one_script_one_configuration<D: Devices>()
+    ensures { (given : Option Source) (conf : Configuration) (lists : Lists) (place : Place) (old new before later : Held D) (a b : Configuration) (x : RegionSet ⟦<D as Devices>⟧ given conf old new a) (y : RegionSet ⟦<D as Devices>⟧ given conf before later b) →
+        Given lists place x.part → Given lists place y.part → (x.part ≡ y.part) × (a ≡ b) }
 {}
 
 /// The region of a profile is that of its path, and there is no other such answer.

@@ -32,7 +32,8 @@ fn with_region_of<D: Devices>(
 ///
 /// # Errors
 ///
-/// `OutOfMemory` where memory runs out. The journal then has gained the beginning of such a part.
+/// `OutOfMemory` where memory runs out. The journal then has gained the beginning of what the call asks, or
+/// nothing.
 pub fn load_default_region<D: Devices>(
     alloc: Global,
     config: ProviderConfig,
@@ -41,7 +42,7 @@ pub fn load_default_region<D: Devices>(
     ensures set { IfOk result (RegionSet ⟦<D as Devices>⟧ None config world.old world.new) }
     ensures breaks { OnErr result (RegionBreaks ⟦<D as Devices>⟧ None config world.old world.new) }
 {
-    let chain = DefaultRegionChain::of(alloc, config, None)?;
+    let chain = DefaultRegionChain::of(alloc, config)?;
     match chain.follow(world) {
         Ok(region) => Ok(chain.into_configuration().with_region(region)),
         Err(_) => Err(OutOfMemory),
@@ -53,7 +54,8 @@ pub fn load_default_region<D: Devices>(
 ///
 /// # Errors
 ///
-/// `OutOfMemory` where memory runs out. The journal then has gained the beginning of such a part.
+/// `OutOfMemory` where memory runs out. The journal then has gained the beginning of what the call asks, or
+/// nothing.
 pub fn with_default_region<D: Devices>(
     alloc: Global,
     env: Env,
@@ -73,7 +75,8 @@ pub fn with_default_region<D: Devices>(
 ///
 /// # Errors
 ///
-/// `OutOfMemory` where memory runs out. The journal then has gained the beginning of such a part.
+/// `OutOfMemory` where memory runs out. The journal then has gained the beginning of what the call asks, or
+/// nothing.
 pub fn with_region_from<D: Devices>(
     alloc: Global,
     source: Option<RegionSource>,

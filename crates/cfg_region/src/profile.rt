@@ -1,2 +1,3 @@
 //! Profiles.
 pub mod region;
+pub mod settings;

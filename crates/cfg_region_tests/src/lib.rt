@@ -1,7 +1,7 @@
-//! The tests of cfg_region, over public calls: what no clause says.
+//! The tests of the metadata client and the providers of a region, over public calls: what no clause says.
 #![tactic(auto)]
 
 #[cfg(test)]
-mod regions;
+mod imds;
 #[cfg(test)]
-mod setup;
+mod region;

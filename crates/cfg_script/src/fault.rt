@@ -24,62 +24,85 @@ pub enum Wanted {
     KnownName,
     /// A member that is there.
     Present,
+    /// A list.
     List,
+    /// A text.
     Text,
     /// True or false.
     Truth,
+    /// A text, or null.
     TextOrNull,
+    /// A variable's name, and a text or null.
     Variable,
+    /// A section's name, and a list of its properties.
     Section,
+    /// A key and its value.
     Property,
-    /// No sections beside the refusal of all.
+    /// No list of sections beside the refusal of all, not even an empty one.
     RefusedAlone,
+    /// A whole number of calls, from 1 to 100.
     Calls,
+    /// A file's path, and its content or null.
     File,
+    /// A text, or an object of hexadecimal digits.
     Content,
-    /// Two hexadecimal digits for each byte.
+    /// Two hexadecimal digits for each byte, in either case.
     HexDigits,
-    /// A moment of any sign.
+    /// Whole seconds of any sign, or these and nanoseconds, less than a second of them.
     Moment,
-    /// A moment from 0 on.
+    /// A moment from 0 seconds on.
     ClockMoment,
     /// A whole number of 64 bits without sign.
     Natural,
     /// A whole number of 64 bits with sign.
     Whole,
+    /// A command's status, output and errors, or that it failed.
     Command,
+    /// A whole number of 32 bits with sign.
     CommandStatus,
+    /// A list of addresses, or that the look-up failed.
     LookUp,
+    /// The text of an address: one of RFC 4291, section 2.2, or four decimal numbers up to 255.
     Address,
     /// An object of lists of replies.
     Replies,
+    /// A status, headers and a body, or that the send failed.
     HttpReply,
+    /// A whole number from 100 to 599.
     HttpStatus,
+    /// A header's name and its value.
     Header,
+    /// A name of a header, as RFC 9110 has them.
     HeaderName,
+    /// What a service grants, a refusal, null where it may be, or that the send failed.
     Reply,
+    /// The name of what a service refuses for.
     RefusalKind,
 }
 
 /// A value of another form than is wanted at its place.
 #[derive(Drop)]
 pub struct Fault {
-    /// The way to the value, from the script's object on. It is empty for the object itself.
+    /// The way to the value, from the script's object on. It is empty for the object itself, and leads to
+    /// its own place for a member that is missing.
     pub path: Seq<Step>,
+    /// What is wanted there.
     pub wanted: Wanted,
 }
 
 /// A place in a text, as serde_json counts: lines from 1, and columns in bytes.
 #[derive(Clone, Copy, Debug, PartialEq, Eq)]
 pub struct Position {
+    /// The line, counted from 1.
     pub line: usize,
+    /// The byte in its line, counted from 1. At the end of the text, how many bytes the line has.
     pub column: usize,
 }
 
 /// Why bytes are no script.
 #[derive(Drop)]
 pub enum ScriptFault {
-    /// They are no JSON from here on.
+    /// They are no JSON in UTF-8 from here on, or have more than 127 levels.
     NoJson(Position),
     /// This is the first value of another form.
     Form(Fault),

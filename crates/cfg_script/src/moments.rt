@@ -1,4 +1,4 @@
-//! Moments.
+//! Moments: whole seconds since 1970-01-01T00:00:00Z, or these and nanoseconds.
 ghost use Rattle.std.specs.Prelude.{◌≡◌};
 ghost use Rattle.serde_json.specs.View.{view};
 ghost use Rattle.cfg_script.specs.Moments.{pair_moment, moment_from, clock_from};
@@ -67,7 +67,7 @@ impl Part for Moment {
     }
 }
 
-/// A moment from 0 on.
+/// A moment from 0 seconds on.
 pub(crate) struct ClockMoment;
 
 impl Part for ClockMoment {

@@ -79,7 +79,7 @@ pub(crate) fn only_fault_in<G: Group>(
     Ok(other.or(part))
 }
 
-/// The same of a value that has to be such an object.
+/// What a value says that has to be such an object.
 pub(crate) fn read_object<G: Placed>(alloc: Global, value: Value) -> Result<G::Read, ScriptError>
     ensures { GivesPart G.seen result (object_read G.table (view value)) }
 {

@@ -30,7 +30,7 @@ fn value_of(alloc: Global, bytes: &[u8]) -> Result<Value, ScriptError>
     }
 }
 
-/// Whether the sections are refused, and some are there.
+/// Whether the sections are refused, and a list of sections stands beside that, an empty one too.
 pub(crate) fn is_refused_beside(members: &Map<String, Value>) -> bool
     ensures { result ≡ refused_beside (members_view members.now.entries) }
 {
@@ -79,8 +79,13 @@ fn read(alloc: Global, bytes: &[u8]) -> Result<Script, ScriptError>
     }
 }
 
-/// What the bytes say as a script. `NoScript` comes exactly where they say none; out of memory may
-/// come in place of any answer.
+/// What the bytes say as a script: JSON (RFC 8259) in UTF-8 (RFC 3629) of at most 127 levels, an object
+/// with the members of a script alone. Each list of the devices has answers to its own questions alone.
+///
+/// # Errors
+///
+/// - `NoScript`: the bytes are no script. [`find_fault`](crate::find_fault) tells why.
+/// - `OutOfMemory` where memory runs out, in place of any answer.
 pub fn read_script(alloc: Global, bytes: &[u8]) -> Result<Script, ScriptError>
     ensures script { IfOk result (λ s. script_of bytes.now ≡ Some (plain s)) }
     ensures fits { IfOk result (λ s. AllFit (lists_of (plain s))) }

@@ -9,12 +9,14 @@ use std::alloc::{AllocError, AllocFailed};
 /// The sections of profile files, or the message that they are refused with.
 #[derive(Drop)]
 pub enum ScriptProfiles {
+    /// The sections, in the script's order.
     Sections {
-        /// Profile sections, each with its properties.
+        /// Profile sections, each a name and its properties, which are keys with values.
         profiles: Vec<(String, Vec<(String, String)>)>,
-        /// Sections of sessions.
+        /// Sections of sessions, in the same form.
         sessions: Vec<(String, Vec<(String, String)>)>,
     },
+    /// The message that they are refused with.
     Refused(Text),
 }
 
@@ -24,12 +26,13 @@ pub enum ScriptProfiles {
 pub struct Script {
     /// Environment variables, in the script's order.
     pub variables: Vec<(String, EnvText)>,
+    /// The sections of profile files, or that they are refused.
     pub profiles: ScriptProfiles,
-    /// The profile's name, where it is overridden.
+    /// The selected profile's name, whatever the environment says. None leaves it to the environment.
     pub selected: Option<String>,
-    /// The region's name, where it is overridden.
+    /// The region of the calls that are sent, if they have one.
     pub region: Option<String>,
-    /// Whether the program sleeps between attempts.
+    /// Whether providers may sleep between attempts.
     pub sleep: bool,
     /// How many calls are made, from 1 to 100.
     pub calls: u64,
@@ -42,6 +45,7 @@ pub struct Script {
 pub enum ScriptError {
     /// They are no script.
     NoScript,
+    /// Memory ran out.
     OutOfMemory,
 }
 

@@ -66,8 +66,13 @@ fn value_fault(alloc: Global, value: Value) -> Result<Option<Fault>, OutOfMemory
     }
 }
 
-/// Why the bytes are no script: the first fault in the order of the members, or none where they are
-/// a script. Memory may run out in place of any answer.
+/// Why the bytes are no script, or none where they are one. That they are no JSON comes first. In an
+/// object a name that does not belong there, in the order of the names' bytes, comes before the members,
+/// which follow in the order of their table. In a script's object `refused` beside sections comes between.
+///
+/// # Errors
+///
+/// `OutOfMemory` where memory runs out, in place of any answer.
 #[tactic(auto, unfolding(crate::specs::Telling::fault_of))]
 pub fn find_fault(alloc: Global, bytes: &[u8]) -> Result<Option<ScriptFault>, OutOfMemory>
     ensures { IfOk result (λ o. option_map told o ≡ fault_of bytes.now) }

@@ -20,7 +20,13 @@ use std::alloc::Global;
 use std::marker::Model;
 
 /// The credentials of one section of the keeper's token, whose key has to be that of this session.
-/// Their feature tells who asks.
+/// Their feature tells who asks. The outcome is as
+/// [`LoginCredentialsProvider::provide_credentials`] says.
+///
+/// # Errors
+///
+/// - `Open`: a question is left open, and what is kept is as it was.
+/// - `OutOfMemory` where memory runs out. What is kept is as it was, or as the finished section left it.
 #[tactic(auto, using(cfg_keeping::proofs::HoldingSteps::holding_steps), unfolding(crate::specs::SignIns::sign_in_credentials))]
 pub fn follow_login<P: Keeper, A: Asking>(
     alloc: Global,
@@ -67,7 +73,8 @@ impl Model for Builder {
 }
 
 impl Builder {
-    /// With a copy of this configuration, in place of the one that it had.
+    /// With a copy of this configuration, in place of the one that it had. `OutOfMemory` where memory runs
+    /// out; the builder is given up then.
     pub fn configure(mut self, config: &ProviderConfig) -> Result<Builder, OutOfMemory>
         ensures { IfOk result (λ b. b ≡ record self { configuration = config.now }) }
     {
@@ -75,7 +82,7 @@ impl Builder {
         Ok(self)
     }
 
-    /// The provider.
+    /// The provider. `OutOfMemory` where memory runs out.
     pub fn build(self) -> Result<LoginCredentialsProvider, OutOfMemory>
         ensures { IfOk result (λ p. p ≡ self) }
     {
@@ -131,8 +138,9 @@ impl Model for LoginCredentialsProvider {
 }
 
 impl LoginCredentialsProvider {
-    /// A builder for this session, which is named by an ARN like `arn:aws:iam::0123456789012:user/Admin`.
-    /// It has no variables and no region of its calls.
+    /// A builder for this session, which is named by an ARN like `arn:aws:iam::123456789012:user/Admin`.
+    /// It has no variables and no region of its calls, so that no folder of the token's file is known
+    /// before [`Builder::configure`]. `OutOfMemory` where memory runs out.
     pub fn builder(alloc: Global, session: &str) -> Result<Builder, OutOfMemory>
         ensures { IfOk result (λ b. b ≡ session_alone (nothing_configured true) (characters session.now)) }
     {
@@ -151,7 +159,8 @@ impl LoginCredentialsProvider {
     }
 
     /// The body of [`Self::provide_credentials`], over anything that can be asked. Where a question is
-    /// left open it stops there, and taken up again with one answer more it comes to the next.
+    /// left open it stops there with `Open`, and taken up again with one answer more it comes to the next.
+    /// `OutOfMemory` where memory runs out. What is kept is as there.
     pub fn follow<P: Keeper, A: Asking>(
         &self,
         keeper: &mut P,
@@ -170,6 +179,10 @@ impl LoginCredentialsProvider {
     /// its place. The file of the token stands in the folder that `AWS_LOGIN_CACHE_DIRECTORY` names, or
     /// else in `.aws/login/cache` below `HOME`.
     ///
+    /// A kept token is handed out while more than 300 seconds of it are left. Else its file is read, and
+    /// the token there is refreshed where at most 300 seconds of it are left, unless a refresh was granted
+    /// less than 30 seconds ago.
+    ///
     /// The credentials are named `Login`, and have the token's expiry, session token and account. That
     /// a new token could not be written to its file is no error.
     ///
@@ -181,8 +194,8 @@ impl LoginCredentialsProvider {
     /// - `ProviderError`: a refresh that was due failed (`RefreshFailed`), with what the user can do
     ///   where the refusal tells it.
     /// - `Unhandled`: no folder is known (`NoHomeDirectory`), the file could not be read (`IoError`)
-    ///   or holds no token (`JsonError`, `Other`), or the token has expired and the last attempt to
-    ///   refresh it is less than 30 seconds ago (`ExpiredToken`).
+    ///   or holds no token (`JsonError`, `Other`), or the token has expired and the last refresh that
+    ///   was granted is less than 30 seconds ago (`ExpiredToken`).
     /// - `OutOfMemory` where memory runs out. The journal then has gained the beginning of such a part,
     ///   and what is kept is as it was, or as the finished section left it.
     pub fn provide_credentials<P: Keeper, D: Devices>(

@@ -23,7 +23,9 @@ use std::alloc::Global;
 use std::marker::Model;
 
 /// Credentials for the role of an account: the token of the session, where one is named, or else of the
-/// file that the start URL names, and then one `GetRoleCredentials` with it.
+/// file that the start URL names, and then one `GetRoleCredentials` with it. The body of
+/// [`SsoCredentialsProvider::follow`], with the errors of
+/// [`SsoCredentialsProvider::provide_credentials`].
 pub fn follow_sso<P: Keeper, A: Asking>(
     alloc: Global,
     config: &ProviderConfig,
@@ -77,7 +79,7 @@ fn behind_token<A: Asking>(
 }
 
 /// Sets up a provider of credentials. Contracts see its configuration and what was set. A setter
-/// changes its field alone.
+/// changes its field alone. One that runs out of memory gives the builder up.
 pub struct Builder {
     alloc: Global,
     config: ProviderConfig,
@@ -120,7 +122,8 @@ impl Model for Builder {
 }
 
 impl Builder {
-    /// A builder with no variables and no region of its calls. Nothing is set.
+    /// A builder with no variables and no region of its calls. Nothing is set. `OutOfMemory` where memory
+    /// runs out.
     pub fn new(alloc: Global) -> Result<Builder, OutOfMemory>
         ensures { IfOk result (λ b. b ≡ nothing_set (nothing_configured true)) }
     {
@@ -135,7 +138,8 @@ impl Builder {
         })
     }
 
-    /// With a copy of this configuration, in place of the one that it had.
+    /// With a copy of this configuration, in place of the one that it had. `OutOfMemory` where memory
+    /// runs out.
     pub fn configure(mut self, config: &ProviderConfig) -> Result<Builder, OutOfMemory>
         ensures { IfOk result (λ b. b ≡ record self { configuration = config.now }) }
     {
@@ -143,7 +147,7 @@ impl Builder {
         Ok(self)
     }
 
-    /// For this account. It is needed.
+    /// For this account. It is needed. `OutOfMemory` where memory runs out.
     pub fn account_id(mut self, account_id: &str) -> Result<Builder, OutOfMemory>
         ensures { IfOk result (λ b. b ≡ record self { account_id = Some (characters account_id.now) }) }
     {
@@ -159,7 +163,7 @@ impl Builder {
         self
     }
 
-    /// For this role. It is needed.
+    /// For this role. It is needed. `OutOfMemory` where memory runs out.
     pub fn role_name(mut self, role_name: &str) -> Result<Builder, OutOfMemory>
         ensures { IfOk result (λ b. b ≡ record self { role_name = Some (characters role_name.now) }) }
     {
@@ -168,6 +172,7 @@ impl Builder {
     }
 
     /// Where users sign in. It is needed, and names the file of the token where no session is named.
+    /// `OutOfMemory` where memory runs out.
     pub fn start_url(mut self, start_url: &str) -> Result<Builder, OutOfMemory>
         ensures { IfOk result (λ b. b ≡ record self { start_url = Some (characters start_url.now) }) }
     {
@@ -175,7 +180,7 @@ impl Builder {
         Ok(self)
     }
 
-    /// With the token of this session.
+    /// With the token of this session. `OutOfMemory` where memory runs out.
     pub fn session_name(mut self, session_name: &str) -> Result<Builder, OutOfMemory>
         ensures { IfOk result (λ b. b ≡ record self { session_name = Some (characters session_name.now) }) }
     {
@@ -238,7 +243,8 @@ impl Builder {
             && self.start_url.is_some()
     }
 
-    /// The provider.
+    /// The provider. All that [`Self::is_complete`] looks for has to be set. `OutOfMemory` where memory
+    /// runs out.
     pub fn build(self) -> Result<SsoCredentialsProvider, OutOfMemory>
         requires { is_complete_of self ≡ true }
         ensures { IfOk result (λ p. build_of p ≡ self) }
@@ -333,7 +339,8 @@ impl Model for SsoCredentialsProvider {
 }
 
 impl SsoCredentialsProvider {
-    /// A builder with no variables and no region of its calls. Nothing is set.
+    /// A builder with no variables and no region of its calls. Nothing is set. `OutOfMemory` where memory
+    /// runs out.
     pub fn builder(alloc: Global) -> Result<Builder, OutOfMemory>
         ensures { IfOk result (λ b. b ≡ nothing_set (nothing_configured true)) }
     {
@@ -348,7 +355,9 @@ impl SsoCredentialsProvider {
     }
 
     /// The body of [`Self::provide_credentials`], over anything that can be asked. Where a question is
-    /// left open it stops there, and taken up again with one answer more it comes to the next.
+    /// left open it stops there, and taken up again with one answer more it comes to the next. Where
+    /// memory runs out it stops with `OutOfMemory`. What is kept is then, and at an open question, as the
+    /// last finished holding left it.
     pub fn follow<P: Keeper, A: Asking>(
         &self,
         keeper: &mut P,
@@ -369,16 +378,21 @@ impl SsoCredentialsProvider {
     /// set.
     ///
     /// The credentials are named `SSO`, have the account that was set, and expire when the reply says,
-    /// to the millisecond.
+    /// to the millisecond. They have the reply's session token, where it has one, and the feature
+    /// `CredentialsSso`. See [IAM Identity Center credential
+    /// provider](https://docs.aws.amazon.com/sdkref/latest/guide/feature-sso-credentials.html).
     ///
     /// # Errors
     ///
-    /// - `ProviderError(SsoToken)` around the section's error, where it gives no token. Nothing is sent
-    ///   then.
+    /// - `ProviderError(SsoToken)` around the section's error, where it gives no token, as
+    ///   [`SsoTokenProvider::provide_token`](crate::SsoTokenProvider::provide_token) says. Nothing is sent
+    ///   then, and no token is kept.
     /// - `ProviderError(SsoFile)` around the file's error, where there is no session and no token:
     ///   `NoHomeDirectory` where `HOME` is not set to a text, `IoError` where the file could not be
-    ///   read, or what is wrong with what it holds. Nothing is sent then.
-    /// - `ProviderError(Sent)`, `ProviderError(Refused)`: the request failed or was refused.
+    ///   read, or what is wrong with what it holds (`JsonError`, `Other`, `MissingField`, `InvalidField`).
+    ///   Nothing is sent then.
+    /// - `ProviderError(Sent)`, `ProviderError(Refused)`: the request failed or was refused. They have the
+    ///   kind of failure and the refusal.
     /// - `Unhandled(SsoNoCredentials)`, `Unhandled(SsoNoAccessKey)`, `Unhandled(SsoNoSecretKey)`: its
     ///   reply has no credentials, no id or no secret.
     /// - `OutOfMemory` where memory runs out. The journal then has gained the beginning of such a part,

@@ -19,7 +19,7 @@ use std::alloc::Global;
 use std::marker::Model;
 
 /// Sets up a provider of tokens. Contracts see its configuration and what was set. A setter changes
-/// its field alone.
+/// its field alone. One that runs out of memory gives the builder up.
 pub struct Builder {
     alloc: Global,
     config: ProviderConfig,
@@ -51,7 +51,8 @@ impl Model for Builder {
 }
 
 impl Builder {
-    /// A builder with no variables and no region of its calls. Nothing is set.
+    /// A builder with no variables and no region of its calls. Nothing is set. `OutOfMemory` where memory
+    /// runs out.
     pub fn new(alloc: Global) -> Result<Builder, OutOfMemory>
         ensures { IfOk result (λ b. b ≡ nothing_named (nothing_configured true)) }
     {
@@ -64,7 +65,8 @@ impl Builder {
         })
     }
 
-    /// With a copy of this configuration, in place of the one that it had.
+    /// With a copy of this configuration, in place of the one that it had. `OutOfMemory` where memory
+    /// runs out.
     pub fn configure(mut self, config: &ProviderConfig) -> Result<Builder, OutOfMemory>
         ensures { IfOk result (λ b. b ≡ record self { configuration = config.now }) }
     {
@@ -80,7 +82,7 @@ impl Builder {
         self
     }
 
-    /// For this session. It is needed.
+    /// For this session. It is needed. `OutOfMemory` where memory runs out.
     pub fn session_name(mut self, session_name: &str) -> Result<Builder, OutOfMemory>
         ensures { IfOk result (λ b. b ≡ record self { session_name = Some (characters session_name.now) }) }
     {
@@ -88,7 +90,7 @@ impl Builder {
         Ok(self)
     }
 
-    /// Where users sign in. It is needed.
+    /// Where users sign in. It is needed. `OutOfMemory` where memory runs out.
     pub fn start_url(mut self, start_url: &str) -> Result<Builder, OutOfMemory>
         ensures { IfOk result (λ b. b ≡ record self { start_url = Some (characters start_url.now) }) }
     {
@@ -130,7 +132,8 @@ impl Builder {
         self.region.is_some() && self.session_name.is_some() && self.start_url.is_some()
     }
 
-    /// The provider.
+    /// The provider. All that [`Self::is_complete`] looks for has to be set. It takes no memory, and
+    /// answers no error.
     pub fn build(self) -> Result<SsoTokenProvider, OutOfMemory>
         requires { is_named self ≡ true }
         ensures configuration { IfOk result (λ p. p.configuration ≡ self.configuration) }
@@ -160,7 +163,8 @@ impl Builder {
 }
 
 /// Bearer tokens of one session of IAM Identity Center. Contracts see its configuration and whose token
-/// it is. It keeps nothing between its calls.
+/// it is. It keeps nothing between its calls. See [IAM Identity Center credential
+/// provider](https://docs.aws.amazon.com/sdkref/latest/guide/feature-sso-credentials.html).
 pub struct SsoTokenProvider {
     alloc: Global,
     config: ProviderConfig,
@@ -192,7 +196,8 @@ impl Model for SsoTokenProvider {
 }
 
 impl SsoTokenProvider {
-    /// A builder with no variables and no region of its calls. Nothing is set.
+    /// A builder with no variables and no region of its calls. Nothing is set. `OutOfMemory` where memory
+    /// runs out.
     pub fn builder(alloc: Global) -> Result<Builder, OutOfMemory>
         ensures { IfOk result (λ b. b ≡ nothing_named (nothing_configured true)) }
     {
@@ -207,7 +212,9 @@ impl SsoTokenProvider {
     }
 
     /// The body of [`Self::provide_token`], over anything that can be asked. Where a question is left
-    /// open it stops there, and taken up again with one answer more it comes to the next.
+    /// open it stops there, and taken up again with one answer more it comes to the next. Where memory
+    /// runs out it stops with `OutOfMemory`. What is kept is then, and at an open question, as the last
+    /// finished holding left it.
     pub fn follow<P: Keeper, A: Asking>(
         &self,
         keeper: &mut P,
@@ -224,9 +231,17 @@ impl SsoTokenProvider {
     /// found is added to the keeper's list, and what comes of the section is kept in its place. The
     /// token has the access token as its text, and its expiry.
     ///
+    /// The kept token is handed out while more than 300 seconds of it are left. Else the session's file
+    /// below `HOME` is read, and its token refreshed where that is due.
+    ///
     /// # Errors
     ///
-    /// - `ProviderError` around the section's error, where it gives no token.
+    /// - `ProviderError` around the section's error, where it gives no token. No token is kept then.
+    ///   - `FailedToLoadToken`: `HOME` is not set to a text; the file could not be read, or holds no token;
+    ///     or a refreshed token could not be written to it.
+    ///   - `ExpiredToken`: the file's token has expired, and no refresh gave another.
+    ///   - `BadExpirationTimeFromSsoOidc`: a refresh gave a lifetime below one second, or one that ends past
+    ///     the last moment of all. It has the seconds.
     /// - `OutOfMemory` where memory runs out. The journal then has gained the beginning of such a part,
     ///   and what is kept is as it was, or as the finished section left it.
     pub fn provide_token<P: Keeper, D: Devices>(
@@ -247,7 +262,7 @@ impl SsoTokenProvider {
 }
 
 /// One section of the token of this key, which the keeper has, as a bearer token: the body of
-/// [`SsoTokenProvider::follow`].
+/// [`SsoTokenProvider::follow`]. Its errors are those of [`SsoTokenProvider::provide_token`].
 pub fn follow_bearer<P: Keeper, A: Asking>(
     alloc: Global,
     config: &ProviderConfig,

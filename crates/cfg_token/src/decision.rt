@@ -1,3 +1,4 @@
+//! What is done with the token of a file, by a reading of the clock.
 ghost use Rattle.std.specs.Prelude.{◌≡◌};
 ghost use Rattle.cfg_values.specs.Instant.{number as number_of_moment, nanos_in};
 ghost use Rattle.cfg_token.specs.Moments.{is_before as before, more, has_passed};
@@ -30,14 +31,14 @@ fn nanos_of(seconds: u64) -> i128
     i128::from(seconds) * 1_000_000_000
 }
 
-/// One moment is before another.
+/// Whether the first moment is before the other one.
 pub fn is_before(moment: Instant, other: Instant) -> bool
     ensures { result ≡ before moment other }
 {
     number_of(moment) < number_of(other)
 }
 
-/// One moment is more than so many seconds after another.
+/// Whether the first moment is more than so many seconds after the other one.
 pub fn is_more(moment: Instant, other: Instant, seconds: u64) -> bool
     ensures { result ≡ more moment other seconds }
 {
@@ -54,7 +55,7 @@ fn passed(last: Option<Instant>, now: Instant) -> bool
     }
 }
 
-/// The token has ended.
+/// Whether the token has ended: its end is not after this reading of the clock.
 pub fn has_expired<T: FileToken>(token: &T, now: Instant) -> bool
     ensures { result ≡ is_expired T.rules token.now now }
 {
@@ -63,7 +64,8 @@ pub fn has_expired<T: FileToken>(token: &T, now: Instant) -> bool
 
 /// What is done with a file's token at a reading of the clock. It is refused where it has expired and
 /// cannot be refreshed, refreshed where at most 300 seconds of it are left and it can be, and else
-/// used. It can be refreshed where its kind says so, and the last attempt is at least 30 seconds ago.
+/// used. It can be refreshed where its kind says so, and the last noted attempt is at least 30 seconds
+/// ago, or there was none. Both numbers are those of aws-config.
 pub fn decide<T: FileToken>(token: &T, last: Option<Instant>, now: Instant) -> Decision
     ensures { result ≡ decision T.rules token.now last now }
 {

@@ -13,7 +13,7 @@ pub enum Renewal<T, E> {
     Granted(T),
     /// No new token. The attempt is noted, and the file's token serves while it lasts.
     Passed,
-    /// An error, with the attempt noted or not.
+    /// An error, which the load gives. `noted` says whether the attempt is noted.
     Refused { error: E, noted: bool },
 }
 
@@ -26,7 +26,8 @@ pub enum Unsaved {
     NotWritten(Text),
 }
 
-/// A token that a file keeps. The kinds differ in their rules, and one section serves them all.
+/// A token that a file keeps. The kinds differ in their rules, and one section serves them all. A call
+/// of these rules answers `OutOfMemory` where memory runs out, and each other error as its value.
 pub trait FileToken: TryCopy {
     ghost use Rattle.cfg_token.specs.Rules.{Rules, Tells};
 
@@ -43,7 +44,7 @@ pub trait FileToken: TryCopy {
     fn can_refresh(&self, now: Instant) -> bool
         ensures { result ≡ rules.refreshable self.now now };
 
-    /// The path of the token's file, or why there is none.
+    /// The path of the token's file for a key of this kind, or why there is none.
     fn path(
         alloc: Global,
         key: &TokenKey,
@@ -52,7 +53,7 @@ pub trait FileToken: TryCopy {
         requires { rules.is_kind key.now ≡ true }
         ensures { IfOk result (λ r. r ≡ rules.path key.now env.now) };
 
-    /// The token in a file's bytes.
+    /// The token in a file's bytes, or why they have none.
     fn parse(alloc: Global, bytes: &[u8]) -> Result<Result<Self, Self::Error>, OutOfMemory>
         ensures { IfOk result (λ r. r ≡ rules.reading bytes.now) };
 
@@ -74,7 +75,7 @@ pub trait FileToken: TryCopy {
         requires { rules.is_kind key.now ≡ true }
         ensures { IfOk result (λ r. r ≡ rules.request key.now settings.now self.now) };
 
-    /// What the answer to that request gives.
+    /// What the answer to that request gives. A new token ends after this reading of the clock.
     fn renew(
         &self,
         alloc: Global,
@@ -85,7 +86,7 @@ pub trait FileToken: TryCopy {
         requires { rules.is_kind key.now ≡ true }
         ensures { IfOk result (λ r. r ≡ rules.renewal key.now self.now now answer.now) };
 
-    /// What is written to the token's file, where its dates have texts.
+    /// The bytes that are written to the token's file, or none where a date of it has no text.
     fn to_bytes(&self, alloc: Global) -> Result<Option<Bytes>, OutOfMemory>
         ensures { IfOk result (λ t. t ≡ rules.text self.now) };
 
@@ -93,7 +94,7 @@ pub trait FileToken: TryCopy {
     fn save_error(fault: Unsaved) -> Option<Self::Error>
         ensures { result ≡ rules.unsaved fault };
 
-    /// The error where memory runs out.
+    /// The error where memory runs out. No other call of these rules gives it.
     fn out_of_memory() -> Self::Error
         ensures { rules.is_memory result ≡ true };
 

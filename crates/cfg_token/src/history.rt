@@ -42,7 +42,7 @@ impl<T: FileToken> Record<T> {
         &self.outcome
     }
 
-    /// The reading at which the load noted an attempt.
+    /// The reading of the clock at which the load noted an attempt, or none where it noted none.
     pub fn noted(&self) -> Option<Instant>
         ensures { result ≡ self.now.noted }
     {
@@ -108,7 +108,7 @@ impl<T: FileToken> Model for Load<T> {
 impl<T: FileToken> Load<T> {
     ghost use Rattle.cfg_token.specs.Histories.{IsTokenLoad};
 
-    /// The load that gave the token, from nothing kept.
+    /// The record of the load that gave the token. It is one from nothing kept.
     pub fn loaded_by(&self) -> &Record<T>
         ensures is { result.now ≡ self.now.loaded_by }
         ensures loaded { IsTokenLoad T.rules self.now }
@@ -116,7 +116,7 @@ impl<T: FileToken> Load<T> {
         &self.loaded_by
     }
 
-    /// The last attempt that was noted before this load.
+    /// The reading of the last attempt that was noted before this load, if any was.
     pub fn before(&self) -> Option<Instant>
         ensures { result ≡ self.now.before }
     {
@@ -133,7 +133,7 @@ impl<T: FileToken> Load<T> {
         }
     }
 
-    /// A copy of the load, with its receipts.
+    /// A copy of the load, with its receipts. `OutOfMemory` where memory runs out.
     pub fn copy(&self, alloc: Global) -> Result<Load<T>, OutOfMemory>
         ensures { IfOk result (λ l. l ≡ self.now) }
     {
@@ -167,6 +167,7 @@ impl<T: FileToken> Model for Loads<T> {
 impl<T: FileToken> Loads<T> {
     ghost use Rattle.cfg_token.specs.Histories.{IsHistory};
 
+    /// No load was made, and no attempt is noted.
     pub fn new(alloc: Global) -> Loads<T>
         ensures { result ≡ record { load = None; last = None; records = [] } }
     {
@@ -178,7 +179,7 @@ impl<T: FileToken> Loads<T> {
         }
     }
 
-    /// The loads since the origin.
+    /// The loads since the origin, in order. Each is one from what those before it leave.
     pub fn records(&self) -> &[Record<T>]
         ensures is { result.now ≡ self.now.records }
         ensures history { IsHistory T.rules self.now }
@@ -202,7 +203,7 @@ impl<T: FileToken> Loads<T> {
         }
     }
 
-    /// The reading of the last attempt that was noted.
+    /// The reading of the clock at which the last attempt was noted, if any was.
     pub fn last_attempt(&self) -> Option<Instant>
         ensures { result ≡ last_in self.now }
     {
@@ -213,7 +214,8 @@ impl<T: FileToken> Loads<T> {
 impl<T: FileToken> Loads<T> {
     ghost use Rattle.cfg_token.specs.Histories.{load_in, trimmed};
 
-    /// What the state was first.
+    /// What the loads began with: the load that gave the token kept then, and the reading of the last
+    /// attempt noted before.
     pub fn origin(&self) -> (Option<&Load<T>>, Option<Instant>)
         ensures load { option_copied result.0 ≡ self.now.load }
         ensures last { result.1 ≡ self.now.last }
@@ -221,7 +223,8 @@ impl<T: FileToken> Loads<T> {
         (self.load.as_ref(), self.last)
     }
 
-    /// A copy of the load that gave the kept token.
+    /// A copy of the load that gave the kept token, or none where no token is kept. `OutOfMemory` where
+    /// memory runs out.
     pub fn load(&self) -> Result<Option<Load<T>>, OutOfMemory>
         ensures { IfOk result (λ l. l ≡ load_in self.now) }
     {
@@ -238,7 +241,7 @@ impl<T: FileToken> Loads<T> {
         }
     }
 
-    /// The origin becomes what is kept now. Nothing is copied.
+    /// The origin becomes what is kept now, and there are no records. Nothing is copied.
     pub fn trim(&mut self)
         ensures { self.new ≡ trimmed self.old }
     {
@@ -268,7 +271,14 @@ impl<T: FileToken> Loads<T> {
     ghost use Rattle.std.specs.Prelude.{true};
     ghost use Rattle.cfg_token.specs.SectionCalls.{SectionFollows};
 
-    /// One section. The place of its record is taken before its first question.
+    /// One section, over anything that can be asked, with a key of the token's kind: the kept token
+    /// while more than 300 seconds of it are left, else a load, whose record is added. The place of
+    /// the record is taken before the first question.
+    ///
+    /// # Errors
+    ///
+    /// Why it was stopped: memory ran out, or a question was left open. The loads are then as they
+    /// were. An error of the token's kind is the outcome of the load.
     #[tactic(auto, using(crate::proofs::SectionSteps::section_steps))]
     pub fn follow<A: Asking>(
         &mut self,

@@ -9,7 +9,7 @@ ghost use Rattle.cfg_token.specs.SsoText.{IsSsoText, HasTexts};
 use crate::file_token::FileToken;
 use crate::state::TokenState;
 
-/// What is written for a token is read back as this token.
+/// What is written for a token whose texts are of Unicode characters is read back as this token.
 pub fn written_tokens_are_read_back()
     ensures { (token : CachedSsoToken) (text : List ℕ) → HasTexts token → IsSsoText token text → sso_file (encode_utf8_all text) ≡ Ok token }
 {}

@@ -10,7 +10,8 @@ use cfg_types::{CallSettings, Instant, OutOfMemory, Text, TryCopy};
 use cfg_world::{Answer, Asking, Question, Receipt, Stop};
 use std::alloc::Global;
 
-/// A reading of the clock.
+/// A reading of the clock. Its receipt is added. An error says why it was stopped: memory ran out, or
+/// the question was left open.
 #[tactic(auto, unfolding(cfg_world::specs::Leaves::clock))]
 pub fn read_clock<A: Asking>(asking: &mut A, receipts: &mut Vec<Receipt>) -> Result<Instant, Stop>
     ensures { Notes ⟦<A as Asking>⟧ clock asking.old receipts.old.items asking.new receipts.new.items result }
@@ -24,7 +25,8 @@ pub fn read_clock<A: Asking>(asking: &mut A, receipts: &mut Vec<Receipt>) -> Res
     Ok(moment)
 }
 
-/// The token in the file of this path.
+/// The token in the file of this path, or the kind's error of a file that could not be read or that
+/// has none. The receipt is added. The outer error says why it was stopped.
 #[tactic(auto, unfolding(crate::specs::Sections::file))]
 pub fn read_file<T: FileToken, A: Asking>(
     alloc: Global,
@@ -44,7 +46,8 @@ pub fn read_file<T: FileToken, A: Asking>(
     Ok(outcome)
 }
 
-/// One request for a new token, and what its answer gives.
+/// One request for a new token, and what its answer gives. The receipt is added. An error says why it
+/// was stopped.
 #[tactic(auto, unfolding(crate::specs::Sections::asks_renewal))]
 pub fn ask_renewal<T: FileToken, A: Asking>(
     alloc: Global,
@@ -65,7 +68,7 @@ pub fn ask_renewal<T: FileToken, A: Asking>(
     Ok(renewal)
 }
 
-/// One receipt more.
+/// One receipt more. Where memory runs out it is `OutOfMemory`, and the receipt is given up.
 pub fn note(receipts: &mut Vec<Receipt>, receipt: Receipt) -> Result<(), OutOfMemory>
     ensures { OnOk result (receipts.new.items ≡ receipts.old.items ++ receipt ∷ []) }
 {

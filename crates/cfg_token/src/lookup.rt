@@ -1,3 +1,4 @@
+//! The last text of a name among the members of an object.
 ghost use Rattle.std.specs.Prelude.{◌≡◌, IfOk, option_map};
 ghost use Rattle.cfg_token.specs.SsoFile.{is_named, text_under_name, last_text as last_text_of, text_of};
 
@@ -5,7 +6,8 @@ use cfg_json::{Member, MemberValue};
 use cfg_types::{Field, OutOfMemory, Text, TryCopy};
 use std::alloc::Global;
 
-fn has_name(member: &Member, name: &str) -> bool
+/// Whether the member has this name, without regard to the case of ASCII letters.
+pub fn has_name(member: &Member, name: &str) -> bool
     ensures { result ≡ is_named name.now member.now.key }
 {
     member.key.as_str().eq_ignore_ascii_case(name)
@@ -42,7 +44,7 @@ pub fn find_text(members: &[Member], field: Field) -> Option<&Text>
     last_text(members, field.as_str())
 }
 
-/// A copy of it, where it is there.
+/// A copy of that text, or none where there is none. `OutOfMemory` where memory runs out.
 pub fn copy_text(
     alloc: Global,
     members: &[Member],

@@ -1,3 +1,4 @@
+//! Where tokens are kept, and how such paths are joined.
 ghost use Rattle.std.specs.Prelude.{◌≡◌, ◌-◌, length, slice_get, IfOk, OnOk, string_bytes};
 ghost use Rattle.hex.specs.Hex.{encode_lower};
 ghost use Rattle.sha1.specs.Sha1.{sha1};
@@ -7,9 +8,10 @@ use cfg_types::{OutOfMemory, Text};
 use sha1::Sha1;
 use std::alloc::Global;
 
-/// The path of the file that keeps a token of IAM Identity Center, below a home directory. The
-/// identifier is the session's name, or the start URL where the session has none; the file is named
-/// by its SHA-1. The AWS command line interface and the AWS SDKs share these files.
+/// The path of the file that keeps a token of IAM Identity Center: `.aws/sso/cache/` below a home
+/// directory, the SHA-1 of the identifier in small hexadecimal digits, and `.json`. The identifier is
+/// the name of a session, or a start URL where there is no session. The AWS command line interface and
+/// the AWS SDKs share these files. `OutOfMemory` where memory runs out.
 pub fn cached_sso_token_path(
     alloc: Global,
     identifier: &str,
@@ -32,9 +34,10 @@ fn hashed(alloc: Global, identifier: &str) -> Result<String, OutOfMemory>
     Ok(hex::encode(alloc, digest)?)
 }
 
-// One part more.
+/// Puts a part behind a path, with a `/` between them unless the path is empty or ends with one. `OutOfMemory`
+/// where memory runs out; the path may then have the `/`.
 #[tactic(auto, unfolding(crate::specs::Paths::joined))]
-fn push_part(path: &mut String, part: &str) -> Result<(), OutOfMemory>
+pub fn push_part(path: &mut String, part: &str) -> Result<(), OutOfMemory>
     ensures { OnOk result (string_bytes path.new ≡ joined (string_bytes path.old) part.now) }
 {
     end_folder(path)?;

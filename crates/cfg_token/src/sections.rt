@@ -15,11 +15,15 @@ use std::alloc::Global;
 /// What a section gave: the kept token, or a load.
 #[derive(Drop)]
 pub enum Sectioned<T, E> {
+    /// A copy of the kept token, of which more than 300 seconds were left.
     Hit(T),
+    /// What a load gave, and whether it noted an attempt.
     Load(Loaded<T, E>),
 }
 
 /// The kept token is handed out while more than 300 seconds of it are left, or else a load is made.
+/// The receipts of what was asked are added. An error says why it was stopped: memory ran out, or a
+/// question was left open.
 #[tactic(auto, using(crate::proofs::NotedSteps::noted_steps), unfolding(crate::specs::Sections::section))]
 pub fn follow_section<T: FileToken, A: Asking>(
     alloc: Global,

@@ -2,10 +2,11 @@ ghost use Rattle.std.specs.Prelude.{◌≡◌, ◌≢◌, [], true, IfOk, option
 ghost use Rattle.std.specs.Option.{option_or};
 ghost use Rattle.std.specs.Str.{encode_utf8_all};
 ghost use Rattle.cfg_token.specs.SsoText.{sso_text};
-ghost use Rattle.cfg_token.specs.SsoTokens.{is_sso, ends_after as ends_after_moment, end_of as end, renewed as renewed_token, in_region as settings_in};
+ghost use Rattle.cfg_token.specs.SsoTokens.{is_sso, ends_after as ends_after_moment, renewed as renewed_token, in_region as settings_in};
 
 use crate::decision::is_before;
 use crate::file_token::{FileToken, Renewal, Unsaved};
+use crate::lifetime::end_of;
 use crate::paths::cached_sso_token_path;
 use crate::sso_file::parse_cached_sso_token;
 use crate::sso_token::CachedSsoToken;
@@ -183,17 +184,6 @@ fn in_region(
         max_attempts: settings.max_attempts,
         timeouts: settings.timeouts,
     })
-}
-
-// When a lifetime ends that begins now. None where it is below a second, or ends past the end of time.
-fn end_of(now: Instant, lifetime: i64) -> Option<Instant>
-    ensures { result ≡ end now lifetime }
-{
-    if lifetime < 1 {
-        return None;
-    }
-    let seconds = now.seconds().checked_add(lifetime)?;
-    Instant::new(seconds, now.nanos())
 }
 
 fn renewed(

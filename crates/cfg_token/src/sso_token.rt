@@ -6,13 +6,21 @@ use std::fmt;
 /// token, and a registration of the client that has not expired, it can be refreshed.
 #[derive(PartialEq, Eq)]
 pub struct CachedSsoToken {
+    /// What is sent with requests for credentials, and handed out as a bearer token.
     pub access_token: Text,
+    /// When the access token ends.
     pub expires_at: Instant,
+    /// What a refresh is asked with.
     pub refresh_token: Option<Text>,
+    /// The id of the registered client.
     pub client_id: Option<Text>,
+    /// The secret of the registered client.
     pub client_secret: Option<Text>,
+    /// When the registration of the client ends.
     pub registration_expires_at: Option<Instant>,
+    /// The region of the session.
     pub region: Option<Text>,
+    /// Where the users of the session sign in.
     pub start_url: Option<Text>,
 }
 

@@ -15,7 +15,9 @@ use std::alloc::Global;
 
 /// What is known of the token of one key.
 pub struct TokenState<T: FileToken> {
+    /// Whose token it is.
     pub key: TokenKey,
+    /// The loads of the token, and what they leave.
     pub loads: Loads<T>,
 }
 
@@ -50,7 +52,7 @@ impl<T: FileToken> TokenState<T> {
         self.loads.kept()
     }
 
-    /// The reading of the last attempt that was noted.
+    /// The reading of the clock at which the last attempt was noted, if any was.
     pub fn last_attempt(&self) -> Option<Instant>
         ensures { result ≡ last_in self.now.loads }
     {
@@ -65,14 +67,15 @@ impl<T: FileToken> TokenState<T> {
         self.loads.records()
     }
 
-    /// A copy of the load that gave the kept token.
+    /// A copy of the load that gave the kept token, or none where no token is kept. `OutOfMemory` where
+    /// memory runs out.
     pub fn load(&self) -> Result<Option<Load<T>>, OutOfMemory>
         ensures { IfOk result (λ l. l ≡ load_in self.now.loads) }
     {
         self.loads.load()
     }
 
-    /// What the state was first: the load that gave its token, and the last attempt.
+    /// What the state was first: the load that gave its token, and the reading of the last attempt.
     pub fn origin(&self) -> (Option<&Load<T>>, Option<Instant>)
         ensures load { option_copied result.0 ≡ self.now.loads.load }
         ensures last { result.1 ≡ self.now.loads.last }
@@ -111,7 +114,7 @@ pub fn section<T: FileToken, D: Devices>(
     section_on(&mut state.loads, &state.key, env, settings, world)
 }
 
-/// A section on the loads of a key.
+/// A section, as [`section`] is one, on the loads of a key, with the same errors.
 pub fn section_on<T: FileToken, D: Devices>(
     loads: &mut Loads<T>,
     key: &TokenKey,
@@ -129,7 +132,7 @@ pub fn section_on<T: FileToken, D: Devices>(
     }
 }
 
-/// What a section answers.
+/// What a section answers: the kept token, or what the load gave.
 pub fn answer<T, E>(made: Sectioned<T, E>) -> Result<T, E>
     ensures { result ≡ answer_of made }
 {

@@ -14,11 +14,15 @@ use std::alloc::Global;
 /// What a load gave, and the reading at which it noted an attempt.
 #[derive(Drop)]
 pub struct Loaded<T, E> {
+    /// The token, or why there is none.
     pub outcome: Result<T, E>,
+    /// The reading at which an attempt was noted, or none where none was.
     pub noted: Option<Instant>,
 }
 
-/// What follows where no kept token is handed out: the path, the file, and what is done with its token.
+/// What follows where no kept token is handed out: the path, the file, and what is done with its token
+/// by a second reading of the clock and the last attempt. The receipts of what was asked are added. An
+/// error says why it was stopped: memory ran out, or a question was left open.
 #[tactic(auto, using(crate::proofs::NotedSteps::noted_steps), unfolding(crate::specs::Sections::load))]
 pub fn load<T: FileToken, A: Asking>(
     alloc: Global,

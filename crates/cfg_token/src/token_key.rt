@@ -4,13 +4,13 @@ use std::alloc::Global;
 /// Whose token it is.
 #[derive(Debug, PartialEq, Eq)]
 pub enum TokenKey {
-    /// A session of IAM Identity Center, where it is, and where its users sign in.
+    /// A session of IAM Identity Center: its name, its region, and the URL at which its users sign in.
     Sso {
         session: Text,
         region: Region,
         start_url: Text,
     },
-    /// A session of `aws login`.
+    /// A session of `aws login`, as a profile's `login_session` names one.
     Login {
         session: Text,
     },

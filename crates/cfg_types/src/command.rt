@@ -34,7 +34,7 @@ impl CommandWithSensitiveArgs {
         CommandWithSensitiveArgs { command }
     }
 
-    /// A copy of the command.
+    /// A copy of the command. `OutOfMemory` where memory runs out.
     pub fn to_owned_string(&self, alloc: Global) -> Result<CommandWithSensitiveArgs, OutOfMemory>
         ensures { IfOk result (λ c. c ≡ self.now) }
     {

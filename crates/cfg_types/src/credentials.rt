@@ -25,7 +25,7 @@ impl Model for AccountId {
 }
 
 impl AccountId {
-    /// The account of this id.
+    /// The account of this id. `OutOfMemory` where memory runs out.
     pub fn new(alloc: Global, text: &str) -> Result<AccountId, OutOfMemory>
         ensures { IfOk result (λ account. account ≡ characters text.now) }
     {
@@ -72,14 +72,23 @@ impl TryCopy for AccountId {
 /// Where credentials came from, as the SDK counts it in its user agent.
 #[derive(Clone, Copy, Debug, PartialEq, Eq)]
 pub enum AwsCredentialFeature {
+    /// Environment variables.
     CredentialsEnvVars,
+    /// A process.
     CredentialsProcess,
+    /// The endpoint of a container.
     CredentialsHttp,
+    /// A web identity, whether a profile names it or the environment does.
     CredentialsProfileStsWebIdToken,
+    /// Instance metadata.
     CredentialsImds,
+    /// IAM Identity Center.
     CredentialsSso,
+    /// A sign-in session that a profile names.
     CredentialsProfileLogin,
+    /// A profile, or a sign-in session whose provider a caller asks itself.
     CredentialsProfile,
+    /// A role over a base, outside of a profile.
     CredentialsStsAssumeRole,
 }
 
@@ -196,14 +205,15 @@ impl Credentials {
         self.provider_name.as_str()
     }
 
-    /// Where they came from.
+    /// Where they came from, the feature that was added last at the end.
     pub fn features(&self) -> &[AwsCredentialFeature]
         ensures { result.now ≡ self.now.features }
     {
         self.features.as_slice()
     }
 
-    /// One feature more that the credentials come by. Where memory runs out they stay as they were.
+    /// One feature more that the credentials come by, at the end. `OutOfMemory` where memory runs out;
+    /// they stay as they were then.
     pub fn add_feature(&mut self, feature: AwsCredentialFeature) -> Result<(), OutOfMemory>
         ensures ok { OnOk result (self.new ≡ record self.old { features = self.old.features ++ feature ∷ [] }) }
         ensures err { OnErr result (self.new ≡ self.old) }
@@ -334,7 +344,8 @@ impl Model for CredentialsBuilder {
 impl CredentialsBuilder {
     ghost use Rattle.cfg_types.specs.Keys.{bare_keys};
 
-    /// Credentials of these keys, from the provider of this name, and nothing more.
+    /// Credentials of these keys, from the provider of this name, and nothing more. `OutOfMemory`
+    /// where memory runs out.
     pub fn new(
         alloc: Global,
         access_key_id: &str,
@@ -360,7 +371,7 @@ impl CredentialsBuilder {
         })
     }
 
-    /// With this session token.
+    /// With this session token. `OutOfMemory` where memory runs out.
     pub fn session_token(self, token: &str) -> Result<CredentialsBuilder, OutOfMemory>
         ensures { IfOk result (λ b. b ≡ record self { session_token = Some (characters token.now) }) }
     {
@@ -378,7 +389,7 @@ impl CredentialsBuilder {
         self
     }
 
-    /// Sets the end, or none.
+    /// Sets the expiry, or none.
     pub fn set_expiry(&mut self, expiry: Option<Instant>) -> &mut CredentialsBuilder
         ensures value { result.now ≡ record self.old { expiry = expiry } }
         ensures lent { result.ghost_name ≡ self.entry.ghost_name }
@@ -396,7 +407,7 @@ impl CredentialsBuilder {
         self
     }
 
-    /// With this end.
+    /// With this expiry.
     pub fn expiry(self, expiry: Instant) -> CredentialsBuilder
         ensures { result ≡ record self { expiry = Some expiry } }
     {
@@ -423,7 +434,7 @@ impl CredentialsBuilder {
         CredentialsBuilder { alloc, built }
     }
 
-    /// The credentials.
+    /// The credentials. Its contract allows for `OutOfMemory`, though it takes no memory.
     pub fn build(self) -> Result<Credentials, OutOfMemory>
         ensures { IfOk result (λ credentials. credentials ≡ self) }
     {

@@ -16,6 +16,7 @@ pub enum JsonError {
     Syntax,
     /// More than white space follows the object.
     More,
+    /// Memory ran out.
     OutOfMemory,
 }
 
@@ -91,23 +92,24 @@ impl Field {
 pub enum FieldFault {
     /// It is no whole number of 32 bits.
     Version,
-    /// It is a version that no reader knows.
+    /// It is this version, and 1 is the only one that is known.
     UnknownVersion(i32),
-    /// It is no date.
+    /// It is no date of RFC 3339.
     Date,
 }
 
 /// Why a text is no document of credentials.
 #[derive(Debug, PartialEq, Eq)]
 pub enum InvalidJsonCredentials {
-    /// The text is no JSON object.
+    /// The text does not begin with a JSON object: `NotObject` or `Syntax`.
     JsonError(JsonError),
-    /// This field is not there.
+    /// This field is not there, or its value is of another type.
     MissingField(Field),
     /// This field does not fit.
     InvalidField { field: Field, fault: FieldFault },
-    /// What else is wrong, in words.
+    /// More than white space follows the object, in words.
     Other(Text),
+    /// Memory ran out.
     OutOfMemory,
 }
 

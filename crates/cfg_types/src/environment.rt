@@ -13,6 +13,7 @@ use std::marker::Model;
 /// What a variable is set to. A value that is not Unicode is known to be there, and no more.
 #[derive(Debug, PartialEq, Eq, Drop)]
 pub enum EnvText {
+    /// A text, which may be empty.
     Text(Text),
     /// Bytes that are no text.
     NotUnicode,
@@ -60,6 +61,7 @@ impl Model for Env {
 
 impl Env {
     /// The variables of a list of names and values. Of two equal names the later counts.
+    /// `OutOfMemory` where memory runs out; the list is given up then.
     pub fn new(alloc: Global, vars: Vec<(String, EnvText)>) -> Result<Env, OutOfMemory>
         ensures { IfOk result (λ env. env ≡ each_set (map named vars.items)) }
     {
@@ -70,8 +72,8 @@ impl Env {
         Ok(Env { variables })
     }
 
-    /// What the variable is set to. `NotPresent` where it is not set, `NotUnicode` where its value
-    /// is no text.
+    /// What the variable is set to. Names are compared exactly. `NotPresent` where it is not set,
+    /// `NotUnicode` where its value is no text.
     pub fn get(&self, name: &str) -> Result<&str, VarError>
         ensures value { MatchResult result (λ text. variable self.now name.now ≡ Ok (characters text.now)) (λ e. variable self.now name.now ≡ Err e) }
         ensures bytes { IfOk result (λ text. text.now ≡ encode_utf8_all (characters text.now)) }

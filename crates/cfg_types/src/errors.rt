@@ -32,13 +32,16 @@ pub use token::{TokenCause, TokenClass, TokenError};
 /// What one member of a chain answered.
 #[derive(Drop, Debug, PartialEq, Eq)]
 pub struct ProviderAttempt<E> {
+    /// The member's name.
     pub name: Text,
+    /// What the member answered.
     pub error: E,
 }
 
 /// What the members of a chain answered, in their order, when none of them was loaded.
 #[derive(Drop, Debug, PartialEq, Eq)]
 pub struct ProviderChainError<E> {
+    /// One attempt for each member, in their order. A chain without members has none.
     pub attempts: Seq<ProviderAttempt<E>>,
 }
 
@@ -86,16 +89,19 @@ impl<E> ProviderChainError<E> {
 #[cycle(credentials_error)]
 #[derive(Drop, Debug, PartialEq, Eq)]
 pub enum NotLoadedCause {
-    /// The variable of this name is not set, or blank.
+    /// The variable of this name cannot be used: it is not set, a key in it is blank, or a web
+    /// identity's setting in it is not Unicode.
     NotSet(Text),
+    /// The profiles give no credentials: `NoProfilesDefined`, `ProfileDidNotContainCredentials`,
+    /// `MissingProfile` or `TokenProviderConfig`.
     Profile(ProfileFileError),
-    /// Neither of the variables that name a container's address is set.
+    /// Neither of the variables that name a container's address can be read.
     NotConfigured,
-    /// The instance metadata service is disabled.
+    /// The variable `AWS_EC2_METADATA_DISABLED` is `true`.
     MetadataDisabled,
-    /// The instance has no role.
+    /// The instance has no role: the listing has the status 404.
     MetadataNoRole,
-    /// The instance metadata service could not be reached.
+    /// The request for the listing's session token could not be sent.
     MetadataUnreachable,
     /// A custom source's own reason.
     Custom(Text),
@@ -106,6 +112,7 @@ pub enum NotLoadedCause {
 /// What is wrong with the configuration.
 #[derive(Debug, PartialEq, Eq)]
 pub enum ConfigCause {
+    /// The profiles are at fault.
     Profile(ProfileFileError),
     /// This is no path of the container's endpoint.
     RelativeUri(Text),
@@ -123,6 +130,7 @@ pub enum ConfigCause {
     },
     /// A role could not be assumed, since the configuration of the call is refused.
     AssumeRole(RefusalKind),
+    /// The token of a sign-in session: `FailedToFormatDateTime` or `MissingField`.
     LoginToken(LoginTokenError),
     /// A custom source's own reason.
     Custom(Text),
@@ -150,7 +158,7 @@ impl Drop for ConfigCause {
 #[cycle(credentials_error)]
 #[derive(Drop, Debug, PartialEq, Eq)]
 pub enum ProviderCause {
-    /// The base of a profile gave no credentials.
+    /// The base of a profile, or of a role over a base, gave no credentials.
     Base(Boxed<CredentialsError>),
     /// A role of a profile could not be assumed.
     Role(Boxed<CredentialsError>),
@@ -160,14 +168,19 @@ pub enum ProviderCause {
     Sent(FailKind),
     /// A request was refused.
     Refused(Refusal),
-    /// A reply has this status.
+    /// A container's reply has this status, which is no success.
     Status(u16),
     /// A document tells of an error.
     ErrorDocument { code: Text, message: Text },
+    /// A command gave no credentials.
     Process(ProcessCause),
+    /// The instance metadata service gave nothing.
     Metadata(ImdsError),
+    /// The token of a session of IAM Identity Center could not be had.
     SsoToken(SsoTokenProviderError),
+    /// The file of a start URL's token gives none.
     SsoFile(CachedSsoTokenError),
+    /// The token of a sign-in session: `RefreshFailed`.
     LoginToken(LoginTokenError),
     /// A custom source's own reason.
     Custom(Text),
@@ -182,7 +195,7 @@ pub enum UnhandledCause {
     NotUtf8,
     /// A reply's body is no document of credentials.
     NoDocument(InvalidJsonCredentials),
-    /// A request was not answered.
+    /// A container's request was not answered.
     Sent(FailKind),
     /// A reply of the Security Token Service has no credentials.
     StsNoCredentials,
@@ -194,6 +207,7 @@ pub enum UnhandledCause {
     SsoNoAccessKey,
     /// The credentials of such a reply have no secret.
     SsoNoSecretKey,
+    /// The token of a sign-in session: any other error of it.
     LoginToken(LoginTokenError),
     /// A custom source's own reason.
     Custom(Text),
@@ -221,12 +235,17 @@ impl Drop for UnhandledCause {
 #[cycle(credentials_error)]
 #[derive(Drop, Debug, PartialEq, Eq)]
 pub enum CredentialsError {
+    /// A provider was not loaded. A chain goes on after it, and after no other error.
     CredentialsNotLoaded(NotLoadedCause),
     /// Only a custom source answers it.
     ProviderTimedOut,
+    /// The configuration is wrong.
     InvalidConfiguration(ConfigCause),
+    /// A provider failed.
     ProviderError(ProviderCause),
+    /// What no rule allows for.
     Unhandled(UnhandledCause),
+    /// Memory ran out.
     OutOfMemory,
 }
 

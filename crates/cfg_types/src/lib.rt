@@ -1,7 +1,7 @@
-//! Plain data of the credential resolver: texts, moments, the environment, credentials, requests,
-//! replies and every error. It stands on the standard library, and on `itoa`, which prints numbers.
-//! The layers above may use every type here as a value: contracts see texts and sequences as lists,
-//! and a moment as a number.
+//! Plain data of the credential resolver: the environment, credentials, tokens, requests, replies and
+//! every error. It stands on cfg_values, whose texts and moments it hands on, and on `itoa`, which
+//! prints numbers. The layers above may use every type here as a value: contracts see texts and
+//! sequences as lists, and a moment as its seconds and nanoseconds.
 #![tactic(auto)]
 
 pub mod command;

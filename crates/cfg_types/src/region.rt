@@ -1,3 +1,4 @@
+//! Names of regions.
 ghost use Rattle.std.specs.Prelude.{◌≡◌, IfOk};
 ghost use Rattle.std.specs.Str.{encode_utf8_all};
 ghost use Rattle.cfg_values.specs.Text.{characters};
@@ -24,7 +25,7 @@ impl Model for Region {
 }
 
 impl Region {
-    /// A region of this name.
+    /// The region of this name. `OutOfMemory` where memory runs out.
     pub fn new(alloc: Global, text: &str) -> Result<Region, OutOfMemory>
         ensures { IfOk result (λ region. region ≡ characters text.now) }
     {

@@ -30,18 +30,26 @@ pub enum FailKind {
 /// What a service refused a call for, as far as the resolver tells refusals apart.
 #[derive(Clone, Copy, Debug, PartialEq, Eq)]
 pub enum RefusalKind {
+    /// The AWS Security Token Service is not active in the region for the account.
     RegionDisabled,
+    /// The session policy of `AssumeRole` is malformed.
     MalformedPolicyDocument,
+    /// The permission for `CreateOAuth2Token` may be missing.
     InsufficientPermissions,
+    /// The sign-in session has expired.
     TokenExpired,
+    /// The user's password has changed since the sign-in.
     UserCredentialsChanged,
+    /// Anything else.
     Other,
 }
 
 /// A service's refusal of a call.
 #[derive(Debug, PartialEq, Eq, Drop)]
 pub struct Refusal {
+    /// What the call was refused for.
     pub kind: RefusalKind,
+    /// The service's own words.
     pub message: Text,
 }
 
@@ -57,11 +65,17 @@ impl TryCopy for Refusal {
 /// What a transport gave back for a request: a reply of the kind that fits the request, or a refusal.
 #[derive(Debug, PartialEq, Eq)]
 pub enum Reply {
+    /// To `Http`, `MetadataToken` and `MetadataGet`, whatever the status.
     Http(HttpReply),
+    /// To `AssumeRole` and `AssumeRoleWithWebIdentity`.
     Sts(StsReply),
+    /// To `GetRoleCredentials`.
     Role(RoleReply),
+    /// To `CreateToken`.
     Token(TokenReply),
+    /// To `CreateOAuth2Token`.
     SignIn(SignInReply),
+    /// A refusal of a call. HTTP requests have none: their status tells.
     Refused(Refusal),
 }
 

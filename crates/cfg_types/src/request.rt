@@ -16,13 +16,21 @@ pub use sts::{AssumeRole, AssumeRoleWithWebIdentity, Tag};
 /// What a transport can be asked to send, a variant for each kind of request.
 #[derive(Debug, PartialEq, Eq)]
 pub enum Request {
+    /// A GET of a container's credentials.
     Http(Http),
+    /// A PUT for a session token of instance metadata.
     MetadataToken(MetadataToken),
+    /// A GET of instance metadata.
     MetadataGet(MetadataGet),
+    /// A call of the AWS Security Token Service for a role, signed.
     AssumeRole(AssumeRole),
+    /// A call of the AWS Security Token Service for a role, by a web identity.
     AssumeRoleWithWebIdentity(AssumeRoleWithWebIdentity),
+    /// A call of IAM Identity Center for a role's credentials.
     GetRoleCredentials(GetRoleCredentials),
+    /// A call of IAM Identity Center OIDC for a new token.
     CreateToken(CreateToken),
+    /// A call of AWS Sign-In for a new token.
     CreateOAuth2Token(CreateOAuth2Token),
 }
 

@@ -8,20 +8,28 @@ use std::alloc::Global;
 /// Limits of time, in milliseconds. None leaves the limit to the transport.
 #[derive(Clone, Copy, Debug, PartialEq, Eq)]
 pub struct Timeouts {
+    /// To connect.
     pub connect_ms: Option<u64>,
+    /// To read the reply.
     pub read_ms: Option<u64>,
+    /// For all attempts of a call together.
     pub operation_ms: Option<u64>,
+    /// For each attempt of a call.
     pub attempt_ms: Option<u64>,
 }
 
 /// How a service is called.
 #[derive(Debug, PartialEq, Eq, Drop)]
 pub struct CallSettings {
+    /// The region of the service, where there is one.
     pub region: Option<Region>,
+    /// Whether the endpoint is one of FIPS. None where nothing is configured.
     pub use_fips: Option<bool>,
+    /// Whether the endpoint is one of both IPv4 and IPv6. None where nothing is configured.
     pub use_dual_stack: Option<bool>,
-    /// How often a call may be tried in all.
+    /// How often a call may be tried in all, the first time included.
     pub max_attempts: u32,
+    /// The limits of time of the call.
     pub timeouts: Timeouts,
 }
 
@@ -40,7 +48,7 @@ impl TryCopy for CallSettings {
 /// How often calls are tried.
 #[derive(Clone, Copy, Debug, PartialEq, Eq)]
 pub struct RetryConfig {
-    /// How often a call may be tried in all.
+    /// How often a call may be tried in all, the first time included.
     pub max_attempts: u32,
 }
 

@@ -27,7 +27,8 @@ impl Model for Token {
 }
 
 impl Token {
-    /// The token of this text.
+    /// The token of this text, and when it expires, where it does. `OutOfMemory` where memory runs
+    /// out.
     pub fn new(alloc: Global, text: &str, expiry: Option<Instant>) -> Result<Token, OutOfMemory>
         ensures { IfOk result (λ t. t ≡ record { token = characters text.now; expiry = expiry }) }
     {
@@ -74,7 +75,7 @@ impl TryCopy for Token {
     }
 }
 
-/// A text that is not shown. Contracts see its characters.
+/// A text that no Debug text shows. Contracts see its characters.
 #[derive(PartialEq, Eq, Drop)]
 pub struct SensitiveString {
     text: Text,

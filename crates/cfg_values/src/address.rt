@@ -1,3 +1,4 @@
+//! Addresses of IP, read from their texts.
 ghost use Rattle.std.specs.Prelude.{◌≡◌, IfSome, IfNone, Some};
 ghost use Rattle.cfg_values.specs.declared.address.Address.{Address};
 ghost use Rattle.cfg_values.specs.Addresses.{IsAddress};
@@ -9,7 +10,9 @@ use std::net::IpAddr;
 /// `127.0.0.1` is 0x7f00_0001, and `::1` is 1.
 #[derive(Clone, Copy, Debug, PartialEq, Eq)]
 pub enum Address {
+    /// An address of 32 bits.
     V4(u32),
+    /// An address of 128 bits.
     V6(u128),
 }
 
@@ -18,7 +21,7 @@ impl Address {
     /// up to 255 without leading zeros, joined by `.`. Version 6 is eight groups of one to four
     /// hexadecimal digits, joined by `:`; one `::` may stand for one or more groups of zeros, and
     /// a text of version 4 for the last two groups. None exactly where the text is neither: no
-    /// zone, bracket or white space is read.
+    /// zone, bracket or white space is read. It takes no memory.
     pub fn parse(text: &str) -> Option<Address>
         ensures found { IfSome result (IsAddress (characters text.now)) }
         ensures none { IfNone result ((address : Address) → IsAddress (characters text.now) address → ⊥) }

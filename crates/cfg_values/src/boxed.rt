@@ -1,3 +1,4 @@
+//! A value behind a pointer.
 ghost use Rattle.std.specs.Prelude.{◌≡◌, IfOk};
 
 use crate::memory::OutOfMemory;
@@ -37,7 +38,7 @@ impl<T> Boxed<T> {
 }
 
 impl<T: Drop> Boxed<T> {
-    /// The value in a box. Where memory runs out the value is given up.
+    /// The value in a box. `OutOfMemory` where memory runs out; the value is given up then.
     pub fn new(alloc: Global, value: T) -> Result<Boxed<T>, OutOfMemory>
         ensures { IfOk result (λ b. b ≡ value) }
     {

@@ -1,3 +1,4 @@
+//! Moments, whose sums and differences stop at the ends of 64 bits.
 ghost use Rattle.std.specs.Prelude.{◌≡◌, ◌<◌, ◌≤◌, ◌/◌, ◌↔◌, pos, ◌≤ℤ◌, ◌<ℤ◌, ◌+ℤ◌, ◌-ℤ◌, ◌*ℤ◌, IsSome, IfSome};
 ghost use Rattle.std.specs.Int.{int_min, int_max};
 ghost use Rattle.cfg_values.specs.Instant.{number, first_number, last_number, nanos_in};
@@ -58,7 +59,7 @@ impl Instant {
         self.seconds
     }
 
-    /// Its nanoseconds after those seconds.
+    /// Its nanoseconds after those seconds, below 1,000,000,000.
     pub fn nanos(self) -> u32
         ensures value { result ≡ self.nanos }
         ensures below { result < 1000000000 }
@@ -66,7 +67,8 @@ impl Instant {
         self.nanos
     }
 
-    /// So many seconds later, or the last moment of all.
+    /// So many seconds later, or the last moment of all: the last second of 64 bits and 999,999,999
+    /// nanoseconds.
     pub fn plus(self, seconds: u64) -> Instant
         ensures { number result ≡ int_min (number self +ℤ nanos_in seconds) last_number }
     {
@@ -82,7 +84,8 @@ impl Instant {
         }
     }
 
-    /// So many seconds earlier, or the first moment of all.
+    /// So many seconds earlier, or the first moment of all: the first second of 64 bits and no
+    /// nanoseconds.
     pub fn minus(self, seconds: u64) -> Instant
         ensures { number result ≡ int_max (number self -ℤ nanos_in seconds) first_number }
     {
@@ -98,7 +101,8 @@ impl Instant {
         }
     }
 
-    /// So many seconds later. None exactly where the sum of the seconds passes the last one.
+    /// So many seconds later. None exactly where the sum of the seconds passes the last one of 64
+    /// bits.
     pub fn checked_plus(self, seconds: u64) -> Option<Instant>
         ensures there { IsSome result ↔ ((self.seconds +ℤ pos seconds) ≤ℤ pos 9223372036854775807) }
         ensures value { IfSome result (λ i. number i ≡ number self +ℤ nanos_in seconds) }

@@ -1,6 +1,7 @@
 //! Values that everything else is made of: texts, bytes, sequences, boxes, maps by name, moments,
 //! addresses, and the memory that they take. It stands on the standard library alone. Contracts see
-//! texts, bytes and sequences as lists, a map as a finite map, and a moment as a number.
+//! texts, bytes and sequences as lists, a map as a finite map, and a moment as its seconds and
+//! nanoseconds.
 #![tactic(auto)]
 
 pub mod address;

@@ -1,3 +1,4 @@
+//! Texts that own their memory.
 ghost use Rattle.std.specs.Prelude.{◌≡◌, IfOk, nat_eq};
 ghost use Rattle.std.specs.Str.{encode_utf8_all, bytes_eq};
 ghost use Rattle.std.specs.String.{string_bytes};
@@ -28,7 +29,7 @@ impl Model for Text {
 }
 
 impl Text {
-    /// A copy of the text.
+    /// A copy of the text. `OutOfMemory` where memory runs out.
     pub fn of(alloc: Global, text: &str) -> Result<Text, OutOfMemory>
         ensures { IfOk result (λ t. t ≡ characters text.now) }
     {
@@ -52,7 +53,7 @@ impl Text {
         self.inner.as_str()
     }
 
-    /// Whether it is this text.
+    /// Whether it is this text, character for character.
     pub fn is(&self, text: &str) -> bool
         ensures { result ≡ bytes_eq self.now (characters text.now) }
     {

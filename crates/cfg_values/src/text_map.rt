@@ -1,3 +1,4 @@
+//! Values by name.
 ghost use Rattle.std.specs.Prelude.{◌≡◌, ◌↔◌, IsTrue, IfOk, OnOk, OnErr, string_bytes};
 ghost use Rattle.std.specs.Option.{option_copied};
 ghost use Rattle.std.specs.FinMap.{get, insert, empty, len, len as size};
@@ -25,7 +26,7 @@ impl<V> Model for TextMap<V> {
 }
 
 impl<V: Drop> TextMap<V> {
-    /// A map of nothing.
+    /// A map of nothing. It takes no memory yet.
     pub fn new(alloc: Global) -> TextMap<V>
         ensures { result ≡ empty }
     {
@@ -34,7 +35,7 @@ impl<V: Drop> TextMap<V> {
         }
     }
 
-    /// A map of nothing, with room for so many names.
+    /// A map of nothing, with room for so many names. `OutOfMemory` where memory runs out.
     pub fn with_capacity(alloc: Global, names: usize) -> Result<TextMap<V>, OutOfMemory>
         ensures { IfOk result (λ map. map ≡ empty) }
     {
@@ -43,8 +44,8 @@ impl<V: Drop> TextMap<V> {
         })
     }
 
-    /// Sets the value of a name, in place of the one that it had. Where memory runs out the map
-    /// stays as it was, and name and value are given up.
+    /// Sets the value of a name, in place of the one that it had. `OutOfMemory` where memory runs
+    /// out; the map stays as it was then, and name and value are given up.
     pub fn set(&mut self, name: String, value: V) -> Result<(), OutOfMemory>
         ensures ok { OnOk result (self.new ≡ insert self.old (string_bytes name) value) }
         ensures err { OnErr result (self.new ≡ self.old) }
@@ -53,7 +54,7 @@ impl<V: Drop> TextMap<V> {
         Ok(())
     }
 
-    /// The value of a name, lent. Names are compared exactly.
+    /// The value of a name, lent; none where it has none. Names are compared exactly.
     pub fn get(&self, name: &str) -> Option<&V>
         ensures { option_copied result ≡ get self.now name.now }
     {

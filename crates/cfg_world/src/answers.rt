@@ -10,7 +10,8 @@ use cfg_types::Seq;
 use std::marker::Model;
 
 /// Receipts that are handed out in their order, each to the question that it answers. Where none is
-/// left, or the next one answers another question, the question is left open.
+/// left, or the next one answers another question, the question is left open. Where memory runs out
+/// nothing is handed out, and nothing changes.
 pub struct Answers {
     receipts: Seq<Receipt>,
     at: usize,
@@ -50,7 +51,8 @@ impl Answers {
         }
     }
 
-    /// The last question that was left open. None before there is one.
+    /// The last question that was left open, also where a later one was answered. None before there
+    /// is one.
     pub fn question(&self) -> Option<&Question>
         ensures { option_map (λ q. q.now) result ≡ self.now.unanswered }
     {

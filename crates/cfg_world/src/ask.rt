@@ -31,9 +31,9 @@ pub enum Question {
 /// What the devices answered.
 #[derive(PartialEq, Eq)]
 pub enum Answer {
-    /// A reading of the clock, from the epoch on.
+    /// A reading of the clock, in seconds and nanoseconds from the epoch on.
     Moment(Instant),
-    /// A number.
+    /// A number of 64 bits. Credentials of instance metadata count it in seconds.
     Jitter(u64),
     /// What a file holds.
     Contents(Bytes),
@@ -45,7 +45,7 @@ pub enum Answer {
     Addresses(Seq<Address>),
     /// The reply to a request.
     Replied(Reply),
-    /// The device failed.
+    /// The device failed, for this reason.
     Failed(FailKind),
 }
 

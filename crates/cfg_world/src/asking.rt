@@ -12,10 +12,10 @@ use crate::entry::Receipt;
 use crate::world::World;
 use cfg_types::OutOfMemory;
 
-/// Why a question has no answer.
+/// Why a question has no answer, or a body no outcome.
 #[derive(Clone, Copy, Debug, PartialEq, Eq)]
 pub enum Stop {
-    /// Memory ran out. The devices may have been asked.
+    /// Memory ran out, over a question or beside it. The devices may have been asked.
     OutOfMemory,
     /// The answer is not known yet. The question is kept as the open one.
     Open,
@@ -34,7 +34,7 @@ impl From<OutOfMemory> for Stop {
 /// Why a body gave no value: it was stopped, or it refused by its rule.
 #[derive(Debug, Drop)]
 pub enum Halt<E> {
-    /// A question has no answer.
+    /// A question has no answer, or memory ran out.
     Stopped(Stop),
     /// The rule refuses, for this reason.
     Refused(E),
@@ -81,8 +81,9 @@ pub trait Asking {
     /// The lists that are allowed and may have been handed out so far.
     ghost stands: { Self → List Pair → Type 0 };
 
-    /// Puts a question. The receipt is the new entry of the journal. After a stop the journal is as
-    /// it was, and after `Open` the open question is this one.
+    /// Puts a question. The receipt is the new entry of the journal. It stops with `Open` where the
+    /// answer is not known yet, and with `OutOfMemory` where memory runs out. After a stop the journal
+    /// is as it was, and after `Open` the open question is this one.
     fn put(&mut self, question: Question) -> Result<Receipt, Stop>
         ensures asked { IfOk result (λ e. (e.0 ≡ question) × Fits e.0 e.1) }
         ensures grows { journal self.new ≡ journal self.old ++ put_entry result }

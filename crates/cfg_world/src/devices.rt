@@ -17,9 +17,9 @@ pub enum Fault {
     OutOfMemory,
 }
 
-/// The clock, files, commands, name look-up and the transport. Each call is one question. Devices may
-/// answer as they like within what `Asked` says; devices that tell their answers beforehand say so by
-/// `allows` and `stands`.
+/// The clock, files, commands, name look-up and the transport. Each call is one question. A call that
+/// may fail answers `OutOfMemory` where memory runs out. Devices may answer as they like within what
+/// `Asked` says; devices that tell their answers beforehand say so by `allows` and `stands`.
 pub trait Devices {
     /// How often each kind of device has failed. A count that is full stands still.
     ghost faults: { Self → Faults };
@@ -30,11 +30,11 @@ pub trait Devices {
     /// The devices allow the list, and may have given it so far.
     ghost stands: { Self → List Pair → Type 0 };
 
-    /// The time. It is never before the epoch, and the clock cannot fail.
+    /// The time, in seconds and nanoseconds. It is never before the epoch, and the clock cannot fail.
     fn now(&mut self) -> Instant
         ensures { Asked (faults self.old) (faults self.new) (allows self.old) (allows self.new) (stands self.old) (stands self.new) Question.Now (Some (Answer.Moment result)) };
 
-    /// A number that nobody can foresee. It cannot fail.
+    /// A number that nobody should be able to foresee; no clause says so. It cannot fail.
     fn jitter(&mut self) -> u64
         ensures { Asked (faults self.old) (faults self.new) (allows self.old) (allows self.new) (stands self.old) (stands self.new) Question.Jitter (Some (Answer.Jitter result)) };
 
@@ -42,11 +42,11 @@ pub trait Devices {
     fn read(&mut self, path: &str) -> Result<Bytes, Fault>
         ensures { Asked (faults self.old) (faults self.new) (allows self.old) (allows self.new) (stands self.old) (stands self.new) (Question.Read (characters path.now)) (answer_of Answer.Contents result) };
 
-    /// Lets the file of this path hold these bytes.
+    /// Lets the file of this path hold these bytes. What it holds after an error, no clause says.
     fn write(&mut self, path: &str, bytes: &[u8]) -> Result<(), Fault>
         ensures { Asked (faults self.old) (faults self.new) (allows self.old) (allows self.new) (stands self.old) (stands self.new) (Question.Write (characters path.now) bytes.now) (written_answer result) };
 
-    /// What this command leaves behind.
+    /// What this command leaves behind. A status other than 0 is no failure.
     fn run(&mut self, command: &str) -> Result<Finished, Fault>
         ensures { Asked (faults self.old) (faults self.new) (allows self.old) (allows self.new) (stands self.old) (stands self.new) (Question.Run (characters command.now)) (answer_of Answer.Finished result) };
 

@@ -60,7 +60,7 @@ impl Drop for Entry {
 
 impl Entry {
     /// A question with its answer, as an entry that is in no journal. None exactly where the answer
-    /// does not fit the question.
+    /// does not fit the question. Where memory runs out it is `OutOfMemory`.
     pub fn new(
         alloc: Global,
         question: Question,
@@ -103,7 +103,8 @@ impl Entry {
         &self.shared.answer
     }
 
-    /// The answer: itself, where no copy of the entry is kept, and else a copy of it.
+    /// The answer: itself, where no copy of the entry is kept, and else a copy of it, which is
+    /// `OutOfMemory` where memory runs out.
     pub fn into_answer(self, alloc: Global) -> Result<Answer, OutOfMemory>
         ensures is { IfOk result (λ a. a ≡ self.1) }
         ensures fits { IfOk result (λ a. Fits self.0 a) }
@@ -166,7 +167,8 @@ impl Receipt {
         &self.entry
     }
 
-    /// The entry's answer: itself, where neither a journal nor a copy keeps it, and else a copy of it.
+    /// The entry's answer: itself, where neither a journal nor a copy keeps it, and else a copy of it,
+    /// which is `OutOfMemory` where memory runs out.
     pub fn into_answer(self, alloc: Global) -> Result<Answer, OutOfMemory>
         ensures is { IfOk result (λ a. a ≡ self.1) }
         ensures fits { IfOk result (λ a. Fits self.0 a) }

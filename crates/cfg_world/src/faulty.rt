@@ -10,8 +10,9 @@ use cfg_types::{Address, Bytes, FailKind, Finished, Instant, Reply, Request, Seq
 use std::marker::Model;
 
 /// Other devices, of which one call fails. Of the calls `read`, `write`, `run`, `look_up` and `send`,
-/// counted together from 1, the one of this number fails, and the other devices are not asked. All
-/// other calls, and the clock and the jitter, which are not counted, are handed on.
+/// counted together from 1, the one of this number fails, a send with `Dispatch` and the others with
+/// `Io`, and the other devices are not asked. All other calls, and the clock and the jitter, which are
+/// not counted, are handed on.
 pub struct FaultDevices<D: Devices> {
     inner: D,
     at: u64,

@@ -39,7 +39,7 @@ fn fits_failure(question: &Question, kind: FailKind) -> bool
     }
 }
 
-/// Whether it is a failure of a file, a command or a look-up.
+/// Whether it is a failure of a file, a command or a look-up: `Io`.
 pub fn is_io(kind: FailKind) -> bool
     ensures { IsTrue result ↔ IsIo kind }
 {
@@ -51,7 +51,7 @@ pub fn is_io(kind: FailKind) -> bool
     }
 }
 
-/// Whether it is a failure of a transport.
+/// Whether it is a failure of a transport: `Dispatch`, `Timeout` or `Broken`.
 pub fn is_transport(kind: FailKind) -> bool
     ensures { IsTrue result ↔ IsTransport kind }
 {

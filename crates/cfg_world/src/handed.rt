@@ -17,7 +17,7 @@ use std::marker::Model;
 /// Devices that give the i-th question the i-th of the answers that they were handed, where there is
 /// one and it fits. Else a reading of the clock gets the epoch, a jitter gets 0, and every other
 /// question fails, a send with `Dispatch` and the others with `Io`. An answer that does not fit its
-/// question is used up by it. Where memory runs out nothing is used up.
+/// question is used up by it. Where memory runs out it is `OutOfMemory`, and nothing is used up.
 pub struct HandedDevices {
     answers: Vec<Answer>,
     used: usize,

@@ -47,7 +47,8 @@ pub fn inquiries_begin_in_turn<A, B>()
 {}
 
 /// Scripted devices allow exactly the lists of entries in which the answers of each list come in its
-/// order, and readings of files say what was last written.
+/// order, readings of files say what was last written, else what the last listing says, and writes
+/// fail for unwritable paths alone.
 pub fn scripted_answers_come_in_order()
     ensures { (script : Script) (entries : List Pair) → Allows script entries ↔ InOrder script.lists entries }
 {}

@@ -1,4 +1,6 @@
-//! One question at a time, and what its answer is read as.
+//! One question at a time, and what its answer is read as. Each call stops where its question has no
+//! answer, and the journal is then as it was. It stops with `OutOfMemory` also where memory runs out
+//! while the answer is copied; the journal has question and answer then.
 ghost use Rattle.std.specs.Prelude.{◌≡◌};
 ghost use Rattle.cfg_world.specs.Follows.{Follows};
 ghost use Rattle.cfg_world.specs.Leaves.{clock, jitter, reading_file, writing_file, running, looking_up, sending, fetching, fetching_token, fetching_metadata, assuming, assuming_by_web_identity, getting_role_credentials, creating_token, signing_in};
@@ -21,7 +23,7 @@ pub enum NotGranted {
     Refused(Refusal),
 }
 
-/// A reading of the clock.
+/// A reading of the clock, in seconds and nanoseconds from the epoch on.
 #[tactic(auto, unfolding(crate::specs::Leaves::clock))]
 pub fn read_clock<A: Asking>(asking: &mut A) -> Result<Instant, Stop>
     ensures { Follows ⟦<A as Asking>⟧ (clock) asking.old asking.new result }
@@ -33,7 +35,7 @@ pub fn read_clock<A: Asking>(asking: &mut A) -> Result<Instant, Stop>
     }
 }
 
-/// A number that nobody can foresee.
+/// A jitter: a number that nobody should be able to foresee.
 #[tactic(auto, unfolding(crate::specs::Leaves::jitter))]
 pub fn read_jitter<A: Asking>(asking: &mut A) -> Result<u64, Stop>
     ensures { Follows ⟦<A as Asking>⟧ (jitter) asking.old asking.new result }
@@ -45,7 +47,7 @@ pub fn read_jitter<A: Asking>(asking: &mut A) -> Result<u64, Stop>
     }
 }
 
-/// What the file of this path holds, or how it failed.
+/// What the file of this path holds, or `Io` where it cannot be read. The outer error is a stop.
 #[tactic(auto, unfolding(crate::specs::Leaves::reading_file))]
 pub fn read_file<A: Asking>(
     alloc: Global,
@@ -58,7 +60,7 @@ pub fn read_file<A: Asking>(
     Ok(receipt.into_answer(alloc)?.into_contents())
 }
 
-/// Lets the file of this path hold these bytes. An error tells how that failed.
+/// Lets the file of this path hold these bytes, or `Io` where that failed. The outer error is a stop.
 #[tactic(auto, unfolding(crate::specs::Leaves::writing_file))]
 pub fn write_file<A: Asking>(
     alloc: Global,
@@ -72,7 +74,7 @@ pub fn write_file<A: Asking>(
     Ok(receipt.into_answer(alloc)?.into_written())
 }
 
-/// What this command leaves behind, or how it failed to run.
+/// What this command leaves behind, or `Io` where it did not run. The outer error is a stop.
 #[tactic(auto, unfolding(crate::specs::Leaves::running))]
 pub fn run_command<A: Asking>(
     alloc: Global,
@@ -85,7 +87,7 @@ pub fn run_command<A: Asking>(
     Ok(receipt.into_answer(alloc)?.into_finished())
 }
 
-/// The addresses of this host, or how the look-up failed.
+/// The addresses of this host, or `Io` where the look-up failed. The outer error is a stop.
 #[tactic(auto, unfolding(crate::specs::Leaves::looking_up))]
 pub fn look_up<A: Asking>(
     alloc: Global,
@@ -98,7 +100,8 @@ pub fn look_up<A: Asking>(
     Ok(receipt.into_answer(alloc)?.into_addresses())
 }
 
-/// The reply to one request, or how the transport failed.
+/// The reply to one request, or how the transport failed: `Dispatch`, `Timeout` or `Broken`. The outer
+/// error is a stop.
 #[tactic(auto, unfolding(crate::specs::Leaves::sending))]
 pub fn send<A: Asking>(
     alloc: Global,
@@ -111,7 +114,7 @@ pub fn send<A: Asking>(
     Ok(receipt.into_answer(alloc)?.into_reply())
 }
 
-/// The reply to a GET, or how the transport failed.
+/// The reply to a GET, or how the transport failed. The outer error is a stop.
 #[tactic(auto, unfolding(crate::specs::Leaves::fetching))]
 pub fn fetch<A: Asking>(
     alloc: Global,
@@ -124,7 +127,8 @@ pub fn fetch<A: Asking>(
     Ok(receipt.into_answer(alloc)?.into_http())
 }
 
-/// The reply to a request for a metadata token, or how the transport failed.
+/// The reply to a request for a metadata token, or how the transport failed. The outer error is a
+/// stop.
 #[tactic(auto, unfolding(crate::specs::Leaves::fetching_token))]
 pub fn fetch_metadata_token<A: Asking>(
     alloc: Global,
@@ -137,7 +141,7 @@ pub fn fetch_metadata_token<A: Asking>(
     Ok(receipt.into_answer(alloc)?.into_http())
 }
 
-/// The reply to a request for metadata, or how the transport failed.
+/// The reply to a request for metadata, or how the transport failed. The outer error is a stop.
 #[tactic(auto, unfolding(crate::specs::Leaves::fetching_metadata))]
 pub fn fetch_metadata<A: Asking>(
     alloc: Global,
@@ -150,7 +154,7 @@ pub fn fetch_metadata<A: Asking>(
     Ok(receipt.into_answer(alloc)?.into_http())
 }
 
-/// The reply to `AssumeRole`, or why there is none.
+/// The reply to `AssumeRole`, or why there is none. The outer error is a stop.
 #[tactic(auto, unfolding(crate::specs::Leaves::assuming))]
 pub fn assume_role<A: Asking>(
     alloc: Global,
@@ -163,7 +167,7 @@ pub fn assume_role<A: Asking>(
     Ok(receipt.into_answer(alloc)?.into_sts())
 }
 
-/// The reply to `AssumeRoleWithWebIdentity`, or why there is none.
+/// The reply to `AssumeRoleWithWebIdentity`, or why there is none. The outer error is a stop.
 #[tactic(auto, unfolding(crate::specs::Leaves::assuming_by_web_identity))]
 pub fn assume_role_with_web_identity<A: Asking>(
     alloc: Global,
@@ -176,7 +180,7 @@ pub fn assume_role_with_web_identity<A: Asking>(
     Ok(receipt.into_answer(alloc)?.into_sts())
 }
 
-/// The reply to `GetRoleCredentials`, or why there is none.
+/// The reply to `GetRoleCredentials`, or why there is none. The outer error is a stop.
 #[tactic(auto, unfolding(crate::specs::Leaves::getting_role_credentials))]
 pub fn get_role_credentials<A: Asking>(
     alloc: Global,
@@ -189,7 +193,7 @@ pub fn get_role_credentials<A: Asking>(
     Ok(receipt.into_answer(alloc)?.into_role())
 }
 
-/// The reply to `CreateToken`, or why there is none.
+/// The reply to `CreateToken`, or why there is none. The outer error is a stop.
 #[tactic(auto, unfolding(crate::specs::Leaves::creating_token))]
 pub fn create_token<A: Asking>(
     alloc: Global,
@@ -202,7 +206,7 @@ pub fn create_token<A: Asking>(
     Ok(receipt.into_answer(alloc)?.into_token())
 }
 
-/// The reply to `CreateOAuth2Token`, or why there is none.
+/// The reply to `CreateOAuth2Token`, or why there is none. The outer error is a stop.
 #[tactic(auto, unfolding(crate::specs::Leaves::signing_in))]
 pub fn create_oauth2_token<A: Asking>(
     alloc: Global,

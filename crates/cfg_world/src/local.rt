@@ -13,9 +13,11 @@ use std::io::{ErrorKind, Read, Write};
 use std::marker::Model;
 use std::rt::{Clock, Files};
 
-/// The clock and the files of the machine that a runtime stands for. A clock that cannot be read, or
-/// that stands before the epoch, reads as the epoch. The jitter is always 0. Commands, look-ups and
-/// sends always fail. Contracts see how often each kind of device has failed; no clause says what a
+/// The clock and the files of the machine that a runtime stands for. A clock that cannot be read, that
+/// stands before the epoch, or whose seconds are too many for a moment, reads as the epoch. The jitter
+/// is always 0. A reading or a writing that fails is `Io`, or `OutOfMemory`; after such a writing the
+/// file may be empty, or hold a part of the bytes. Commands and look-ups always fail with `Io`, and
+/// sends with `Dispatch`. Contracts see how often each kind of device has failed; no clause says what a
 /// file holds, or what time it is.
 pub struct LocalDevices<'a, R: Files + Clock> {
     alloc: Global,

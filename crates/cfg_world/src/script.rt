@@ -22,21 +22,24 @@ use writes::Writes;
 
 /// What scripted devices answer. Each list but those of files is answered from in order.
 pub struct DeviceLists {
-    /// Files by their paths, with what they hold. One without contents cannot be read. Of two
-    /// listings of a path the later counts.
+    /// Files by their paths, with what they hold. One without contents, or that is not listed, fails
+    /// with `Io`. Of two listings of a path the later counts, and once the path was written to, what
+    /// was last written.
     pub files: Seq<(Text, Option<Bytes>)>,
-    /// Paths to which no write is granted.
+    /// Paths to which no write is granted. A write to one fails with `Io`.
     pub unwritable: Seq<Text>,
     /// Readings of the clock. The last one is repeated, and without one the clock stands at the epoch.
     pub clock: Seq<Instant>,
     /// Numbers of the jitter. Where none is left it is 0.
     pub jitter: Seq<u64>,
-    /// What commands leave behind. Where nothing is left a command fails with `Io`.
+    /// What commands leave behind, one after the other, whatever they are. Where no item is left a
+    /// command fails with `Io`.
     pub commands: Seq<Result<Finished, FailKind>>,
-    /// Addresses of hosts. Where none are left a look-up fails with `Io`.
+    /// Addresses of hosts, one list a look-up, whatever the host is. Where no item is left a look-up
+    /// fails with `Io`.
     pub lookups: Seq<Result<Seq<Address>, FailKind>>,
-    /// Replies to GETs. Where none is left, in this queue and in the next seven, nothing is
-    /// dispatched.
+    /// Replies to GETs. Where none is left, in this queue and in the next seven, a request fails with
+    /// `Dispatch`.
     pub http: Seq<Result<Reply, FailKind>>,
     /// Replies to requests for a metadata token.
     pub imds_token: Seq<Result<Reply, FailKind>>,
@@ -76,8 +79,8 @@ impl Drop for DeviceLists {
 }
 
 impl DeviceLists {
-    /// Lists without items: no file can be read and every path is writable, the clock stands at the
-    /// epoch, the jitter is 0, and commands, look-ups and requests fail.
+    /// Lists without items: no file can be read before it is written, every path is writable, the
+    /// clock stands at the epoch, the jitter is 0, and commands, look-ups and requests fail.
     pub fn empty(alloc: Global) -> DeviceLists
         ensures { result ≡ record { files = []; unwritable = []; clock = []; jitter = []; commands = []; lookups = []; http = []; imds_token = []; imds_get = []; assume_role = []; web_identity = []; role_credentials = []; create_token = []; sign_in = [] } }
     {
@@ -144,9 +147,10 @@ struct FaultCounts {
     lookups: u64,
 }
 
-/// Devices that give the answers of their lists, in order, and read back what was written. They allow
-/// exactly the lists of entries that these rules give, and stand for those that also leave the places
-/// and the writes that they have reached.
+/// Devices that give the answers of their lists, in order, and read back what was written. Where memory
+/// runs out it is `OutOfMemory`, and they stay as they were. They allow exactly the lists of entries
+/// that these rules give, and stand for those that also leave the places and the writes that they have
+/// reached.
 pub struct ScriptDevices {
     alloc: Global,
     lists: DeviceLists,
@@ -185,7 +189,8 @@ impl Model for ScriptDevices {
 impl ScriptDevices {
     /// Devices that stand at the start of their lists, of which every item fits its questions: no
     /// reading is before the epoch, commands and look-ups fail with `Io` alone, and a request has a
-    /// reply of its kind, or a failure of another kind than `Io`.
+    /// reply of its kind, a service's call also a refusal, or a failure of another kind than `Io`.
+    /// Where memory runs out it is `OutOfMemory`.
     pub fn new(alloc: Global, lists: DeviceLists) -> Result<ScriptDevices, OutOfMemory>
         requires { AllFit lists }
         ensures { IfOk result (λ s. s ≡ record { lists = lists; place = start; faults = no_faults }) }

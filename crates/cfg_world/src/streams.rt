@@ -28,6 +28,7 @@ pub trait Source {
 
     /// The next bytes, at most as many as there is room for, and how many they are. None into room
     /// that is there is the end of the input. After an error the bytes that are left are as before.
+    /// What `into` holds behind the bytes, or after an error, no clause says.
     fn read(&mut self, into: &mut [u8]) -> Result<usize, StreamFault>
         ensures within { IfOk result (λ n. n ≤ length into.old) }
         ensures bytes { ReadConsumes (left self.old) (left self.new) result into.new }

@@ -51,8 +51,8 @@ impl<D: Devices> World<D> {
     }
 
     /// Puts a question to the devices, and enters it with its answer at the end of the journal. A
-    /// device that fails gives the answer `Failed`. Where memory runs out the journal stays as it
-    /// was, though the devices may have been asked.
+    /// device that fails gives the answer `Failed`. Where memory runs out it is `OutOfMemory`, and the
+    /// journal stays as it was, though the devices may have been asked.
     pub fn ask(&mut self, question: Question) -> Result<Receipt, OutOfMemory>
         ensures asked { IfOk result (λ e. e.0 ≡ question) }
         ensures fits { IfOk result (λ e. Fits e.0 e.1) }

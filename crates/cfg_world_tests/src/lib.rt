@@ -1,13 +1,7 @@
-//! The tests of cfg_world, over public calls: what no clause says.
+//! The tests of the world and its exchanges, over public calls: what no clause says.
 #![tactic(auto)]
 
 #[cfg(test)]
-mod devices;
+mod exchange;
 #[cfg(test)]
-mod local;
-#[cfg(test)]
-mod prefixes;
-#[cfg(test)]
-mod questions;
-#[cfg(test)]
-mod streams;
+mod world;

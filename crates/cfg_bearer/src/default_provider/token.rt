@@ -1,30 +1,28 @@
 //! The default chain of bearer tokens.
-ghost use Rattle.std.specs.Prelude.{◌≡◌, IfOk, OnErr, Some, None, true, false, option_map, string_bytes};
+ghost use Rattle.std.specs.Prelude.{◌≡◌, IfOk, OnErr, Some, true, false, option_map};
 ghost use Rattle.std.specs.Option.{option_copied};
 ghost use Rattle.cfg_keeping.specs.Holds.{HoldsFollows};
 ghost use Rattle.cfg_keeping.specs.KeptStates.{kept_holdings, kept_key, states_of};
 ghost use Rattle.cfg_keeping.specs.Kinds.{no_states};
 ghost use Rattle.cfg_sso.specs.BearerTokens.{is_memory};
 ghost use Rattle.cfg_sso.specs.Tokens.{HasKey};
-ghost use Rattle.cfg_imds.specs.Calls.{CallBreaks};
-ghost use Rattle.cfg_region.specs.Calls.{Asks};
-ghost use Rattle.cfg_region.specs.Defaults.{IsDefault};
-ghost use Rattle.cfg_region.specs.Sources.{region_source, tree};
-ghost use Rattle.cfg_bearer.specs.Builds.{BreaksRegion, BuildBreaks, GivesRegion, IsBuilt, IsFixed};
-ghost use Rattle.cfg_bearer.specs.ChainSetups.{chain_configured, configuration_alone, setup_of};
+ghost use Rattle.cfg_region.specs.Sources.{region_source};
+ghost use Rattle.cfg_bearer.specs.Builds.{BuildBreaks, IsBuilt};
+ghost use Rattle.cfg_bearer.specs.ChainSetups.{configuration_alone, setup_of};
 ghost use Rattle.cfg_bearer.specs.Provides.{ProvidesToken, InterruptedToken};
 ghost use Rattle.cfg_bearer.specs.ProfileTokens.{default_token, DefaultTokenCause};
 ghost use Rattle.cfg_bearer.specs.Sessions.{session_key};
 ghost use Rattle.cfg_bearer.specs.Told.{none_loaded_by, told as told_by_chain, told_of_profile};
 
 use crate::profile::token::ProfileFileTokenProvider;
+use crate::session::token_key_of;
 use cfg_keeping::{Keeper, Kept};
 use cfg_profile::ProviderConfig;
-use cfg_region::{DefaultRegionChain, RegionSource};
+use cfg_region::profile::settings::with_name;
+use cfg_region::{RegionSource, with_region_from};
 use cfg_token::TokenKey;
 use cfg_types::{
-    OutOfMemory, ProviderAttempt, ProviderChainError, Region, Seq, Text, Token, TokenCause,
-    TokenError, copy_option,
+    OutOfMemory, ProviderAttempt, ProviderChainError, Seq, Text, Token, TokenCause, TokenError,
 };
 use cfg_world::{Asking, Devices, Stop, World};
 use std::alloc::Global;
@@ -58,7 +56,8 @@ impl Model for DefaultTokenChain {
 impl DefaultTokenChain {
     ghost use Rattle.cfg_bearer.specs.ChainSetups.{nothing_given};
 
-    /// A builder with no variables, no sections and no source of a region.
+    /// A builder with no variables, no sections and no source of a region. `OutOfMemory` where memory
+    /// runs out.
     pub fn builder(alloc: Global) -> Result<Builder, OutOfMemory>
         ensures { IfOk result (λ b. setup_of told_region repeated b ≡ nothing_given) }
     {
@@ -85,7 +84,7 @@ impl DefaultTokenChain {
         self.profile.token_key()
     }
 
-    /// What the chain keeps between calls, with nothing kept.
+    /// What the chain keeps between calls, with nothing kept. `OutOfMemory` where memory runs out.
     pub fn new_kept(&self) -> Result<Kept, OutOfMemory>
         ensures nothing { IfOk result (λ kept. states_of kept ≡ no_states) }
         ensures key { IfOk result (λ kept. kept_key kept ≡ session_key self.now) }
@@ -94,7 +93,9 @@ impl DefaultTokenChain {
     }
 
     /// The body of [`Self::provide_token`], over anything that can be asked. Where a question is left
-    /// open it stops there, and taken up again with one answer more it comes to the next.
+    /// open it stops there, and taken up again with one answer more it comes to the next. Where memory
+    /// runs out it stops with `OutOfMemory`. What is kept is then, and at an open question, as the last
+    /// finished holding left it.
     pub fn follow<P: Keeper, A: Asking>(
         &self,
         keeper: &mut P,
@@ -135,7 +136,9 @@ impl DefaultTokenChain {
     ///   a session of IAM Identity Center.
     /// - `InvalidConfiguration` where the sections were refused, or the path of the selected profile has
     ///   an error, which it holds.
-    /// - `ProviderError` around the error of the session's section, where it gives no token.
+    /// - `ProviderError` around the error of the session's section, where it gives no token, as
+    ///   [`SsoTokenProvider::provide_token`](crate::SsoTokenProvider::provide_token) says. No token is kept
+    ///   then.
     /// - `OutOfMemory` where memory runs out. The journal then has gained the beginning of such a part,
     ///   and what is kept is as it was, or as the finished section left it.
     pub fn provide_token<D: Devices>(
@@ -185,7 +188,8 @@ fn none_loaded(alloc: Global, error: TokenError) -> Result<TokenError, OutOfMemo
 }
 
 /// Sets up the default chain. Contracts see its configuration, the name of its profile where one was given,
-/// and the source of its region where one was set. A setter changes its field alone.
+/// and the source of its region where one was set. A setter changes its field alone. A call that runs out
+/// of memory gives the builder up.
 #[derive(Drop)]
 pub struct Builder {
     alloc: Global,
@@ -197,7 +201,8 @@ pub struct Builder {
 impl Builder {
     ghost use Rattle.cfg_bearer.specs.ChainSetups.{nothing_given};
 
-    /// A builder with no variables, no sections and no source of a region.
+    /// A builder with no variables, no sections and no source of a region. `OutOfMemory` where memory
+    /// runs out.
     pub fn new(alloc: Global) -> Result<Builder, OutOfMemory>
         ensures { IfOk result (λ b. setup_of told_region repeated b ≡ nothing_given) }
     {
@@ -218,8 +223,8 @@ impl Builder {
         self
     }
 
-    /// The profile of this name, whatever the configuration says: its token, and its region where no source
-    /// was set. Where instance metadata is asked is read from the configuration's own.
+    /// The profile of this name, whatever the configuration and the environment say: its token, its region where
+    /// no source was set, and where instance metadata is asked for one. `OutOfMemory` where memory runs out.
     pub fn profile_name(mut self, name: &str) -> Result<Builder, OutOfMemory>
         ensures { IfOk result (λ b. setup_of told_region repeated b ≡ record (setup_of told_region repeated self) { profile_name = Some name.now }) }
     {
@@ -244,9 +249,11 @@ impl Builder {
         self
     }
 
-    /// The chain. Its region is the one of the source, where one was set, else that of the default chain of
-    /// regions over the configuration, in place of the configuration's own, none included. That source is
-    /// asked now, and nothing else. A region that was given asks nothing.
+    /// The chain. Its source of the region is asked where one was set, and else the default chain of regions
+    /// over its configuration and its profile; then nothing more. What that gives, none included, is the
+    /// chain's region, in place of the configuration's. A region that was given asks nothing. Whose token the
+    /// chain needs is read from its profile now; an error of its path is told by each call, and is none of
+    /// this one.
     ///
     /// # Errors
     ///
@@ -254,7 +261,6 @@ impl Builder {
     pub fn build<D: Devices>(self, world: &mut World<D>) -> Result<DefaultTokenChain, OutOfMemory>
         ensures built { IfOk result (IsBuilt ⟦<D as Devices>⟧ (setup_of told_region repeated self) world.old world.new) }
         ensures breaks { OnErr result (BuildBreaks ⟦<D as Devices>⟧ (setup_of told_region repeated self) world.old world.new) }
-        ensures unasked { IsFixed (setup_of told_region repeated self).region → world.new ≡ world.old }
     {
         let Builder {
             alloc,
@@ -262,97 +268,10 @@ impl Builder {
             profile_name,
             region,
         } = self;
-        let region = region_by(alloc, &region, &config, &profile_name, world)?;
-        chain_with(alloc, config, &profile_name, region)
-    }
-}
-
-// The chain of this configuration, with this region, and with this name of a profile where one is given.
-fn chain_with(
-    alloc: Global,
-    config: ProviderConfig,
-    profile_name: &Option<String>,
-    region: Option<Region>,
-) -> Result<DefaultTokenChain, OutOfMemory>
-    ensures { IfOk result (λ c. c ≡ chain_configured config (option_map (λ s. string_bytes s) profile_name.now) region) }
-{
-    let config = config.with_region(region);
-    let config = match profile_name {
-        None => config,
-        Some(name) => config.with_profile_name(alloc, name.as_str())?,
-    };
-    let profile = ProfileFileTokenProvider::of(alloc, config)?;
-    Ok(DefaultTokenChain { alloc, profile })
-}
-
-// The region of the source, where one was set, else that of the default chain.
-fn region_by<D: Devices>(
-    alloc: Global,
-    source: &Option<RegionSource>,
-    config: &ProviderConfig,
-    profile_name: &Option<String>,
-    world: &mut World<D>,
-) -> Result<Option<Region>, OutOfMemory>
-    ensures gives { IfOk result (GivesRegion ⟦<D as Devices>⟧ (option_map (region_source told_region repeated) source.now) config.now (option_map (λ s. string_bytes s) profile_name.now) world.old world.new) }
-    ensures breaks { OnErr result (BreaksRegion ⟦<D as Devices>⟧ (option_map (region_source told_region repeated) source.now) config.now (option_map (λ s. string_bytes s) profile_name.now) world.old world.new) }
-    ensures unasked { IsFixed (option_map (region_source told_region repeated) source.now) → world.new ≡ world.old }
-{
-    match source {
-        Some(source) => region_of_source(alloc, source, world),
-        None => default_region(alloc, config, profile_name, world),
-    }
-}
-
-// The region of this source. One that was given asks nothing.
-fn region_of_source<D: Devices>(
-    alloc: Global,
-    source: &RegionSource,
-    world: &mut World<D>,
-) -> Result<Option<Region>, OutOfMemory>
-    ensures asks { IfOk result (Asks ⟦<D as Devices>⟧ (tree (region_source told_region repeated source.now)) world.old world.new) }
-    ensures breaks { OnErr result (CallBreaks ⟦<D as Devices>⟧ (tree (region_source told_region repeated source.now)) world.old world.new) }
-    ensures unasked { IsFixed (Some (region_source told_region repeated source.now)) → world.new ≡ world.old }
-{
-    match source {
-        RegionSource::Fixed(region) => {
-            let region = copy_option(alloc, region)?;
-            Ok(region)
-        }
-        _ => match source.follow(alloc, world) {
-            Ok(region) => Ok(region),
-            Err(_) => Err(OutOfMemory),
-        },
-    }
-}
-
-// The region of the default chain of regions over this configuration.
-fn default_region<D: Devices>(
-    alloc: Global,
-    config: &ProviderConfig,
-    profile_name: &Option<String>,
-    world: &mut World<D>,
-) -> Result<Option<Region>, OutOfMemory>
-    ensures gives { IfOk result (GivesRegion ⟦<D as Devices>⟧ None config.now (option_map (λ s. string_bytes s) profile_name.now) world.old world.new) }
-    ensures breaks { OnErr result (BreaksRegion ⟦<D as Devices>⟧ None config.now (option_map (λ s. string_bytes s) profile_name.now) world.old world.new) }
-{
-    let chain = region_chain(alloc, config, profile_name)?;
-    match chain.follow(world) {
-        Ok(region) => Ok(region),
-        Err(_) => Err(OutOfMemory),
-    }
-}
-
-// The default chain of regions over this configuration, for the profile of this name where one is given.
-fn region_chain(
-    alloc: Global,
-    config: &ProviderConfig,
-    profile_name: &Option<String>,
-) -> Result<DefaultRegionChain, OutOfMemory>
-    ensures { IfOk result (IsDefault config.now (option_map (λ s. string_bytes s) profile_name.now)) }
-{
-    let builder = DefaultRegionChain::builder(alloc)?.configure(config)?;
-    match profile_name {
-        None => builder.build(),
-        Some(name) => builder.profile_name(name.as_str())?.build(),
+        let named = with_name(alloc, config, profile_name)?;
+        let token_key = token_key_of(alloc, &named)?;
+        let config = with_region_from(alloc, region, named, world)?;
+        let profile = ProfileFileTokenProvider::with_key(alloc, config, token_key);
+        Ok(DefaultTokenChain { alloc, profile })
     }
 }

@@ -1,5 +1,5 @@
 //! The token of the selected profile.
-ghost use Rattle.std.specs.Prelude.{◌≡◌, IfOk, Some, true, false, codes, unwrap_or};
+ghost use Rattle.std.specs.Prelude.{◌≡◌, IfOk, Some, true, false, codes};
 ghost use Rattle.std.specs.Option.{option_copied};
 ghost use Rattle.cfg_keeping.specs.Holds.{HoldsFollows};
 ghost use Rattle.cfg_keeping.specs.KeptStates.{kept_holdings, kept_key, states_of};
@@ -13,6 +13,7 @@ ghost use Rattle.cfg_bearer.specs.Sessions.{session_key};
 use crate::session::{session_of, token_key_of};
 use cfg_keeping::{Keeper, Kept};
 use cfg_profile::{ProfileSource, ProviderConfig};
+use cfg_region::profile::settings::configured_by;
 use cfg_sso::follow_bearer;
 use cfg_token::TokenKey;
 use cfg_types::{OutOfMemory, Token, TokenError, TryCopy, copy_option};
@@ -53,11 +54,11 @@ impl Model for ProfileFileTokenProvider {
 }
 
 impl ProfileFileTokenProvider {
-    ghost use Rattle.cfg_bearer.specs.Setups.{nothing_set};
+    ghost use Rattle.cfg_region.specs.ProfileSetups.{no_profile_set};
 
-    /// A builder with no variables and no sections.
+    /// A builder with no variables and no sections. `OutOfMemory` where memory runs out.
     pub fn builder(alloc: Global) -> Result<Builder, OutOfMemory>
-        ensures { IfOk result (λ b. b ≡ nothing_set) }
+        ensures { IfOk result (λ b. b ≡ no_profile_set) }
     {
         Builder::new(alloc)
     }
@@ -77,6 +78,22 @@ impl ProfileFileTokenProvider {
         })
     }
 
+    // A provider over this configuration, whose token is that of this key.
+    pub(crate) fn with_key(
+        alloc: Global,
+        config: ProviderConfig,
+        token_key: Option<TokenKey>,
+    ) -> ProfileFileTokenProvider
+        requires { token_key ≡ session_key config }
+        ensures { result ≡ config }
+    {
+        ProfileFileTokenProvider {
+            alloc,
+            config,
+            token_key,
+        }
+    }
+
     /// Whose token the provider needs: that of the profile's session, where it has one.
     pub fn token_key(&self) -> Option<&TokenKey>
         ensures { option_copied result ≡ session_key self.now }
@@ -84,7 +101,7 @@ impl ProfileFileTokenProvider {
         self.token_key.as_ref()
     }
 
-    /// What the provider keeps between calls, with nothing kept.
+    /// What the provider keeps between calls, with nothing kept. `OutOfMemory` where memory runs out.
     pub fn new_kept(&self) -> Result<Kept, OutOfMemory>
         ensures nothing { IfOk result (λ kept. states_of kept ≡ no_states) }
         ensures key { IfOk result (λ kept. kept_key kept ≡ session_key self.now) }
@@ -94,7 +111,9 @@ impl ProfileFileTokenProvider {
     }
 
     /// The body of [`Self::provide_token`], over anything that can be asked. Where a question is left
-    /// open it stops there, and taken up again with one answer more it comes to the next.
+    /// open it stops there, and taken up again with one answer more it comes to the next. Where memory
+    /// runs out it stops with `OutOfMemory`. What is kept is then, and at an open question, as the last
+    /// finished holding left it.
     #[tactic(auto, using(cfg_keeping::proofs::HoldingSteps::holding_steps), unfolding(crate::specs::ProfileTokens::profile_token))]
     pub fn follow<P: Keeper, A: Asking>(
         &self,
@@ -124,7 +143,9 @@ impl ProfileFileTokenProvider {
     ///   an error, which it holds.
     /// - `TokenNotLoaded(NoSession)` where the path ends with something else than IAM Identity Center, or
     ///   with IAM Identity Center without a session.
-    /// - `ProviderError` around the section's error, where it gives no token.
+    /// - `ProviderError` around the section's error, where it gives no token, as
+    ///   [`SsoTokenProvider::provide_token`](crate::SsoTokenProvider::provide_token) says. No token is kept
+    ///   then.
     /// - `OutOfMemory` where memory runs out. The journal then has gained the beginning of such a part,
     ///   and what is kept is as it was, or as the finished section left it.
     pub fn provide_token<D: Devices>(
@@ -146,7 +167,8 @@ impl ProfileFileTokenProvider {
 }
 
 /// Sets up a provider of a profile's token. Contracts see its configuration, and the name and the sections
-/// that are in place of the configuration's. A setter changes its field alone.
+/// that are in place of the configuration's. A setter changes its field alone. A call that runs out of
+/// memory gives the builder up.
 pub struct Builder {
     alloc: Global,
     config: ProviderConfig,
@@ -167,7 +189,7 @@ impl Drop for Builder {
 
 impl Model for Builder {
     ghost use Rattle.std.specs.Prelude.{option_map, string_bytes};
-    ghost use Rattle.cfg_bearer.specs.Setups.{ProfileSetup, profile_setup_code};
+    ghost use Rattle.cfg_region.specs.ProfileSetups.{ProfileSetup, profile_setup_code};
 
     ghost Value = { ProfileSetup };
 
@@ -181,11 +203,11 @@ impl Model for Builder {
 }
 
 impl Builder {
-    ghost use Rattle.cfg_bearer.specs.Setups.{nothing_set, profile_configured};
+    ghost use Rattle.cfg_region.specs.ProfileSetups.{no_profile_set, profile_configured};
 
-    /// A builder with no variables and no sections.
+    /// A builder with no variables and no sections. `OutOfMemory` where memory runs out.
     pub fn new(alloc: Global) -> Result<Builder, OutOfMemory>
-        ensures { IfOk result (λ b. b ≡ nothing_set) }
+        ensures { IfOk result (λ b. b ≡ no_profile_set) }
     {
         let config = ProviderConfig::without_region(alloc)?;
         Ok(Builder {
@@ -196,7 +218,8 @@ impl Builder {
         })
     }
 
-    /// With a copy of this configuration, in place of the one that it had.
+    /// With a copy of this configuration, in place of the one that it had. `OutOfMemory` where memory
+    /// runs out.
     pub fn configure(mut self, config: &ProviderConfig) -> Result<Builder, OutOfMemory>
         ensures { IfOk result (λ b. b ≡ record self { configuration = config.now }) }
     {
@@ -204,7 +227,7 @@ impl Builder {
         Ok(self)
     }
 
-    /// The profile of this name, whatever the configuration says.
+    /// The profile of this name, whatever the configuration says. `OutOfMemory` where memory runs out.
     pub fn profile_name(mut self, name: &str) -> Result<Builder, OutOfMemory>
         ensures { IfOk result (λ b. b ≡ record self { profile_name = Some name.now }) }
     {
@@ -220,7 +243,8 @@ impl Builder {
         self
     }
 
-    /// The provider. Whose token it needs is read from the selected profile now.
+    /// The provider. Whose token it needs is read from the selected profile now. An error of its path is
+    /// told by each call, and is none of this one. `OutOfMemory` where memory runs out.
     pub fn build(self) -> Result<ProfileFileTokenProvider, OutOfMemory>
         ensures { IfOk result (λ p. p ≡ profile_configured self) }
     {
@@ -230,21 +254,7 @@ impl Builder {
             profile_name,
             profiles,
         } = self;
-        let config = with_profiles(config, profiles);
-        let config = match profile_name {
-            None => config,
-            Some(name) => config.with_profile_name(alloc, name.as_str())?,
-        };
+        let config = configured_by(alloc, config, profile_name, profiles)?;
         ProfileFileTokenProvider::of(alloc, config)
-    }
-}
-
-// With these sections in place of the configuration's, where there are some.
-fn with_profiles(config: ProviderConfig, profiles: Option<ProfileSource>) -> ProviderConfig
-    ensures { result ≡ record config { profiles = unwrap_or profiles config.profiles } }
-{
-    match profiles {
-        None => config,
-        Some(profiles) => config.with_profiles(profiles),
     }
 }

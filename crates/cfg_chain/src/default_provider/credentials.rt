@@ -20,7 +20,6 @@ ghost use Rattle.cfg_chain.specs.Callers.{TellsWho};
 
 use crate::chain::follow_chain;
 use crate::member::Member;
-use crate::profile::credentials::with_name;
 use crate::profile::plan::token_key_of;
 use crate::services::{Services, lent_or};
 use cfg_exchange::container_uri;
@@ -28,6 +27,7 @@ use cfg_imds::Client;
 use cfg_keeping::{Keeper, Kept, Place, TokenKey};
 use cfg_profile::ProviderConfig;
 use cfg_providers::CustomSource;
+use cfg_region::profile::settings::with_name;
 use cfg_region::{RegionSource, with_region_from};
 use cfg_types::{Credentials, CredentialsError, OutOfMemory, TryCopy, copy_option};
 use cfg_world::{Asking, Devices, Stop, World};
@@ -53,7 +53,8 @@ impl Builder {
         self
     }
 
-    /// The profile of this name, whatever the configuration and the environment say.
+    /// The profile of this name, whatever the configuration and the environment say. `OutOfMemory` where
+    /// memory runs out.
     pub fn profile_name(mut self, name: &str) -> Result<Builder, OutOfMemory>
         ensures { IfOk result (λ b. setup_of told_region repeated b ≡ record (setup_of told_region repeated self) { profile_name = Some name.now }) }
     {
@@ -61,7 +62,7 @@ impl Builder {
         Ok(self)
     }
 
-    /// With this source of the region.
+    /// With this source of the region, in place of the one that it had.
     pub fn region(mut self, source: RegionSource) -> Builder
         ensures { setup_of told_region repeated result ≡ record (setup_of told_region repeated self) { region = Some (region_source told_region repeated source) } }
     {
@@ -69,7 +70,7 @@ impl Builder {
         self
     }
 
-    /// Sets the source of the region, or none.
+    /// Sets the source of the region, or none: the default region chain is asked then.
     pub fn set_region(&mut self, source: Option<RegionSource>) -> &mut Builder
         ensures same { result.ghost_name ≡ self.entry.ghost_name }
         ensures value { setup_of told_region repeated result.now ≡ record (setup_of told_region repeated self.entry.now) { region = option_map (region_source told_region repeated) source } }
@@ -150,7 +151,7 @@ const MEMBERS: [Member; 5] = [
 ];
 
 impl DefaultCredentialsChain {
-    /// A builder with no variables and no sections.
+    /// A builder with no variables and no sections. `OutOfMemory` where memory runs out.
     pub fn builder(alloc: Global) -> Result<Builder, OutOfMemory>
         ensures { IfOk result (λ b. setup_of told_region repeated b ≡ nothing_set) }
     {
@@ -163,15 +164,15 @@ impl DefaultCredentialsChain {
         })
     }
 
-    /// Whose token the chain needs: that of a session of IAM Identity Center, where the selected profile's
-    /// plan begins with one.
+    /// Whose token the chain needs: that of a session of IAM Identity Center, or of a sign-in session, where
+    /// the selected profile's plan begins with one.
     pub fn token_key(&self) -> Option<&TokenKey>
         ensures { option_copied result ≡ key_of self.now }
     {
         self.token_key.as_ref()
     }
 
-    /// What the chain keeps between calls, with nothing kept.
+    /// What the chain keeps between calls, with nothing kept. `OutOfMemory` where memory runs out.
     pub fn new_kept(&self) -> Result<Kept, OutOfMemory>
         ensures nothing { IfOk result (λ kept. states_of kept ≡ no_states) }
         ensures key { IfOk result (λ kept. kept_key kept ≡ key_of self.now) }
@@ -181,7 +182,8 @@ impl DefaultCredentialsChain {
     }
 
     /// The body of [`Self::provide_credentials`], over anything that can be asked. Where a question is
-    /// left open it stops there, and taken up again with one answer more it comes to the next.
+    /// left open it stops there with `Open`, and taken up again with one answer more it comes to the next.
+    /// It stops with `OutOfMemory` where memory runs out. The keeper has the key that the chain needs.
     pub fn follow<P: Keeper, A: Asking>(
         &self,
         sources: &[CustomSource],
@@ -238,15 +240,21 @@ impl DefaultCredentialsChain {
     ///
     /// # Errors
     ///
+    /// Those of instance metadata come only where no credentials that were retrieved from it are kept.
+    ///
     /// - `CredentialsNotLoaded` where no member was loaded. It tells of each member, in order.
     /// - `InvalidConfiguration` where the environment was passed over and the sections were refused, or
-    ///   the selected profile is at fault, or needs a provider that is not built; or where a container's
-    ///   token or address cannot be used.
+    ///   the selected profile is at fault, or names a source that nobody has; where a container's token or
+    ///   address cannot be used; or where the document of instance metadata is an error of the code
+    ///   `AssumeRoleUnauthorizedAccess`.
     /// - `ProviderError` where the base of the profile gives no credentials, or the exchange for a role
-    ///   failed or was refused, or its reply cannot be used; or where a file, a request or a reply of web
-    ///   identity or of a container failed.
-    /// - `Unhandled` where a variable that the environment needs is not Unicode, or a file or a reply of
-    ///   web identity or of a container cannot be read.
+    ///   failed or was refused, or its reply cannot be used; where a file of web identity or of a container
+    ///   fails, or the request of web identity failed or was refused; where a container's reply has no
+    ///   status of success, or tells of an error; or where instance metadata cannot be got, or its document
+    ///   is an error of another code.
+    /// - `Unhandled` where a variable that the environment needs is not Unicode; where the file of web
+    ///   identity is not UTF-8, or its reply gives no credentials; where a container did not answer, or its
+    ///   reply cannot be read; or where what instance metadata tells is no document.
     /// - `OutOfMemory` where memory runs out. The journal then has gained the beginning of such parts,
     ///   and each kept value is as the last finished holding left it.
     pub fn provide_credentials<D: Devices>(
@@ -271,6 +279,7 @@ impl DefaultCredentialsChain {
 
     /// What a caller may use where a call was interrupted: the credentials that were last retrieved from
     /// the instance metadata service for the chain, if any were. Nothing is asked, and what is kept stays.
+    /// `OutOfMemory` where memory runs out.
     pub fn fallback_on_interrupt(&self, kept: &Kept) -> Result<Option<Credentials>, OutOfMemory>
         ensures { IfOk result (λ c. c ≡ (place_states (states_of kept.now) Place.Chain).retrieved) }
     {

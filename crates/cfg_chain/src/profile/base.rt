@@ -38,7 +38,7 @@ use cfg_types::{
 use cfg_world::{Asking, Stop};
 use std::alloc::Global;
 
-/// The first credentials of a plan. An error of its base, whatever it is, is told as such.
+/// The first credentials of a plan. An error of its base, whatever it is, stands in `ProviderError(Base)`.
 #[tactic(auto, using(cfg_keeping::proofs::HoldingSteps::holding_steps), unfolding(crate::specs::profile::Bases::based))]
 pub(crate) fn follow_based<P: Keeper, A: Asking>(
     alloc: Global,
@@ -318,7 +318,7 @@ pub(crate) fn ask_metadata<P: Keeper, A: Asking>(
 }
 
 /// A container's credentials, at the address that the variables name. There is a resolver, 2 seconds to
-/// connect and 5 seconds to read.
+/// connect and 5 seconds to read, as aws-config has them.
 pub(crate) fn ask_container<A: Asking>(
     alloc: Global,
     config: &ProviderConfig,

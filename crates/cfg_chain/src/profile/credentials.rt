@@ -1,12 +1,11 @@
 //! The provider of a profile's credentials.
 ghost use Rattle.std.specs.Option.{option_copied};
-ghost use Rattle.std.specs.Prelude.{◌≡◌, IfOk, Some, true, false, option_map, string_bytes, unwrap_or};
+ghost use Rattle.std.specs.Prelude.{◌≡◌, IfOk, Some, true, false, option_map};
 ghost use Rattle.cfg_keeping.specs.Clients.{client_rules};
 ghost use Rattle.cfg_keeping.specs.Holds.{HoldsFollows};
 ghost use Rattle.cfg_keeping.specs.KeptStates.{kept_holdings, kept_key, states_of};
 ghost use Rattle.cfg_keeping.specs.Kinds.{no_states};
 ghost use Rattle.cfg_providers.specs.Provides.{is_memory};
-ghost use Rattle.cfg_region.specs.ProfileSetups.{with_name as with_name_of};
 ghost use Rattle.cfg_sso.specs.Tokens.{HasKey};
 ghost use Rattle.cfg_chain.specs.Settings.{setting, lends};
 ghost use Rattle.cfg_chain.specs.Sources.{named_sources, services_in};
@@ -22,13 +21,14 @@ use cfg_imds::Client;
 use cfg_keeping::{Keeper, Kept, TokenKey};
 use cfg_profile::{ProfileSource, ProviderConfig};
 use cfg_providers::CustomSource;
+use cfg_region::profile::settings::configured_by;
 use cfg_types::{Credentials, CredentialsError, OutOfMemory, TryCopy, copy_option};
 use cfg_world::{Asking, Devices, Stop, World};
 use std::alloc::Global;
 use std::marker::Model;
 
-/// The credentials of the selected profile. Contracts see its configuration. It keeps nothing between its
-/// calls.
+/// The credentials of the selected profile. Contracts see its configuration. What is kept between its calls is
+/// lent to each of them.
 pub struct ProfileFileCredentialsProvider {
     alloc: Global,
     config: ProviderConfig,
@@ -62,7 +62,7 @@ impl Model for ProfileFileCredentialsProvider {
 impl ProfileFileCredentialsProvider {
     ghost use Rattle.cfg_region.specs.ProfileSetups.{no_profile_set};
 
-    /// A builder with no variables and no sections.
+    /// A builder with no variables and no sections. `OutOfMemory` where memory runs out.
     pub fn builder(alloc: Global) -> Result<Builder, OutOfMemory>
         ensures { IfOk result (λ b. b ≡ no_profile_set) }
     {
@@ -77,7 +77,7 @@ impl ProfileFileCredentialsProvider {
         self.token_key.as_ref()
     }
 
-    /// What the provider keeps between calls, with nothing kept.
+    /// What the provider keeps between calls, with nothing kept. `OutOfMemory` where memory runs out.
     pub fn new_kept(&self) -> Result<Kept, OutOfMemory>
         ensures nothing { IfOk result (λ kept. states_of kept ≡ no_states) }
         ensures key { IfOk result (λ kept. kept_key kept ≡ key_of self.now) }
@@ -87,7 +87,8 @@ impl ProfileFileCredentialsProvider {
     }
 
     /// The body of [`Self::provide_credentials`], over anything that can be asked. Where a question is
-    /// left open it stops there, and taken up again with one answer more it comes to the next.
+    /// left open it stops there with `Open`, and taken up again with one answer more it comes to the next.
+    /// It stops with `OutOfMemory` where memory runs out. The keeper has the key that the provider needs.
     pub fn follow<P: Keeper, A: Asking>(
         &self,
         sources: &[CustomSource],
@@ -135,8 +136,9 @@ impl ProfileFileCredentialsProvider {
     ///
     /// # Errors
     ///
-    /// - `CredentialsNotLoaded` where there is no selected profile, or it has no credentials, or a token in
-    ///   their place.
+    /// - `CredentialsNotLoaded` where there is no selected profile, or one on its path is missing; or where it
+    ///   has no credentials, or a token in their place, or lacks the region or the start URL of IAM Identity
+    ///   Center.
     /// - `InvalidConfiguration` where the sections were refused, or the selected profile is at fault, or
     ///   names a source that nobody has.
     /// - `ProviderError(Base)` around the base's error, where it gives no credentials.
@@ -202,7 +204,7 @@ impl Model for Builder {
 impl Builder {
     ghost use Rattle.cfg_region.specs.ProfileSetups.{no_profile_set, profile_configured};
 
-    /// A builder with no variables and no sections.
+    /// A builder with no variables and no sections. `OutOfMemory` where memory runs out.
     pub fn new(alloc: Global) -> Result<Builder, OutOfMemory>
         ensures { IfOk result (λ b. b ≡ no_profile_set) }
     {
@@ -215,7 +217,7 @@ impl Builder {
         })
     }
 
-    /// With a copy of this configuration, in place of the one that it had.
+    /// With a copy of this configuration, in place of the one that it had. `OutOfMemory` where memory runs out.
     pub fn configure(mut self, config: &ProviderConfig) -> Result<Builder, OutOfMemory>
         ensures { IfOk result (λ b. b ≡ record self { configuration = config.now }) }
     {
@@ -223,7 +225,8 @@ impl Builder {
         Ok(self)
     }
 
-    /// The profile of this name, whatever the configuration says.
+    /// The profile of this name, whatever the configuration and the environment say. `OutOfMemory` where
+    /// memory runs out.
     pub fn profile_name(mut self, name: &str) -> Result<Builder, OutOfMemory>
         ensures { IfOk result (λ b. b ≡ record self { profile_name = Some name.now }) }
     {
@@ -240,6 +243,7 @@ impl Builder {
     }
 
     /// The provider. Whose token it needs is read from the selected profile now. Nothing is asked.
+    /// `OutOfMemory` where memory runs out.
     pub fn build(self) -> Result<ProfileFileCredentialsProvider, OutOfMemory>
         ensures { IfOk result (λ p. p ≡ profile_configured self) }
     {
@@ -249,37 +253,12 @@ impl Builder {
             profile_name,
             profiles,
         } = self;
-        let config = with_profiles(config, profiles);
-        let config = with_name(alloc, config, profile_name)?;
+        let config = configured_by(alloc, config, profile_name, profiles)?;
         let token_key = token_key_of(alloc, &config)?;
         Ok(ProfileFileCredentialsProvider {
             alloc,
             config,
             token_key,
         })
-    }
-}
-
-/// The configuration with this name of a profile, where one was given, in place of its own.
-pub(crate) fn with_name(
-    alloc: Global,
-    config: ProviderConfig,
-    name: Option<String>,
-) -> Result<ProviderConfig, OutOfMemory>
-    ensures { IfOk result (λ c. c ≡ with_name_of (option_map (λ s. string_bytes s) name) config) }
-{
-    match name {
-        None => Ok(config),
-        Some(name) => config.with_profile_name(alloc, name.as_str()),
-    }
-}
-
-// With these sections in place of the configuration's, where there are some.
-fn with_profiles(config: ProviderConfig, profiles: Option<ProfileSource>) -> ProviderConfig
-    ensures { result ≡ record config { profiles = unwrap_or profiles config.profiles } }
-{
-    match profiles {
-        None => config,
-        Some(profiles) => config.with_profiles(profiles),
     }
 }

@@ -16,7 +16,8 @@ use cfg_world::{Halt, Stop};
 use std::alloc::Global;
 
 /// What the selected profile gives credentials by, or why it gives none. The caller has sources of
-/// these names.
+/// these names. It is `InvalidProfile` with the reason where the sections were refused, and else an error
+/// of [`plan_of_profile`]. It stops with `OutOfMemory` where memory runs out.
 #[tactic(auto, unfolding(crate::specs::profile::Plans::plan))]
 pub fn plan_of(
     alloc: Global,
@@ -52,7 +53,9 @@ fn plan_in(
     }
 }
 
-/// What the provider of profiles answers where there is no plan.
+/// What the provider of profiles answers where there is no plan: `CredentialsNotLoaded` where profiles,
+/// credentials or a profile on the path are missing, or the profile gives a token alone, and else
+/// `InvalidConfiguration`.
 pub(crate) fn refusal(error: ProfileFileError) -> CredentialsError
     ensures { result ≡ refusal_of error }
 {

@@ -17,7 +17,9 @@ use cfg_types::{AwsCredentialFeature, Credentials, CredentialsError, OutOfMemory
 use cfg_world::{Asking, Halt, Stop};
 use std::alloc::Global;
 
-/// Asks the base of the selected profile, assumes its roles, and answers the last one's credentials.
+/// Asks the base of the selected profile, assumes its roles, and answers the last one's credentials, or the
+/// error of the plan, of the base or of the exchange. It stops with `Open` at a question that is left open, and
+/// with `OutOfMemory` where memory runs out.
 #[tactic(auto, using(cfg_keeping::proofs::HoldingSteps::holding_steps), unfolding(crate::specs::profile::Profiles::profile))]
 pub fn follow_profile<P: Keeper, A: Asking>(
     alloc: Global,

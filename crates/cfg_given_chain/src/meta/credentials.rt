@@ -29,7 +29,8 @@ use cfg_world::{Asking, Devices, Stop, World};
 use std::alloc::Global;
 use std::marker::PhantomData;
 
-/// A chain of credentials providers. It asks its members in order.
+/// A chain of credentials providers. It asks its members in order. What is kept between its calls is lent to each
+/// of them.
 #[derive(Drop)]
 pub struct CredentialsProviderChain {
     alloc: Global,
@@ -47,7 +48,7 @@ impl CredentialsProviderChain {
         }
     }
 
-    /// A chain that begins with this member, which it tells of by this name.
+    /// A chain that begins with this member, which it tells of by this name. `OutOfMemory` where memory runs out.
     pub fn first_try(
         alloc: Global,
         name: &str,
@@ -58,7 +59,8 @@ impl CredentialsProviderChain {
         CredentialsProviderChain::empty(alloc).or_else(name, member)
     }
 
-    /// The chain with this member behind the others, which it tells of by this name.
+    /// The chain with this member behind the others, which it tells of by this name. `OutOfMemory` where memory
+    /// runs out.
     pub fn or_else(
         mut self,
         name: &str,
@@ -126,7 +128,8 @@ impl CredentialsProviderChain {
         Ok(lent)
     }
 
-    /// What the chain keeps between calls, for each member in order, with nothing kept.
+    /// What the chain keeps between calls, for each member in order, with nothing kept. `OutOfMemory` where
+    /// memory runs out.
     pub fn new_kept(&self) -> Result<Vec<Kept>, OutOfMemory>
         ensures nothing { IfOk result (λ kept. map states_of kept.items ≡ map (λ _. no_states) (members_of value fallback (of_box repeated) self.now)) }
         ensures keys { IfOk result (λ kept. map kept_key kept.items ≡ map needed_in (members_of value fallback (of_box repeated) self.now)) }
@@ -136,7 +139,9 @@ impl CredentialsProviderChain {
     }
 
     /// The body of [`Self::provide_credentials`], over anything that can be asked. Where a question is
-    /// left open it stops there, and taken up again with one answer more it comes to the next.
+    /// left open it stops there with `Open`, and taken up again with one answer more it comes to the next.
+    /// It stops with `OutOfMemory` where memory runs out. What is kept is one value for each
+    /// member, in order, as [`Self::new_kept`] makes it.
     pub fn follow<A: Asking>(
         &self,
         sources: &[CustomSource],
@@ -156,8 +161,9 @@ impl CredentialsProviderChain {
 
     /// Asks the members in order, and answers what the first one that was loaded gives. Members that were
     /// not loaded are passed over, and any other error is the answer. The sources and the metadata client
-    /// are the caller's own, for members that are profiles or default chains, or stand on one. What is kept is one value
-    /// for each member, in order, each of a provider with the member's key, as [`Self::new_kept`] makes it.
+    /// are the caller's own, for members that are profiles or default chains, or stand on one. What is kept
+    /// is one value for each member, in order, each of a provider with the member's key, as
+    /// [`Self::new_kept`] makes it.
     ///
     /// The world's journal gains the members' parts and nothing else. The lists of the values that were
     /// found are those of this call alone.
@@ -189,7 +195,7 @@ impl CredentialsProviderChain {
     /// What a caller may use where a call was interrupted: the first member's credentials that are there,
     /// in order. They are those that were last retrieved from instance metadata, of a provider of metadata
     /// and of a default chain, and what a source of the caller's own falls back on. Nothing is asked, and
-    /// what is kept stays.
+    /// what is kept stays. `OutOfMemory` where memory runs out.
     pub fn fallback_on_interrupt(&self, kept: &[Kept]) -> Result<Option<Credentials>, OutOfMemory>
         requires { map kept_key kept.now ≡ map needed_in (members_of value fallback (of_box repeated) self.now) }
         ensures { IfOk result (λ keys. keys ≡ first_there fallback_in (members_of value fallback (of_box repeated) self.now) (map states_of kept.now)) }

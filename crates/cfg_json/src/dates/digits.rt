@@ -1,8 +1,10 @@
+//! The digits of dates.
 ghost use Rattle.std.specs.Prelude.{◌≡◌, ◌<◌, ◌≤◌, option_map, IfSome};
 ghost use Rattle.cfg_json.specs.ReadingDates.{digit, two_at, four_at, next_at, either_at};
 
 use crate::white_space::skip_mark;
 
+/// The number of a decimal digit; none where the byte is no digit.
 pub fn digit_of(byte: u8) -> Option<u32>
     ensures value { result ≡ digit byte }
     ensures small { IfSome result (λ d. d ≤ 9) }
@@ -14,6 +16,7 @@ pub fn digit_of(byte: u8) -> Option<u32>
     }
 }
 
+/// The number of the two digits at the front, and what follows them; none where they do not stand there.
 #[tactic(auto, unfolding(crate::specs::ReadingDates::two_at))]
 pub fn read_two(text: &[u8]) -> Option<(u16, &[u8])>
     ensures value { option_map (λ p. (p.0, p.1.now)) result ≡ two_at text.now }
@@ -27,6 +30,7 @@ pub fn read_two(text: &[u8]) -> Option<(u16, &[u8])>
     Some((a * 10 + b, rest))
 }
 
+/// The number of the four digits at the front, and what follows them; none where they do not stand there.
 #[tactic(auto, unfolding(crate::specs::ReadingDates::four_at))]
 pub fn read_four(text: &[u8]) -> Option<(u16, &[u8])>
     ensures value { option_map (λ p. (p.0, p.1.now)) result ≡ four_at text.now }
@@ -37,7 +41,7 @@ pub fn read_four(text: &[u8]) -> Option<(u16, &[u8])>
     Some((a * 100 + b, rest))
 }
 
-/// Two digits behind the byte.
+/// The number of two digits behind the byte, and what follows them; none where they do not stand there.
 #[tactic(auto, unfolding(crate::specs::ReadingDates::next_at))]
 pub fn read_next(byte: u8, text: &[u8]) -> Option<(u16, &[u8])>
     ensures value { option_map (λ p. (p.0, p.1.now)) result ≡ next_at byte text.now }
@@ -47,7 +51,7 @@ pub fn read_next(byte: u8, text: &[u8]) -> Option<(u16, &[u8])>
     read_two(rest)
 }
 
-/// What follows one of two bytes.
+/// What follows one of two bytes, which has to stand at the front; none where neither does.
 #[tactic(auto, unfolding(crate::specs::ReadingDates::either_at))]
 pub fn skip_either(one: u8, other: u8, text: &[u8]) -> Option<&[u8]>
     ensures { option_map (λ r. r.now) result ≡ either_at one other text.now }

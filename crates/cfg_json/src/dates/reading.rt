@@ -1,3 +1,4 @@
+//! Dates that are read.
 ghost use Rattle.std.specs.Prelude.{◌≡◌, ◌≤◌, ◌<◌, ◌+◌, ◌*◌, ℤ, pos, negsuc, ◌≤ℤ◌, ◌-ℤ◌, true, false, IsTrue, IfSome, Some, option_map};
 ghost use Rattle.jiff_core.specs.Calendar.{days_from_civil, IsEpochDay};
 ghost use Rattle.cfg_values.specs.Moment.{Moment};
@@ -210,8 +211,8 @@ fn read_moment(text: &[u8], offsets: bool) -> Option<Instant>
 }
 
 /// The moment that a date in UTC stands for, as `2009-02-13T23:31:30.5Z` (RFC 3339, section 5.6):
-/// a year of 1 to 9999, and a fraction of at most nine digits. None exactly where the text is no
-/// such date.
+/// a year of 1 to 9999, a fraction of a second of at most nine digits, and no leap second. `T` and `Z` may
+/// be small letters. None exactly where the text is no such date.
 pub fn parse_date(text: &str) -> Option<Instant>
     ensures found { IfSome result (IsDateText (characters text.now)) }
     ensures only { (m : Moment) → IsDateText (characters text.now) m → result ≡ Some m }
@@ -221,7 +222,8 @@ pub fn parse_date(text: &str) -> Option<Instant>
 }
 
 /// The moment that a date in UTC or with an offset stands for, as `2009-02-14T01:31:30+02:00`: with
-/// an offset it is the local time less the offset. None exactly where the text is no such date.
+/// an offset, of at most 23:59, it is the local time less the offset. All else is as [`parse_date`] says.
+/// None exactly where the text is no such date.
 pub fn parse_offset_date(text: &str) -> Option<Instant>
     ensures found { IfSome result (IsOffsetDateText (characters text.now)) }
     ensures only { (m : Moment) → IsOffsetDateText (characters text.now) m → result ≡ Some m }

@@ -1,3 +1,4 @@
+//! Dates that are written.
 ghost use Rattle.std.specs.Prelude.{◌≡◌, ◌<◌, ◌≤◌, ◌+◌, ◌*◌, ◌++◌, ◌∷◌, [], pos, ◌+ℤ◌, ◌*ℤ◌, ◌-ℤ◌, negsuc, ◌<ℤ◌, ◌⊎◌, OnOk, IfOk, IfSome, IfNone, None};
 ghost use Rattle.std.specs.Int.{int_rem_euclid};
 ghost use Rattle.jiff_core.specs.Calendar.{days_from_civil};
@@ -215,9 +216,9 @@ fn spell(alloc: Global, local: LocalTime, nanos: u32) -> Result<Text, OutOfMemor
     }
 }
 
-/// The text of the date in UTC that stands for the moment, as `2009-02-13T23:31:30.5Z`, with as few
-/// digits of a second as it needs. None exactly where the moment is before the year 1 or after the
-/// year 9999.
+/// The text of the date in UTC (RFC 3339, section 5.6) that stands for the moment, as
+/// `2009-02-13T23:31:30.5Z`, with as few digits of the fraction of a second as it needs, and none for a whole
+/// second. None exactly where the moment is before the year 1 or after the year 9999.
 ///
 /// # Errors
 ///

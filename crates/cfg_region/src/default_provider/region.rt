@@ -1,5 +1,5 @@
 //! The default chain of regions.
-ghost use Rattle.std.specs.Prelude.{◌≡◌, ◌∷◌, [], IfOk, OnErr, Some, option_map, string_bytes};
+ghost use Rattle.std.specs.Prelude.{◌≡◌, ◌∷◌, [], IfOk, OnErr, Some};
 ghost use Rattle.cfg_world.specs.Follows.{Follows};
 ghost use Rattle.cfg_imds.specs.Calls.{CallBreaks};
 ghost use Rattle.cfg_world.specs.Inquiry.{Done};
@@ -8,11 +8,11 @@ ghost use Rattle.cfg_region.specs.Chains.{first_given};
 ghost use Rattle.cfg_region.specs.Defaults.{client_at, default_trees, default_tree, IsDefault};
 ghost use Rattle.cfg_region.specs.Metadata.{metadata_region};
 ghost use Rattle.cfg_region.specs.Profiles.{profile_region};
-ghost use Rattle.cfg_region.specs.ProfileSetups.{with_name};
 
 use crate::environment::region::region_of_environment;
 use crate::imds::region::follow_metadata;
 use crate::profile::region::region_by_name;
+use crate::profile::settings::with_name;
 use cfg_imds::{Client, Endpoint, endpoint_of};
 use cfg_profile::{ProviderConfig, selected_name};
 use cfg_types::{OutOfMemory, Region, TryCopy};
@@ -20,13 +20,11 @@ use cfg_world::{Asking, Devices, Stop, World};
 use std::alloc::Global;
 use std::marker::Model;
 
-/// The default chain of regions: the environment's variables, the selected profile, instance metadata.
-/// Contracts see its configuration, the name of its profile where one was given, and where it asks instance
-/// metadata.
+/// The default chain of regions, as aws-config has it: the environment's variables, the selected profile,
+/// instance metadata. Contracts see its configuration, and where it asks instance metadata.
 pub struct DefaultRegionChain {
     alloc: Global,
     config: ProviderConfig,
-    profile_name: Option<String>,
     endpoint: Endpoint,
 }
 
@@ -35,14 +33,13 @@ impl Drop for DefaultRegionChain {
         let DefaultRegionChain {
             alloc: _,
             config: _,
-            profile_name: _,
             endpoint: _,
         } = self;
     }
 }
 
 impl Model for DefaultRegionChain {
-    ghost use Rattle.std.specs.Prelude.{None, option_map, string_bytes};
+    ghost use Rattle.std.specs.Prelude.{None};
     ghost use Rattle.cfg_imds.specs.Endpoints.{IsEndpoint};
     ghost use Rattle.cfg_region.specs.Defaults.{DefaultRegions, default_regions_code};
 
@@ -52,7 +49,6 @@ impl Model for DefaultRegionChain {
 
     ghost view = { λ c. record {
       configuration = c.config;
-      profile_name = option_map (λ s. string_bytes s) c.profile_name;
       endpoint = c.endpoint;
     } };
 
@@ -62,26 +58,24 @@ impl Model for DefaultRegionChain {
 impl DefaultRegionChain {
     ghost use Rattle.cfg_region.specs.DefaultSetups.{nothing_set};
 
-    /// A builder with no variables and no sections.
+    /// A builder with no variables and no sections. `OutOfMemory` where memory runs out.
     pub fn builder(alloc: Global) -> Result<Builder, OutOfMemory>
         ensures { IfOk result (λ b. b ≡ nothing_set) }
     {
         Builder::new(alloc)
     }
 
-    // The chain of this configuration, whose profile has this name where one is given.
+    // The chain of this configuration.
     pub(crate) fn of(
         alloc: Global,
         config: ProviderConfig,
-        profile_name: Option<String>,
     ) -> Result<DefaultRegionChain, OutOfMemory>
-        ensures { IfOk result (IsDefault config (option_map (λ s. string_bytes s) profile_name)) }
+        ensures { IfOk result (IsDefault config) }
     {
         let endpoint = endpoint_of(alloc, &config, &None, None)?;
         Ok(DefaultRegionChain {
             alloc,
             config,
-            profile_name,
             endpoint,
         })
     }
@@ -93,20 +87,19 @@ impl DefaultRegionChain {
         let DefaultRegionChain {
             alloc: _,
             config,
-            profile_name: _,
             endpoint: _,
         } = self;
         config
     }
 
     fn profile_region(&self) -> Result<Option<Region>, OutOfMemory>
-        ensures { IfOk result (λ region. region ≡ profile_region (with_name self.now.profile_name self.now.configuration)) }
+        ensures { IfOk result (λ region. region ≡ profile_region self.now.configuration) }
     {
-        let name = match &self.profile_name {
-            Some(name) => name.as_str(),
-            None => selected_name(&self.config),
-        };
-        region_by_name(self.alloc, self.config.profiles(), name)
+        region_by_name(
+            self.alloc,
+            self.config.profiles(),
+            selected_name(&self.config),
+        )
     }
 
     // The metadata client is made now. It asks where the chain has it.
@@ -121,7 +114,7 @@ impl DefaultRegionChain {
     // The profile, and then metadata.
     #[tactic(auto, using(crate::proofs::RegionSteps::region_steps))]
     fn follow_profile<A: Asking>(&self, asking: &mut A) -> Result<Option<Region>, Stop>
-        ensures { Follows ⟦<A as Asking>⟧ (first_given (Done (profile_region (with_name self.now.profile_name self.now.configuration)) ∷ metadata_region self.now.configuration.environment (client_at self.now.configuration self.now.endpoint) ∷ [])) asking.old asking.new result }
+        ensures { Follows ⟦<A as Asking>⟧ (first_given (Done (profile_region self.now.configuration) ∷ metadata_region self.now.configuration.environment (client_at self.now.configuration self.now.endpoint) ∷ [])) asking.old asking.new result }
     {
         match self.profile_region()? {
             Some(region) => Ok(Some(region)),
@@ -130,6 +123,10 @@ impl DefaultRegionChain {
     }
 
     /// The body of [`Self::region`], over anything that can be asked.
+    ///
+    /// # Errors
+    ///
+    /// `Stop::OutOfMemory` where memory runs out, `Stop::Open` where an answer is not known yet.
     #[tactic(auto, using(crate::proofs::RegionSteps::region_steps), unfolding(crate::specs::Defaults::default_tree))]
     pub fn follow<A: Asking>(&self, asking: &mut A) -> Result<Option<Region>, Stop>
         ensures { Follows ⟦<A as Asking>⟧ (default_tree self.now) asking.old asking.new result }
@@ -146,7 +143,8 @@ impl DefaultRegionChain {
     ///
     /// # Errors
     ///
-    /// `OutOfMemory` where memory runs out. The journal then has gained the beginning of such parts.
+    /// `OutOfMemory` where memory runs out. The journal then has gained the beginning of what the call asks, or
+    /// nothing.
     pub fn region<D: Devices>(&self, world: &mut World<D>) -> Result<Option<Region>, OutOfMemory>
         ensures tells { IfOk result (λ region. Tells ⟦<D as Devices>⟧ (default_trees self.now) world.old world.new region) }
         ensures breaks { OnErr result (CallBreaks ⟦<D as Devices>⟧ (default_tree self.now) world.old world.new) }
@@ -191,9 +189,9 @@ impl Model for Builder {
 }
 
 impl Builder {
-    ghost use Rattle.cfg_region.specs.DefaultSetups.{nothing_set};
+    ghost use Rattle.cfg_region.specs.DefaultSetups.{nothing_set, default_configured};
 
-    /// A builder with no variables and no sections.
+    /// A builder with no variables and no sections. `OutOfMemory` where memory runs out.
     pub fn new(alloc: Global) -> Result<Builder, OutOfMemory>
         ensures { IfOk result (λ b. b ≡ nothing_set) }
     {
@@ -205,7 +203,7 @@ impl Builder {
         })
     }
 
-    /// With a copy of this configuration, in place of the one that it had.
+    /// With a copy of this configuration, in place of the one that it had. `OutOfMemory` where memory runs out.
     pub fn configure(mut self, config: &ProviderConfig) -> Result<Builder, OutOfMemory>
         ensures { IfOk result (λ b. b ≡ record self { configuration = config.now }) }
     {
@@ -213,8 +211,8 @@ impl Builder {
         Ok(self)
     }
 
-    /// The profile of this name is asked for its region, whatever the configuration says. Where instance
-    /// metadata is asked is read from the configuration's own.
+    /// The profile of this name, whatever the configuration says. It is asked for its region, and it says where
+    /// instance metadata is asked. `OutOfMemory` where memory runs out.
     pub fn profile_name(mut self, name: &str) -> Result<Builder, OutOfMemory>
         ensures { IfOk result (λ b. b ≡ record self { profile_name = Some name.now }) }
     {
@@ -222,16 +220,17 @@ impl Builder {
         Ok(self)
     }
 
-    /// The chain. Where instance metadata is asked is read from the configuration now, and nothing is asked
-    /// for it.
+    /// The chain. Where instance metadata is asked is read from the selected profile now, and nothing is asked
+    /// for it. `OutOfMemory` where memory runs out.
     pub fn build(self) -> Result<DefaultRegionChain, OutOfMemory>
-        ensures { IfOk result (IsDefault self.configuration self.profile_name) }
+        ensures { IfOk result (IsDefault (default_configured self)) }
     {
         let Builder {
             alloc,
             config,
             profile_name,
         } = self;
-        DefaultRegionChain::of(alloc, config, profile_name)
+        let config = with_name(alloc, config, profile_name)?;
+        DefaultRegionChain::of(alloc, config)
     }
 }

@@ -29,8 +29,9 @@ fn named(env: &Env) -> Option<&str>
     }
 }
 
-/// The region that the variables name: a readable `AWS_REGION`, else a readable `AWS_DEFAULT_REGION`. One
-/// that is set and empty is an answer, and one that is not Unicode is none.
+/// The region that the variables name, as aws-config reads them: a readable `AWS_REGION`, else a readable
+/// `AWS_DEFAULT_REGION`. One that is set and empty is an answer, and one that is not Unicode is none.
+/// Neither is trimmed. `OutOfMemory` where memory runs out.
 pub fn region_of_environment(alloc: Global, env: &Env) -> Result<Option<Region>, OutOfMemory>
     ensures { IfOk result (λ region. region ≡ environment_region env.now) }
 {
@@ -75,7 +76,7 @@ impl EnvironmentVariableRegionProvider {
         EnvironmentVariableRegionProvider { alloc, env }
     }
 
-    /// The region, by the rule of [`region_of_environment`].
+    /// The region, by the rule of [`region_of_environment`] and with its error. Nothing is asked.
     pub fn region(&self) -> Result<Option<Region>, OutOfMemory>
         ensures { IfOk result (λ region. region ≡ environment_region self.now) }
     {

@@ -31,7 +31,7 @@ pub(crate) fn follow_metadata<A: Asking>(
 }
 
 /// The region of a machine of Amazon EC2, as its instance metadata service tells it. It asks by session
-/// tokens alone (IMDSv2).
+/// tokens alone (IMDSv2, EC2 User Guide).
 #[derive(Drop)]
 pub struct ImdsRegionProvider {
     alloc: Global,
@@ -42,7 +42,7 @@ pub struct ImdsRegionProvider {
 impl ImdsRegionProvider {
     ghost use Rattle.cfg_region.specs.MetadataSetups.{builder_of, provider_of, client_alone};
 
-    /// A builder with this client, with no variables.
+    /// A builder with this client and no variables. `OutOfMemory` where memory runs out.
     pub fn builder(alloc: Global, client: Client) -> Result<Builder, OutOfMemory>
         ensures { IfOk result (λ b. builder_of repeated b ≡ client_alone (client_rules repeated client)) }
     {
@@ -50,6 +50,10 @@ impl ImdsRegionProvider {
     }
 
     /// The body of [`Self::region`], over anything that can be asked.
+    ///
+    /// # Errors
+    ///
+    /// `Stop::OutOfMemory` where memory runs out, `Stop::Open` where an answer is not known yet.
     pub fn follow<A: Asking>(
         &self,
         kept: &mut Option<MetadataToken>,
@@ -69,11 +73,13 @@ impl ImdsRegionProvider {
 
     /// The region: the text at `/latest/meta-data/placement/region`. None where `AWS_EC2_METADATA_DISABLED`
     /// is `true`, whatever the ASCII case of its letters, and nothing is asked then; none, too, after each
-    /// error of the client but that memory ran out. The session token is settled on the one that is kept.
+    /// error of the client but that memory ran out. The session token is settled on the one that is kept, and
+    /// what that settles is kept; where nothing is asked, what is kept is as it was.
     ///
     /// # Errors
     ///
-    /// `OutOfMemory` where memory runs out. The journal then has gained the beginning of such a part.
+    /// `OutOfMemory` where memory runs out. The journal then has gained the beginning of what the call asks, or
+    /// nothing, and what is kept is as it was or as a finished settling left it.
     pub fn region<D: Devices>(
         &self,
         state: &mut ImdsTokenState,
@@ -120,7 +126,7 @@ pub struct Builder {
 impl Builder {
     ghost use Rattle.cfg_region.specs.MetadataSetups.{builder_of, provider_of, client_alone};
 
-    /// A builder with this client, with no variables.
+    /// A builder with this client and no variables. `OutOfMemory` where memory runs out.
     pub fn new(alloc: Global, client: Client) -> Result<Builder, OutOfMemory>
         ensures { IfOk result (λ b. builder_of repeated b ≡ client_alone (client_rules repeated client)) }
     {
@@ -128,7 +134,8 @@ impl Builder {
         Ok(Builder { alloc, env, client })
     }
 
-    /// With a copy of the variables of this configuration, which may switch metadata off.
+    /// With a copy of the variables of this configuration, which may switch metadata off, and with nothing else
+    /// of it: the client is as it was. `OutOfMemory` where memory runs out.
     pub fn configure(mut self, config: &ProviderConfig) -> Result<Builder, OutOfMemory>
         ensures { IfOk result (λ b. builder_of repeated b ≡ record (builder_of repeated self) { variables = config.now.environment }) }
     {

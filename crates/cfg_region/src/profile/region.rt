@@ -1,14 +1,16 @@
 //! The region of the selected profile.
-ghost use Rattle.std.specs.Prelude.{◌≡◌, IfOk, Some, option_map, unwrap_or};
+ghost use Rattle.std.specs.Prelude.{◌≡◌, IfOk, Some, option_map};
 ghost use Rattle.cfg_region.specs.Profiles.{region_in, profile_region};
 
+use crate::profile::settings::configured_by;
 use cfg_profile::{ProfileSource, ProviderConfig, region_of_profile, selected_name};
 use cfg_types::{OutOfMemory, Region, TryCopy};
 use std::alloc::Global;
 use std::marker::Model;
 
-/// The region of the profile of this name: its own, else that of its `source_profile`, and so on. A path of
-/// sources that comes back, or that leads to no profile, has none, and refused sections have none.
+/// The region of the profile of this name: its own `region`, also an empty one, else that of its
+/// `source_profile`, and so on. None where that comes back, leads to no profile, or ends at a profile with
+/// neither key; refused sections have none. `OutOfMemory` where memory runs out.
 pub fn region_by_name(
     alloc: Global,
     profiles: &ProfileSource,
@@ -60,15 +62,16 @@ impl ProfileFileRegionProvider {
         ProfileFileRegionProvider { alloc, config }
     }
 
-    /// A builder with no variables and no sections.
+    /// A builder with no variables and no sections. `OutOfMemory` where memory runs out.
     pub fn builder(alloc: Global) -> Result<Builder, OutOfMemory>
         ensures { IfOk result (λ b. b ≡ no_profile_set) }
     {
         Builder::new(alloc)
     }
 
-    /// The region of the selected profile, by the rule of [`region_by_name`]. Selected is the profile whose
-    /// name the configuration was given, else that of a readable `AWS_PROFILE`, else `default`.
+    /// The region of the selected profile, by the rule of [`region_by_name`] and with its error. Selected is the
+    /// profile whose name the configuration was given, else that of a readable `AWS_PROFILE`, else `default`.
+    /// Nothing is asked.
     pub fn region(&self) -> Result<Option<Region>, OutOfMemory>
         ensures { IfOk result (λ region. region ≡ profile_region self.now) }
     {
@@ -118,7 +121,7 @@ impl Model for Builder {
 impl Builder {
     ghost use Rattle.cfg_region.specs.ProfileSetups.{no_profile_set, profile_configured};
 
-    /// A builder with no variables and no sections.
+    /// A builder with no variables and no sections. `OutOfMemory` where memory runs out.
     pub fn new(alloc: Global) -> Result<Builder, OutOfMemory>
         ensures { IfOk result (λ b. b ≡ no_profile_set) }
     {
@@ -131,7 +134,7 @@ impl Builder {
         })
     }
 
-    /// With a copy of this configuration, in place of the one that it had.
+    /// With a copy of this configuration, in place of the one that it had. `OutOfMemory` where memory runs out.
     pub fn configure(mut self, config: &ProviderConfig) -> Result<Builder, OutOfMemory>
         ensures { IfOk result (λ b. b ≡ record self { configuration = config.now }) }
     {
@@ -139,7 +142,7 @@ impl Builder {
         Ok(self)
     }
 
-    /// The profile of this name, whatever the configuration says.
+    /// The profile of this name, whatever the configuration says. `OutOfMemory` where memory runs out.
     pub fn profile_name(mut self, name: &str) -> Result<Builder, OutOfMemory>
         ensures { IfOk result (λ b. b ≡ record self { profile_name = Some name.now }) }
     {
@@ -147,7 +150,7 @@ impl Builder {
         Ok(self)
     }
 
-    /// With these sections, or their refusal, whatever the configuration has.
+    /// With these sections, or why they were refused, whatever the configuration has.
     pub fn profiles(mut self, profiles: ProfileSource) -> Builder
         ensures { result ≡ record self { profiles = Some profiles } }
     {
@@ -155,7 +158,8 @@ impl Builder {
         self
     }
 
-    /// The provider.
+    /// The provider, over the configuration with the name and the sections that were set. `OutOfMemory` where
+    /// memory runs out.
     pub fn build(self) -> Result<ProfileFileRegionProvider, OutOfMemory>
         ensures { IfOk result (λ p. p ≡ profile_configured self) }
     {
@@ -165,21 +169,7 @@ impl Builder {
             profile_name,
             profiles,
         } = self;
-        let config = with_profiles(config, profiles);
-        let config = match profile_name {
-            None => config,
-            Some(name) => config.with_profile_name(alloc, name.as_str())?,
-        };
+        let config = configured_by(alloc, config, profile_name, profiles)?;
         Ok(ProfileFileRegionProvider { alloc, config })
-    }
-}
-
-// With these sections in place of the configuration's, where there are some.
-fn with_profiles(config: ProviderConfig, profiles: Option<ProfileSource>) -> ProviderConfig
-    ensures { result ≡ record config { profiles = unwrap_or profiles config.profiles } }
-{
-    match profiles {
-        None => config,
-        Some(profiles) => config.with_profiles(profiles),
     }
 }

@@ -5,16 +5,17 @@ use std::fmt;
 /// Why a container's credentials are not fetched from an address.
 #[derive(Clone, Copy, Debug, PartialEq, Eq)]
 pub enum InvalidFullUriError {
-    /// It is no URI.
+    /// It is no URI, or it has a host and no scheme.
     InvalidUri,
-    /// Its host is a name, and names cannot be looked up.
+    /// Its host is a name, and there is no resolver to look it up.
     NoDnsResolver,
     /// It has no host.
     MissingHost,
-    /// Its host has an address that is not allowed.
+    /// Its host is an address that is not allowed, or a name that has one. Only HTTPS may go there.
     DisallowedIP,
     /// Its host could not be looked up.
     DnsLookupFailed,
+    /// Memory ran out.
     OutOfMemory,
 }
 

@@ -13,14 +13,18 @@ use std::fmt;
 /// Which address of the instance metadata service is used.
 #[derive(Clone, Copy, Debug, PartialEq, Eq)]
 pub enum EndpointMode {
+    /// `http://169.254.169.254`.
     IpV4,
+    /// `http://[fd00:ec2::254]`.
     IpV6,
 }
 
-/// A text that names no mode.
+/// Why a text gives no mode.
 #[derive(Debug, PartialEq, Eq)]
 pub enum InvalidEndpointMode {
+    /// This text is neither `IPv4` nor `IPv6`, whatever the ASCII case.
     Mode(Text),
+    /// Memory ran out.
     OutOfMemory,
 }
 
@@ -36,8 +40,11 @@ impl Drop for InvalidEndpointMode {
 /// Why a client is not built, or asks nothing.
 #[derive(Debug, PartialEq, Eq)]
 pub enum BuildError {
+    /// The mode that is set is none.
     InvalidEndpointMode(InvalidEndpointMode),
+    /// This endpoint is no URI, or a call finds no scheme or no authority in it.
     InvalidEndpointUri(Text),
+    /// Memory ran out.
     OutOfMemory,
 }
 
@@ -54,13 +61,15 @@ impl Drop for BuildError {
 /// Why a reply gives no session token.
 #[derive(Clone, Copy, Debug, PartialEq, Eq)]
 pub enum TokenError {
-    /// It is no header value.
+    /// The reply's body is no header value.
     InvalidToken,
-    /// The reply does not tell its lifetime.
+    /// The reply does not tell the token's lifetime.
     NoTtl,
-    /// Its lifetime is none.
+    /// The lifetime is no number of seconds in 64 bits, or its end is past the last moment of all.
     InvalidTtl,
+    /// The reply has the status 400.
     InvalidParameters,
+    /// The reply has the status 403.
     Forbidden,
 }
 
@@ -69,11 +78,12 @@ pub enum TokenError {
 pub enum FailedToLoadToken {
     /// The request was not answered.
     Sent(FailKind),
+    /// The reply gives none.
     Token(TokenError),
 }
 
 impl FailedToLoadToken {
-    /// Whether the request could not be sent.
+    /// Whether the request for the token could not be sent (`Dispatch`).
     pub fn is_dispatch_failure(&self) -> bool
         ensures { result ≡ is_dispatch_failure_of self.now }
     {
@@ -121,9 +131,9 @@ pub enum UnexpectedCause {
     NotUtf8,
     /// A request could not be sent.
     Dispatch,
-    /// The endpoint is none.
+    /// The endpoint cannot be asked. Nothing was asked.
     Endpoint(BuildError),
-    /// This is no path.
+    /// This is no path of a URI that begins with `/`. Nothing was asked.
     Path(Text),
 }
 
@@ -141,11 +151,15 @@ impl Drop for UnexpectedCause {
 /// Why the instance metadata service gives nothing.
 #[derive(Debug, PartialEq, Eq)]
 pub enum ImdsError {
+    /// There is no session token.
     FailedToLoadToken(FailedToLoadToken),
+    /// A reply has no success status.
     ErrorResponse(ErrorResponse),
-    /// A request was not answered.
+    /// A request was sent and not answered. One that could not be sent is `Unexpected`.
     IoError(FailKind),
+    /// What no rule of the client allows for.
     Unexpected(UnexpectedCause),
+    /// Memory ran out.
     OutOfMemory,
 }
 

@@ -9,7 +9,7 @@ use std::fmt;
 /// What is wrong with the JSON of a file of a cached sign-in token.
 #[derive(Clone, Copy, Debug, PartialEq, Eq)]
 pub enum LoginJsonFault {
-    /// The file's text is no JSON object.
+    /// The file's text opens an object, and no prefix of it is one.
     Text,
     /// The member `accessToken` has an object among its members.
     Nested,
@@ -26,16 +26,19 @@ pub enum LoginTokenError {
     FailedToFormatDateTime,
     /// The file of this path failed at this step.
     IoError { what: IoStep, path: Text },
+    /// The file's JSON is at fault.
     JsonError(LoginJsonFault),
-    /// This field is not there.
+    /// This field is not there, or its value is of another type.
     MissingField(Field),
+    /// Neither of the variables `AWS_LOGIN_CACHE_DIRECTORY` and `HOME` can be read.
     NoHomeDirectory,
     /// The token has expired, and cannot be refreshed.
     ExpiredToken,
     /// It could not be refreshed, for this reason, where one is known.
     RefreshFailed { message: Option<Text> },
-    /// What else is wrong, in words.
+    /// The file's text opens no object, in words.
     Other(Text),
+    /// Memory ran out.
     OutOfMemory,
 }
 

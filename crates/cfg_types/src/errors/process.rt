@@ -6,11 +6,12 @@ use cfg_values::Text;
 pub enum ProcessCause {
     /// It could not be run.
     NotRun,
-    /// It ended with this status, and wrote this to standard error, where that is UTF-8.
+    /// It ended with this status, which is not 0, and wrote this to standard error, where that is
+    /// UTF-8.
     Status { code: i32, errors: Option<Text> },
     /// What it wrote to standard output is not UTF-8.
     NotUtf8,
-    /// What it wrote is no document of credentials.
+    /// What it wrote to standard output is no document of credentials.
     Document(InvalidJsonCredentials),
 }
 

@@ -14,11 +14,13 @@ use std::fmt;
 pub enum ProfileFileError {
     /// The sections were refused, for this reason.
     InvalidProfile(Text),
+    /// There are no profiles, or `default` is asked for and is not there.
     NoProfilesDefined,
+    /// This profile has no access key, secret or session token, and no other source.
     ProfileDidNotContainCredentials {
         profile: Text,
     },
-    /// The profiles of a path, and the one of them that the last one leads back to.
+    /// The path comes back: its profiles, and the one of them that the last one leads back to.
     CredentialLoop {
         profiles: Seq<Text>,
         next: Text,
@@ -28,10 +30,13 @@ pub enum ProfileFileError {
         profile: Text,
         message: Text,
     },
+    /// The keys of this profile do not go together, it is a role with both sources or none, or the base
+    /// behind it is at fault, in words.
     InvalidCredentialSource {
         profile: Text,
         message: Text,
     },
+    /// This profile is not there, or it lacks its region or start URL of IAM Identity Center, in words.
     MissingProfile {
         profile: Text,
         message: Text,
@@ -40,21 +45,24 @@ pub enum ProfileFileError {
     UnknownProvider {
         name: Text,
     },
-    /// The profile needs a provider that is not built.
+    /// It never arises; the original crate has it.
     FeatureNotEnabled {
         feature: Text,
         message: Option<Text>,
     },
+    /// The session of IAM Identity Center that this profile names is not there.
     MissingSsoSession {
         profile: Text,
         sso_session: Text,
     },
+    /// The keys of this profile for IAM Identity Center do not go together, in words.
     InvalidSsoConfig {
         profile: Text,
         message: Text,
     },
     /// The profile gives an access token, and no credentials.
     TokenProviderConfig,
+    /// Memory ran out.
     OutOfMemory,
 }
 

@@ -8,7 +8,9 @@ use std::fmt;
 /// What was done with a file when it failed.
 #[derive(Clone, Copy, Debug, PartialEq, Eq)]
 pub enum IoStep {
+    /// It was read.
     Read,
+    /// It was written.
     Write,
 }
 
@@ -17,17 +19,19 @@ pub enum IoStep {
 pub enum CachedSsoTokenError {
     /// A moment is outside of the years that a date can have.
     FailedToFormatDateTime,
-    /// The value of this field does not fit.
+    /// The value of this field is no date of RFC 3339 in UTC.
     InvalidField(Field),
     /// The file of this path failed at this step.
     IoError { what: IoStep, path: Text },
-    /// The file's text is no JSON object.
+    /// The file's text opens an object, and no prefix of it is one.
     JsonError,
-    /// This field is not there.
+    /// This field is not there, or its value is no text.
     MissingField(Field),
+    /// The variable `HOME` cannot be read.
     NoHomeDirectory,
-    /// What else is wrong, in words.
+    /// The file's text opens no object, or more than white space follows the object, in words.
     Other(Text),
+    /// Memory ran out.
     OutOfMemory,
 }
 
@@ -49,11 +53,14 @@ impl Drop for CachedSsoTokenError {
 /// Why there is no token of IAM Identity Center.
 #[derive(Debug, PartialEq, Eq)]
 pub enum SsoTokenProviderError {
-    /// A refresh gave a token with this lifetime, in seconds.
+    /// A refresh gave a token with this lifetime, in seconds, which is below 1 or whose end is past the
+    /// last moment of all.
     BadExpirationTimeFromSsoOidc(i64),
+    /// The file of the token gives none, or takes none.
     FailedToLoadToken(CachedSsoTokenError),
-    /// The token has expired, and cannot be refreshed.
+    /// The token has expired, and cannot be refreshed, or a refresh gave none.
     ExpiredToken,
+    /// Memory ran out.
     OutOfMemory,
 }
 

@@ -12,7 +12,7 @@ use cfg_values::{OutOfMemory, Text};
 #[cycle(token_error)]
 #[derive(Drop, Debug, PartialEq, Eq)]
 pub enum TokenCause {
-    /// The selected profile names no session of IAM Identity Center.
+    /// The path of the selected profile does not end with a session of IAM Identity Center.
     NoSession,
     /// A custom source's own reason.
     Custom(Text),
@@ -24,13 +24,17 @@ pub enum TokenCause {
 #[cycle(token_error)]
 #[derive(Drop, Debug, PartialEq, Eq)]
 pub enum TokenError {
+    /// A provider was not loaded. A chain goes on after it, and after no other error.
     TokenNotLoaded(TokenCause),
     /// Only a custom source answers it.
     ProviderTimedOut,
+    /// The profiles are at fault.
     InvalidConfiguration(ProfileFileError),
+    /// The token of a session could not be had.
     ProviderError(SsoTokenProviderError),
-    /// Only a custom source answers it.
+    /// Only a custom source answers it, with its own reason.
     Unhandled(Text),
+    /// Memory ran out.
     OutOfMemory,
 }
 

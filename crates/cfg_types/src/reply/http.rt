@@ -9,7 +9,9 @@ use std::fmt;
 /// A header of a reply.
 #[derive(Debug, PartialEq, Eq, Drop)]
 pub struct Header {
+    /// Its name, in any ASCII case.
     pub name: Text,
+    /// Its value.
     pub value: Text,
 }
 
@@ -25,14 +27,17 @@ impl TryCopy for Header {
 /// A reply to an HTTP request.
 #[derive(PartialEq, Eq)]
 pub struct HttpReply {
+    /// The status code.
     pub status: u16,
+    /// The headers in their order.
     pub headers: Seq<Header>,
+    /// The whole body.
     pub body: Bytes,
 }
 
 impl HttpReply {
-    /// The value of the first header of this name. Names are compared without regard to ASCII case
-    /// (RFC 9110, section 5.1).
+    /// The value of the first header of this name, none where there is none. Names are compared
+    /// without regard to ASCII case (RFC 9110, section 5.1).
     pub fn header(&self, name: &str) -> Option<&str>
         ensures { option_map (λ v. characters v.now) result ≡ header_of self.now.headers name.now }
     {

@@ -4,7 +4,7 @@ ghost use Rattle.cfg_types.specs.Replies.{http_in, sts_in, role_in, token_in, si
 use crate::reply::{HttpReply, Refusal, Reply, RoleReply, SignInReply, StsReply, TokenReply};
 
 impl Reply {
-    /// The reply to an HTTP request. None where it is of another kind.
+    /// The reply to an HTTP request. None where it is of another kind, or a refusal.
     pub fn into_http(self) -> Option<HttpReply>
         ensures { result ≡ http_in self }
     {

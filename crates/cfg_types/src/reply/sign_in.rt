@@ -4,13 +4,18 @@ use cfg_values::{OutOfMemory, Text, TryCopy, copy_option};
 use std::alloc::Global;
 use std::fmt;
 
-/// The token of a reply to `CreateOAuth2Token`. `expires_in` are seconds from now on.
+/// The token of a reply to `CreateOAuth2Token`.
 #[derive(PartialEq, Eq)]
 pub struct SignInToken {
+    /// The id of the access key.
     pub access_key_id: Text,
+    /// The secret of the access key.
     pub secret_access_key: Text,
+    /// The session token.
     pub session_token: Text,
+    /// The refresh token, which stands in for the one that was sent.
     pub refresh_token: Text,
+    /// The lifetime of the token, in seconds.
     pub expires_in: i64,
 }
 
@@ -61,6 +66,7 @@ impl fmt::Debug for SignInToken {
 /// A reply to `CreateOAuth2Token`.
 #[derive(Debug, PartialEq, Eq, Drop)]
 pub struct SignInReply {
+    /// The token, where the reply has one.
     pub token: Option<SignInToken>,
 }
 

@@ -4,12 +4,16 @@ use cfg_values::{OutOfMemory, Text, TryCopy, copy_option};
 use std::alloc::Global;
 use std::fmt;
 
-/// The credentials of a reply of IAM Identity Center. `expiration_ms` are milliseconds since the epoch.
+/// The credentials of a reply of IAM Identity Center.
 #[derive(PartialEq, Eq)]
 pub struct RoleCredentials {
+    /// The id of the access key, where the reply has it.
     pub access_key_id: Option<Text>,
+    /// The secret of the access key, where the reply has it.
     pub secret_access_key: Option<Text>,
+    /// The session token, where the reply has it.
     pub session_token: Option<Text>,
+    /// When they expire, in milliseconds since the epoch.
     pub expiration_ms: i64,
 }
 
@@ -57,6 +61,7 @@ impl fmt::Debug for RoleCredentials {
 /// A reply to `GetRoleCredentials`.
 #[derive(Debug, PartialEq, Eq, Drop)]
 pub struct RoleReply {
+    /// The credentials of the role, where the reply has them.
     pub credentials: Option<RoleCredentials>,
 }
 
@@ -68,11 +73,14 @@ impl TryCopy for RoleReply {
     }
 }
 
-/// A reply to `CreateToken`. `expires_in` are seconds from now on.
+/// A reply to `CreateToken`.
 #[derive(PartialEq, Eq)]
 pub struct TokenReply {
+    /// The access token, where the reply has it.
     pub access_token: Option<Text>,
+    /// A new refresh token, where the reply has one.
     pub refresh_token: Option<Text>,
+    /// The lifetime of the access token, in seconds.
     pub expires_in: i64,
 }
 

@@ -7,9 +7,13 @@ use std::fmt;
 /// The credentials of a reply of the Security Token Service.
 #[derive(PartialEq, Eq, Drop)]
 pub struct StsCredentials {
+    /// The id of the access key.
     pub access_key_id: Text,
+    /// The secret of the access key.
     pub secret_access_key: Text,
+    /// The session token.
     pub session_token: Text,
+    /// When they expire.
     pub expiration: Instant,
 }
 
@@ -45,8 +49,9 @@ impl TryCopy for StsCredentials {
 /// A reply of the Security Token Service.
 #[derive(Debug, PartialEq, Eq, Drop)]
 pub struct StsReply {
+    /// The credentials of the session, where the reply has them.
     pub credentials: Option<StsCredentials>,
-    /// The ARN of the role's session.
+    /// The ARN of the role's session, where the reply has it.
     pub arn: Option<Text>,
 }
 

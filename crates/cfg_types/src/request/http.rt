@@ -8,10 +8,13 @@ use std::fmt;
 /// A GET of `path` at `endpoint`, with `accept: application/json`.
 #[derive(PartialEq, Eq)]
 pub struct Http {
+    /// Scheme and authority.
     pub endpoint: Text,
+    /// The path, and the query where there is one.
     pub path: Text,
     /// The value of the header `authorization`, where it is sent.
     pub authorization: Option<Bytes>,
+    /// The limits of time of this request.
     pub timeouts: Timeouts,
 }
 
@@ -57,11 +60,15 @@ impl fmt::Debug for Http {
     }
 }
 
-/// A PUT to the instance metadata service for a session token that lives for so many seconds.
+/// A PUT to the instance metadata service for a session token that lives for so many seconds: IMDSv2 of
+/// the EC2 User Guide, at the path `/latest/api/token`.
 #[derive(Debug, PartialEq, Eq)]
 pub struct MetadataToken {
+    /// Where the service is asked.
     pub endpoint: Text,
+    /// The lifetime that is asked for, in seconds: the header `x-aws-ec2-metadata-token-ttl-seconds`.
     pub ttl_seconds: u64,
+    /// The limits of time of this request.
     pub timeouts: Timeouts,
 }
 
@@ -86,12 +93,16 @@ impl TryCopy for MetadataToken {
     }
 }
 
-/// A GET of `path` at the instance metadata service, with a session token.
+/// A GET of `path` at the instance metadata service, with a session token (IMDSv2).
 #[derive(PartialEq, Eq)]
 pub struct MetadataGet {
+    /// Where the service is asked.
     pub endpoint: Text,
+    /// The path, from its `/` on.
     pub path: Text,
+    /// The session token: the value of the header `x-aws-ec2-metadata-token`.
     pub token: Bytes,
+    /// The limits of time of this request.
     pub timeouts: Timeouts,
 }
 

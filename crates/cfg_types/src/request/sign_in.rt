@@ -9,9 +9,13 @@ use std::fmt;
 /// possession (DPoP, RFC 9449); the transport signs with it.
 #[derive(PartialEq, Eq)]
 pub struct CreateOAuth2Token {
+    /// The id of the client that signed in.
     pub client_id: Text,
+    /// The refresh token, a secret.
     pub refresh_token: Text,
+    /// The private key as a text, a secret.
     pub dpop_key: Text,
+    /// How the service is called.
     pub settings: CallSettings,
 }
 

@@ -8,9 +8,13 @@ use std::fmt;
 /// A call of IAM Identity Center's `GetRoleCredentials`.
 #[derive(PartialEq, Eq)]
 pub struct GetRoleCredentials {
+    /// The name of the role.
     pub role_name: Text,
+    /// The id of the account.
     pub account_id: Text,
+    /// The access token, a secret.
     pub access_token: Text,
+    /// How the service is called.
     pub settings: CallSettings,
 }
 
@@ -60,9 +64,13 @@ impl fmt::Debug for GetRoleCredentials {
 /// A call of IAM Identity Center OIDC's `CreateToken`, with a refresh token.
 #[derive(PartialEq, Eq)]
 pub struct CreateToken {
+    /// The id of the registered client.
     pub client_id: Text,
+    /// The client's secret.
     pub client_secret: Text,
+    /// The refresh token, a secret.
     pub refresh_token: Text,
+    /// How the service is called.
     pub settings: CallSettings,
 }
 

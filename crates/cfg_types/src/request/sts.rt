@@ -9,7 +9,9 @@ use std::fmt;
 /// A tag of a session.
 #[derive(Debug, PartialEq, Eq, Drop)]
 pub struct Tag {
+    /// The name of the tag.
     pub key: Text,
+    /// What the tag is set to.
     pub value: Text,
 }
 
@@ -25,14 +27,23 @@ impl TryCopy for Tag {
 /// A call of the AWS Security Token Service's `AssumeRole`, signed by `signer`.
 #[derive(Debug, PartialEq, Eq)]
 pub struct AssumeRole {
+    /// The credentials that sign the call.
     pub signer: Credentials,
+    /// The ARN of the role.
     pub role_arn: Text,
+    /// The name of the session.
     pub session_name: Text,
+    /// The external id, where one is sent.
     pub external_id: Option<Text>,
+    /// The session policy, a JSON text, where one is sent.
     pub policy: Option<Text>,
+    /// The ARNs of managed policies, where they are sent.
     pub policy_arns: Option<Seq<Text>>,
+    /// How long the credentials are to last, in seconds. None leaves it to the service.
     pub duration_seconds: Option<i32>,
+    /// The tags of the session, where they are sent.
     pub tags: Option<Seq<Tag>>,
+    /// How the service is called.
     pub settings: CallSettings,
 }
 
@@ -79,12 +90,17 @@ impl TryCopy for AssumeRole {
 /// A call of the AWS Security Token Service's `AssumeRoleWithWebIdentity`, which is not signed.
 #[derive(PartialEq, Eq)]
 pub struct AssumeRoleWithWebIdentity {
+    /// The ARN of the role.
     pub role_arn: Text,
+    /// The name of the session.
     pub session_name: Text,
     /// The web identity token.
     pub token: Text,
+    /// The session policy, a JSON text, where one is sent.
     pub policy: Option<Text>,
+    /// The ARNs of managed policies, where they are sent.
     pub policy_arns: Option<Seq<Text>>,
+    /// How the service is called.
     pub settings: CallSettings,
 }
 

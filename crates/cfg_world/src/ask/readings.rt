@@ -12,7 +12,7 @@ use cfg_types::{
 };
 
 impl Answer {
-    /// What a file holds, or how it failed.
+    /// What a file holds, or how it failed. An answer of another kind is `Io`.
     pub fn into_contents(self) -> Result<Bytes, FailKind>
         ensures { result ≡ contents_of self }
     {
@@ -23,7 +23,7 @@ impl Answer {
         }
     }
 
-    /// That a file was written, or how it failed.
+    /// That a file was written, or how it failed. An answer of another kind is `Io`.
     pub fn into_written(self) -> Result<(), FailKind>
         ensures { result ≡ written_of self }
     {
@@ -34,7 +34,7 @@ impl Answer {
         }
     }
 
-    /// What a command left behind, or how it failed.
+    /// What a command left behind, or how it failed. An answer of another kind is `Io`.
     pub fn into_finished(self) -> Result<Finished, FailKind>
         ensures { result ≡ finished_of self }
     {
@@ -45,7 +45,7 @@ impl Answer {
         }
     }
 
-    /// The addresses of a host, or how the look-up failed.
+    /// The addresses of a host, or how the look-up failed. An answer of another kind is `Io`.
     pub fn into_addresses(self) -> Result<Seq<Address>, FailKind>
         ensures { result ≡ addresses_of self }
     {
@@ -56,7 +56,7 @@ impl Answer {
         }
     }
 
-    /// The reply of a transport, or how it failed.
+    /// The reply of a transport, or how it failed. An answer of another kind is `Io`.
     pub fn into_reply(self) -> Result<Reply, FailKind>
         ensures { result ≡ reply_of self }
     {
@@ -67,35 +67,40 @@ impl Answer {
         }
     }
 
-    /// The reply to an HTTP request, or how the transport failed.
+    /// The reply to an HTTP request, or how the transport failed. An answer or a reply of another
+    /// kind is `Io`.
     pub fn into_http(self) -> Result<HttpReply, FailKind>
         ensures { result ≡ http_of self }
     {
         self.into_reply()?.into_http().ok_or(FailKind::Io)
     }
 
-    /// The reply of the Security Token Service, or why there is none.
+    /// The reply of the Security Token Service, or why there is none: it refused, or the transport
+    /// failed. An answer or a reply of another kind is `Failed(Io)`.
     pub fn into_sts(self) -> Result<StsReply, NotGranted>
         ensures { result ≡ granted_of sts_in self }
     {
         or_refused(self.into_granting()?.into_sts())
     }
 
-    /// The reply to `GetRoleCredentials`, or why there is none.
+    /// The reply to `GetRoleCredentials`, or why there is none. An answer or a reply of another kind
+    /// is `Failed(Io)`.
     pub fn into_role(self) -> Result<RoleReply, NotGranted>
         ensures { result ≡ granted_of role_in self }
     {
         or_refused(self.into_granting()?.into_role())
     }
 
-    /// The reply to `CreateToken`, or why there is none.
+    /// The reply to `CreateToken`, or why there is none. An answer or a reply of another kind is
+    /// `Failed(Io)`.
     pub fn into_token(self) -> Result<TokenReply, NotGranted>
         ensures { result ≡ granted_of token_in self }
     {
         or_refused(self.into_granting()?.into_token())
     }
 
-    /// The reply to `CreateOAuth2Token`, or why there is none.
+    /// The reply to `CreateOAuth2Token`, or why there is none. An answer or a reply of another kind
+    /// is `Failed(Io)`.
     pub fn into_sign_in(self) -> Result<SignInReply, NotGranted>
         ensures { result ≡ granted_of sign_in_in self }
     {

@@ -5,7 +5,8 @@ ghost use Rattle.cfg_world.specs.Faults.{Rose, full_count};
 use crate::streams::{Sink, Source, StreamFault};
 use std::io::{Read, Write};
 
-/// A reader as a source. Each error of the reader is a fault.
+/// A reader as a source. Each error of the reader is a fault, `Failed`, also an interrupted read and
+/// one that has no memory.
 ///
 /// The clauses tell what each answer leaves of the bytes and of the count of faults. The standard
 /// library does not say when a reader fails, so no clause refuses a body that asks the reader once
@@ -51,7 +52,8 @@ impl<R: Read + Drop> Source for ReaderSource<R> {
     }
 }
 
-/// A writer as a sink. Each error of the writer is a fault, and so is each write that takes nothing.
+/// A writer as a sink. Each error of the writer is a fault, `Failed`, also an interrupted write and
+/// one that has no memory, and so is each write that takes nothing.
 ///
 /// The clauses tell what each answer adds to the bytes and to the count of faults. The standard
 /// library does not say when a writer fails, so no clause refuses a body that asks the writer once

@@ -6,7 +6,8 @@ use crate::streams::adapters::count;
 use crate::streams::{Sink, Source, StreamFault};
 use std::alloc::Global;
 
-/// Bytes that come in pieces. The calls whose numbers are among the failing ones fail.
+/// Bytes that come in pieces. The calls whose numbers are among the failing ones fail with `Failed`;
+/// there is no other error.
 #[derive(Drop)]
 pub struct MemorySource {
     bytes: Vec<u8>,
@@ -22,8 +23,8 @@ pub struct MemorySource {
 impl MemorySource {
     ghost use Rattle.cfg_world.specs.Memory.{source_left, source_pieces, source_faults};
 
-    /// A source of these bytes, at most `piece` of them a call. `failing` are the numbers of the
-    /// calls that fail, counted from 1.
+    /// A source of these bytes, at most `piece` of them a call, which is at least 1. `failing` are the
+    /// numbers of the calls that fail, counted from 1.
     pub fn new(bytes: Vec<u8>, failing: Vec<u64>, piece: usize) -> MemorySource
         requires { 0 < piece }
         ensures bytes { source_left result ≡ bytes.items }
@@ -74,7 +75,8 @@ impl Source for MemorySource {
     }
 }
 
-/// Bytes that are taken in pieces. The calls whose numbers are among the failing ones fail.
+/// Bytes that are taken in pieces. The calls whose numbers are among the failing ones fail with
+/// `Failed`. Where memory runs out a call takes nothing.
 #[derive(Drop)]
 pub struct MemorySink {
     bytes: Vec<u8>,
@@ -88,8 +90,8 @@ pub struct MemorySink {
 impl MemorySink {
     ghost use Rattle.cfg_world.specs.Memory.{sink_written, sink_pieces, sink_faults};
 
-    /// A sink that takes at most `piece` bytes a call. `failing` are the numbers of the calls that
-    /// fail, counted from 1.
+    /// A sink that takes at most `piece` bytes a call, which is at least 1. `failing` are the numbers
+    /// of the calls that fail, counted from 1.
     pub fn new(alloc: Global, failing: Vec<u64>, piece: usize) -> MemorySink
         requires { 0 < piece }
         ensures bytes { sink_written result ≡ [] }
@@ -105,7 +107,7 @@ impl MemorySink {
         }
     }
 
-    /// The bytes that were taken.
+    /// The bytes that were taken, in order.
     pub fn written(&self) -> &[u8]
         ensures { result.now ≡ sink_written self.now }
     {

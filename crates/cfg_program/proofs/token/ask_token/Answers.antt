@@ -1,6 +1,5 @@
 -- The journal is the call's own, and the line shows it.
 use Rattle.std.proofs.Common.{◌++◌, ◌∙◌, ap}
-use Rattle.cfg_keeping.specs.KeptStates.{states_of, kept_holdings}
 use Rattle.cfg_program.proofs.OneToken.{token_over}
 use Rattle.cfg_program.proofs.token.ask_token.Goals as goal
 

@@ -1,6 +1,9 @@
--- The region that is given is the chain's.
-use Rattle.cfg_bearer.proofs.GivenRegions.{given_chain}
+-- The region that is given is the chain's, and nothing is asked for it.
+use Rattle.cfg_bearer.proofs.GivenRegions.{given_chain, given_chain_grows}
 use Rattle.cfg_program.proofs.token.token_chain.Goals as goal
 
 pub returns-clause-chain : goal.returns-clause-chain
-returns-clause-chain c = given_chain _ _ _ c.args.config c.args.region _ _ _ c.build.result c.in_ok-builder.ensures c.configure-builder.ensures c.region.ensures c.build.ensures.built
+returns-clause-chain g c = given_chain _ _ _ c.args.config c.args.region _ _ _ c.build.result c.in_ok-builder.ensures c.configure-builder.ensures c.region.ensures c.build.ensures.built
+
+pub returns-clause-world : goal.returns-clause-world
+returns-clause-world g c = given_chain_grows _ _ _ c.args.config c.args.region _ _ _ c.build.result c.in_ok-builder.ensures c.configure-builder.ensures c.region.ensures c.build.ensures.built

@@ -1,6 +1,7 @@
--- Memory ran out behind the part of the region.
-use Rattle.cfg_bearer.proofs.Building.{gave_breaks}
+-- The chain needs the key that its configuration needs without the region.
+use Rattle.std.proofs.Common.{sym, ◌∙◌}
+use Rattle.cfg_bearer.proofs.Building.{key_set}
 use Rattle.cfg_bearer.proofs.default_provider.token.Builder.build.Goals as goal
 
-pub returns-clause-breaks : goal.returns-clause-breaks
-returns-clause-breaks g c = gave_breaks _ _ _ _ _ c.in_ok-region.region c.chain_with.result c.in_ok-region.ensures.gives
+pub with_key-profile-requires : goal.with_key-profile-requires
+with_key-profile-requires g c = c.in_ok-token_key.ensures ∙ sym (key_set _ _ _ _ _ c.in_ok-config.ensures.set)

@@ -1,0 +1,4 @@
+//! The tests of cfg_profile, over public calls: what no clause says.
+mod chains;
+mod configurations;
+mod sets;

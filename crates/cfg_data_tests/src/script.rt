@@ -1,0 +1,2 @@
+//! The tests of cfg_script, over public calls: what no clause says.
+mod script;

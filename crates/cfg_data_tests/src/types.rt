@@ -1,0 +1,8 @@
+//! The tests of cfg_types, over public calls: what no clause says.
+mod addresses;
+mod errors;
+mod replies;
+mod requests;
+mod shown;
+mod texts;
+mod values;

@@ -1,0 +1,3 @@
+//! The tests of cfg_assume_role, over public calls: what no clause says.
+mod provider;
+mod setup;

@@ -1,0 +1,2 @@
+//! The tests of cfg_keeping, over public calls: what no clause says.
+mod holdings;

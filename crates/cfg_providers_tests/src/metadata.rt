@@ -1,0 +1,3 @@
+//! The tests of cfg_metadata, over public calls: what no clause says.
+mod calls;
+mod setup;

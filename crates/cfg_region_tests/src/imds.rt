@@ -1,0 +1,3 @@
+//! The tests of cfg_imds, over public calls: what no clause says.
+mod calls;
+mod settings;

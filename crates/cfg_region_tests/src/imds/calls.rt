@@ -1,0 +1,145 @@
+// What a client answers, how much it asks, and which token it leaves, by scripts.
+ghost use Rattle.cfg_world.specs.Script.{AllFit};
+ghost use Rattle.cfg_script.specs.Script.{plain};
+ghost use Rattle.cfg_script.specs.Devices.{lists_of};
+
+use cfg_imds::{Client, ImdsTokenState, follow_region};
+use cfg_profile::ProviderConfig;
+use cfg_script::{Script, read_script};
+use cfg_types::{Env, OutOfMemory};
+use cfg_world::{DeviceLists, ScriptDevices, World};
+use std::alloc::Global;
+use std::test::Fail;
+
+/// What a get of this path answers, how many questions it puts, and the token that it leaves.
+pub(crate) fn get_words(
+    alloc: Global,
+    client: &Client,
+    world: &mut World<ScriptDevices>,
+    path: &str,
+) -> Result<String, OutOfMemory> {
+    let mut state = ImdsTokenState::new();
+    let got = client.get(&mut state, world, path);
+    let asked = world.journal().len();
+    let kept = state.kept();
+    Ok(format!(in alloc; "{got:?} {asked} {kept:?}")?)
+}
+
+// What a session token is settled to, and what stands at a path with it, where the path is usable.
+fn settled_words(
+    alloc: Global,
+    client: &Client,
+    world: &mut World<ScriptDevices>,
+    path: &str,
+) -> Result<String, OutOfMemory> {
+    let mut state = ImdsTokenState::new();
+    if let Err(error) = client.usable(path) {
+        return Ok(format!(in alloc; "{error:?}")?);
+    }
+    let token = match client.settle(&mut state, world) {
+        Ok(token) => token,
+        Err(error) => return Ok(format!(in alloc; "{error:?}")?),
+    };
+    let got = client.fetch(&token, world, path);
+    Ok(format!(in alloc; "{token:?} {}", got.is_ok())?)
+}
+
+fn region_words(
+    alloc: Global,
+    client: &Client,
+    world: &mut World<ScriptDevices>,
+    env: &Env,
+) -> Result<String, OutOfMemory> {
+    let mut kept = None;
+    let region = follow_region(alloc, env, client, &mut kept, world);
+    let asked = world.journal().len();
+    Ok(format!(in alloc; "{region:?} {asked}")?)
+}
+
+/// Devices over these lists.
+pub(crate) fn world(alloc: Global, lists: DeviceLists) -> Result<World<ScriptDevices>, OutOfMemory>
+    requires { AllFit lists }
+{
+    Ok(World::new(alloc, ScriptDevices::new(alloc, lists)?))
+}
+
+fn called(
+    alloc: Global,
+    config: &ProviderConfig,
+    world: &mut World<ScriptDevices>,
+    path: &str,
+) -> Result<String, OutOfMemory> {
+    let client = Client::configured(alloc, config)?;
+    match path {
+        "region" => region_words(alloc, &client, world, config.env()),
+        "/settled" => settled_words(alloc, &client, world, path),
+        _ => get_words(alloc, &client, world, path),
+    }
+}
+
+fn called_by(alloc: Global, script: Script, path: &str) -> Result<String, OutOfMemory>
+    requires { AllFit (lists_of (plain script)) }
+{
+    let Script {
+        variables,
+        profiles: _,
+        selected: _,
+        region: _,
+        sleep: _,
+        calls: _,
+        devices,
+    } = script;
+    let config = ProviderConfig::empty(alloc)?.with_env(Env::new(alloc, variables)?);
+    let mut world = world(alloc, devices)?;
+    called(alloc, &config, &mut world, path)
+}
+
+const TABLE: &[(&str, &str, &str)] = &[
+    (
+        "/a?b",
+        r#"{"clock":[100],"replies":{"imds-token":[[200,[["X-aws-ec2-metadata-token-ttl-SECONDS","+21600"]],"tok"]],"imds-get":[[500,[],""],[200,[],"role"]]}}"#,
+        "Ok(SensitiveString(\"** redacted **\")) 5 Some(MetadataToken { value: \"** redacted **\", expiry: 21700 s 0 ns })",
+    ),
+    (
+        "/a",
+        r#"{"replies":{"imds-token":[[200,[["x-aws-ec2-metadata-token-ttl-seconds","9"]],"t"]],"imds-get":[[404,[],"no"]]}}"#,
+        "Err(ErrorResponse(ErrorResponse { reply: HttpReply { status: 404, secrets: \"** redacted **\" } })) 4 Some(MetadataToken { value: \"** redacted **\", expiry: 9 s 0 ns })",
+    ),
+    ("/a", "{}", "Err(FailedToLoadToken(Sent(Dispatch))) 3 None"),
+    ("*", "{}", "Err(Unexpected(Path(\"*\"))) 0 None"),
+    (
+        "/a",
+        r#"{"variables":[["AWS_EC2_METADATA_SERVICE_ENDPOINT","h"]]}"#,
+        "Err(Unexpected(Endpoint(InvalidEndpointUri(\"h\")))) 0 None",
+    ),
+    (
+        "/a",
+        r#"{"variables":[["AWS_EC2_METADATA_SERVICE_ENDPOINT_MODE","v5"]]}"#,
+        "Err(Unexpected(Endpoint(InvalidEndpointMode(Mode(\"v5\"))))) 0 None",
+    ),
+    (
+        "region",
+        r#"{"replies":{"imds-token":[[200,[["x-aws-ec2-metadata-token-ttl-seconds","9"]],"t"]],"imds-get":[[200,[],"eu-west-1"]]}}"#,
+        "Ok(Some(\"eu-west-1\")) 4",
+    ),
+    (
+        "/settled",
+        r#"{"replies":{"imds-token":[[200,[["x-aws-ec2-metadata-token-ttl-seconds","9"]],"t"]],"imds-get":[[200,[],"role"]]}}"#,
+        "[116] true",
+    ),
+    (
+        "region",
+        r#"{"variables":[["AWS_EC2_METADATA_DISABLED","True"]]}"#,
+        "Ok(None) 0",
+    ),
+];
+
+#[test]
+fn calls_of_a_client(rt: HostRuntime) -> Result<(), Fail> {
+    for (path, script, want) in TABLE {
+        let script = read_script(rt.alloc(), script.as_bytes())?;
+        let words = called_by(rt.alloc(), script, path)?;
+        assert_eq!(rt; words.as_str(), *want, "{path}");
+    }
+    Ok(())
+}

@@ -1,0 +1,3 @@
+//! The tests of cfg_region, over public calls: what no clause says.
+mod regions;
+mod setup;

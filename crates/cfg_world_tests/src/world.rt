@@ -1,0 +1,7 @@
+//! The tests of cfg_world, over public calls: what no clause says.
+mod devices;
+mod leaves;
+mod local;
+mod prefixes;
+mod questions;
+mod streams;

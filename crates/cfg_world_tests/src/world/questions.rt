@@ -1,0 +1,76 @@
+// Questions by words, and how they are shown.
+use cfg_types::{Bytes, OutOfMemory, Text, TryCopy};
+use cfg_world::{Http, Question, Request, Timeouts};
+use std::alloc::Global;
+use std::test::Fail;
+
+pub(crate) const TIMEOUTS: Timeouts = Timeouts {
+    connect_ms: None,
+    read_ms: None,
+    operation_ms: None,
+    attempt_ms: None,
+};
+
+fn question_of(kind: &str, text: Text, path: Text, bytes: Bytes) -> Question {
+    match kind {
+        "now" => Question::Now,
+        "jitter" => Question::Jitter,
+        "read" => Question::Read { path: text },
+        "write" => Question::Write { path: text, bytes },
+        "run" => Question::Run { command: text },
+        "look-up" => Question::LookUp { host: text },
+        _ => Question::Send(Request::Http(Http {
+            endpoint: text,
+            path,
+            authorization: Some(bytes),
+            timeouts: TIMEOUTS,
+        })),
+    }
+}
+
+/// The question of some words: its kind, and what it asks for. What is written and what authorizes is `wJalr`.
+pub(crate) fn question(alloc: Global, words: &str) -> Result<Question, OutOfMemory> {
+    let (kind, rest) = words.split_once(' ').unwrap_or((words, ""));
+    let text = Text::of(alloc, rest)?;
+    let path = Text::of(alloc, "/p")?;
+    let bytes = Bytes::of(alloc, b"wJalr")?;
+    Ok(question_of(kind, text, path, bytes))
+}
+
+fn shown_words(alloc: Global, words: &str) -> Result<String, OutOfMemory> {
+    let copy = question(alloc, words)?.copy(alloc)?;
+    Ok(format!(in alloc; "{copy:?} {copy:#?}")?)
+}
+
+const SHOWN: &[(&str, &str)] = &[
+    ("now", "Now Now"),
+    ("jitter", "Jitter Jitter"),
+    ("read a", "Read { path: \"a\" }"),
+    (
+        "write a",
+        "Write { path: \"a\", bytes: \"** redacted **\" }",
+    ),
+    (
+        "run x wJalr",
+        "Run { command: \"x ** arguments redacted **\" }",
+    ),
+    ("look-up h", "LookUp { host: \"h\" }"),
+    (
+        "send http://e",
+        "Send(Http(Http { endpoint: \"http://e\", path: \"/p\", secrets: \"** redacted **\" }))",
+    ),
+];
+
+#[test]
+fn questions_are_shown_without_their_secrets(rt: HostRuntime) -> Result<(), Fail> {
+    for (words, want) in SHOWN {
+        let shown = shown_words(rt.alloc(), words)?;
+        let text = shown.as_str();
+        assert!(rt; text.starts_with(*want), "{text}");
+        assert!(rt;
+            !text.contains("wJalr") && !text.contains("119, 74"),
+            "{text}"
+        );
+    }
+    Ok(())
+}
