@@ -5,8 +5,8 @@ use Rattle.cfg_world.specs.declared.ask.Question.{Question}
 use Rattle.cfg_world.specs.declared.ask.Question.TheVariants as question
 use Rattle.cfg_world.specs.declared.ask.Answer.{Answer}
 use Rattle.cfg_world.specs.declared.ask.Answer.TheVariants as answer
-use Rattle.cfg_world.specs.declared.devices.Fault.{Fault}
-use Rattle.cfg_world.specs.declared.devices.Fault.TheVariants.{Failed}
+use Rattle.cfg_types.specs.declared.reply.Fault.{Fault}
+use Rattle.cfg_types.specs.declared.reply.Fault.TheVariants.{Failed}
 use Rattle.cfg_world.specs.Fits.{Fits}
 use Rattle.cfg_world.specs.Faults.{Rises, Counted}
 use Rattle.cfg_world.specs.Asked.{Asked, answer_of}

@@ -1,15 +1,16 @@
 //! The calls of the program.
 ghost use Rattle.std.specs.Prelude.{◌≡◌, IfOk, OnOk, string_bytes};
 ghost use Rattle.cfg_keeping.specs.KeptStates.{states_of, kept_key};
-ghost use Rattle.cfg_providers.specs.Provides.{is_memory};
+ghost use Rattle.cfg_types.specs.Classes.{is_memory};
 ghost use Rattle.cfg_chain.specs.profile.Plans.{key_of};
 ghost use Rattle.audit.specs.Audits.{IsAudit, TellsCall};
 
 use crate::configuration::{TOKEN, TOKEN_PATH, chain_for};
 use crate::devices::OneFile;
 use crate::lines::line;
-use cfg_chain::{CredentialsError, DefaultCredentialsChain, Kept, OutOfMemory};
-use cfg_types::Credentials;
+use cfg_chain::DefaultCredentialsChain;
+use cfg_keeping::Kept;
+use cfg_types::{Credentials, CredentialsError, OutOfMemory};
 use cfg_world::{Devices, World};
 use std::alloc::Global;
 

@@ -4,11 +4,10 @@ ghost use Rattle.cfg_values.specs.TextMap.{named};
 ghost use Rattle.cfg_world.specs.Grows.{Grows};
 ghost use Rattle.audit.specs.Configured.{variables as given_variables, profiles as given_profiles, configured, unplaced};
 
-use cfg_chain::{
-    DefaultCredentialsChain, OutOfMemory, ProfileSet, ProfileSource, ProviderConfig, RegionSource,
-    Section,
-};
-use cfg_types::{Env, EnvText, Region, Text};
+use cfg_chain::DefaultCredentialsChain;
+use cfg_profile::{ProfileSet, ProfileSource, ProviderConfig, Section};
+use cfg_region::RegionSource;
+use cfg_types::{Env, EnvText, OutOfMemory, Region, Text};
 use cfg_world::{Devices, World};
 use std::alloc::Global;
 

@@ -4,8 +4,7 @@ ghost use Rattle.std.specs.List.{flat_map};
 ghost use Rattle.audit.specs.Lines.{shown, shown_outcome, shown_entry, word_of, mark_of};
 
 use cfg_causes::causes_of;
-use cfg_chain::{CredentialsError, OutOfMemory};
-use cfg_types::Credentials;
+use cfg_types::{Credentials, CredentialsError, OutOfMemory};
 use cfg_world::{Answer, Entry, Question};
 use std::alloc::Global;
 use std::string::ToString;

@@ -3,6 +3,7 @@ ghost use Rattle.std.specs.Io.KnownBytes.{ReadConsumes};
 ghost use Rattle.cfg_world.specs.Faults.{Rose};
 ghost use Rattle.bujerova.specs.Keeping.{source_of, kept_of, KeepsMore};
 
+use cfg_program::LIMIT;
 use cfg_world::{Source, StreamFault};
 use std::alloc::Global;
 
@@ -20,9 +21,11 @@ impl<S: Source + Drop> KeepingSource<S> {
         ensures source { source_of result ≡ source }
         ensures kept { kept_of result ≡ Some [] }
     {
+        let mut kept = Vec::new(alloc);
+        let _ = kept.reserve(LIMIT + 1);
         KeepingSource {
             source,
-            kept: Vec::new(alloc),
+            kept,
             is_whole: true,
         }
     }

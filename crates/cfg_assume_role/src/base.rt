@@ -1,8 +1,7 @@
 //! Where the credentials come from that sign a role's exchange.
 ghost use Rattle.std.specs.Option.{option_copied};
 ghost use Rattle.std.specs.Prelude.{◌≡◌, option_map};
-ghost use Rattle.cfg_providers.specs.Provides.{is_memory as is_memory_of};
-ghost use Rattle.cfg_keeping.specs.Clients.{client_rules};
+ghost use Rattle.cfg_imds.specs.Clients.{client_rules};
 ghost use Rattle.cfg_sso.specs.Tokens.{HasKey};
 ghost use Rattle.cfg_chain.specs.Settings.{lends};
 ghost use Rattle.cfg_chain.specs.Sources.{named_sources};
@@ -10,9 +9,10 @@ ghost use Rattle.cfg_assume_role.specs.Bases.{base_of, base_key, FollowsBase};
 
 use cfg_chain::DefaultCredentialsChain;
 use cfg_imds::Client;
-use cfg_keeping::{Keeper, TokenKey};
+use cfg_keeping::Keeper;
 use cfg_providers::{CustomSource, EnvironmentVariableCredentialsProvider};
-use cfg_types::{Credentials, CredentialsError, TryCopy};
+use cfg_token::TokenKey;
+use cfg_types::{Credentials, CredentialsError, TryCopy, is_memory};
 use cfg_world::{Asking, Stop};
 use std::alloc::Global;
 
@@ -85,10 +85,4 @@ impl RoleBase {
             }
         }
     }
-}
-
-fn is_memory(answer: &Result<Credentials, CredentialsError>) -> bool
-    ensures { result ≡ is_memory_of answer.now }
-{
-    matches!(answer, Err(CredentialsError::OutOfMemory))
 }

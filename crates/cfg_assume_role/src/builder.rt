@@ -17,7 +17,7 @@ use cfg_chain::DefaultCredentialsChain;
 use cfg_profile::ProviderConfig;
 use cfg_providers::default_session_name;
 use cfg_region::{RegionSource, load_default_region};
-use cfg_types::{OutOfMemory, Region, Seq, Tag, Text, TryCopy};
+use cfg_types::{OutOfMemory, Region, Seq, Tag, Text, TryCopy, texts};
 use cfg_world::{Asking, Devices, Stop, World, read_clock};
 use std::alloc::Global;
 use std::marker::Model;
@@ -298,17 +298,6 @@ fn name_of<A: Asking>(alloc: Global, given: &Option<Text>, asking: &mut A) -> Re
             Ok(name)
         }
     }
-}
-
-// The strings as texts, in order. No string is copied.
-fn texts(alloc: Global, strings: Vec<String>) -> Result<Seq<Text>, OutOfMemory>
-    ensures { IfOk result (λ texts. texts ≡ map (λ s. characters (string_bytes s)) strings.items) }
-{
-    let mut texts = Vec::with_capacity(alloc, strings.len())?;
-    for string in strings {
-        texts.push(Text::from_string(string))?;
-    }
-    Ok(Seq::of(texts))
 }
 
 // The pairs as tags, in order. No string is copied.

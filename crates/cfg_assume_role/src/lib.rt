@@ -12,4 +12,5 @@ pub mod provider;
 pub use base::RoleBase;
 pub use builder::AssumeRoleProviderBuilder;
 pub use call::{RoleCall, RoleSession};
+pub use cfg_types::{CredentialsError, OutOfMemory};
 pub use provider::AssumeRoleProvider;

@@ -7,7 +7,7 @@ use Rattle.cfg_members.specs.AnswerRules.{asked_chain, passed_over}
 use Rattle.cfg_profile.specs.Configuration.{Configuration}
 use Rattle.cfg_sso.specs.BearerTokens.{Bearer}
 use Rattle.cfg_bearer.specs.ProfileTokens.{profile_token, default_token}
-use Rattle.cfg_bearer.specs.Told.{told_by, told, told_of_profile}
+use Rattle.cfg_bearer.specs.Told.{told_by, chain_answer, told_of_profile}
 use Rattle.cfg_bearer.specs.TokenAnswers.{token_rules}
 
 step : (conf : Configuration) (given : Bearer) (o : Option TokenError) →
@@ -17,5 +17,5 @@ step conf given None = refl
 step conf given (Some e) = refl
 
 pub default_is_told : (conf : Configuration) → told_of_profile conf ≡ default_token conf
-unfolding told_of_profile default_token told chain
+unfolding told_of_profile default_token chain_answer chain
 default_is_told conf = λ i. onwards (profile_token conf) (λ given. step conf given (passed_over token_rules given) i)

@@ -17,9 +17,9 @@ told_by given (Some e) = Err (none_loaded_by e)
 told_by given None = given
 
 -- what the chain answers where its member answers so
-unfoldable pub told : Bearer → Bearer
-told given = told_by given (passed_over token_rules given)
+unfoldable pub chain_answer : Bearer → Bearer
+chain_answer given = told_by given (passed_over token_rules given)
 
 -- the member, and then what the chain tells
 unfoldable pub told_of_profile : Configuration → KeptInquiry Bearer
-told_of_profile conf = onwards (profile_token conf) (λ given. Gives (told given))
+told_of_profile conf = onwards (profile_token conf) (λ given. Gives (chain_answer given))

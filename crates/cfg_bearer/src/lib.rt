@@ -13,6 +13,7 @@ pub mod profile;
 mod session;
 
 pub use cfg_sso::SsoTokenProvider;
+pub use cfg_types::{OutOfMemory, TokenError};
 pub use chain::TokenProviderChain;
 pub use custom::{CustomToken, ProvideToken};
 pub use default_provider::token::DefaultTokenChain;

@@ -9,6 +9,7 @@ mod parts;
 mod tokens;
 mod words;
 
+pub use cfg_types::OutOfMemory;
 pub use credentials::causes_of;
 pub use lines::{CauseLine, Causes};
 pub use tokens::token_causes_of;

@@ -22,3 +22,5 @@ pub mod WorldSteps
 pub mod GivenRegions
 pub mod SetRegions
 pub mod WhoAnswered
+pub mod WithoutRoles
+pub mod SignOns

@@ -5,8 +5,8 @@ use Rattle.std.specs.Prelude.{codes, option_and_then}
 use Rattle.std.specs.List.{last_or}
 use Rattle.std.specs.Result.{result_err}
 use Rattle.cfg_values.specs.Gives.{◌>>=◌}
-use Rattle.cfg_types.specs.Classes.{is_of_class}
-use Rattle.cfg_types.specs.Environment.{variable}
+use Rattle.cfg_types.specs.Classes.{is_of_class, is_not_loaded_answer}
+use Rattle.cfg_types.specs.Environment.{variable, text_read}
 use Rattle.cfg_types.specs.Replies.{sts_in}
 use Rattle.cfg_types.specs.declared.errors.Class.TheVariants as class
 use Rattle.cfg_types.specs.declared.errors.CredentialsError.{CredentialsError}
@@ -36,9 +36,9 @@ use Rattle.cfg_exchange.proofs.Unset.{passed_over, unset_passed}
 use Rattle.cfg_providers.specs.declared.web_identity_token.WebIdentity.{WebIdentity}
 use Rattle.cfg_providers.specs.CustomSources.{Answer}
 use Rattle.cfg_providers.specs.EnvironmentKeys.{by_environment}
-use Rattle.cfg_providers.specs.EnvironmentCauses.{environment_is_passed_over, is_not_loaded_answer}
-use Rattle.cfg_providers.specs.Utf8.{utf8}
-use Rattle.cfg_providers.specs.WebIdentities.{set_or_not, readable, identity_in, no_policies, by_identity, web_identity, why_text, why_file, why_granted, why_answer, why_entry}
+use Rattle.cfg_providers.specs.EnvironmentCauses.{environment_is_passed_over}
+use Rattle.cfg_json.specs.Reading.{utf8_of}
+use Rattle.cfg_providers.specs.WebIdentities.{set_or_not, identity_in, no_policies, by_identity, web_identity, why_text, why_file, why_granted, why_answer, why_entry}
 use Rattle.cfg_providers.proofs.EnvironmentFailures.{environment_not_loaded}
 use Rattle.cfg_providers.proofs.WebIdentityCauses.{assumed_cause}
 use Rattle.cfg_chain.specs.declared.member.Member.{Member}
@@ -120,7 +120,7 @@ text_plain (Some text) = refl
 
 file_plain : (file : List ℕ) (given : Given) → is_unset (why_file file given) ≡ false
 unfolding errors.out-CredentialsError carrier.out
-file_plain file (answer.Contents bytes) = text_plain (utf8 bytes)
+file_plain file (answer.Contents bytes) = text_plain (utf8_of bytes)
 file_plain file (answer.Finished f) = refl
 file_plain file (answer.Moment m) = refl
 file_plain file (answer.Jitter n) = refl
@@ -164,8 +164,8 @@ either_missing first second (Some x) (Some y) identity e h = cc
 identity_missing : (s : Setting) (e : CredentialsError) → identity_in s.configuration.environment ≡ Err e → is_of_class class.CredentialsNotLoaded e ≡ true
 unfolding identity_in
 identity_missing s e h =
-    either_missing (codes "AWS_WEB_IDENTITY_TOKEN_FILE") (codes "AWS_ROLE_ARN") (readable (variable s.configuration.environment (codes "AWS_WEB_IDENTITY_TOKEN_FILE"))) (readable (variable s.configuration.environment (codes "AWS_ROLE_ARN")))
-    (λ file role. record { web_identity_token_file = file; role_arn = role; session_name = readable (variable s.configuration.environment (codes "AWS_ROLE_SESSION_NAME")) }) e h
+    either_missing (codes "AWS_WEB_IDENTITY_TOKEN_FILE") (codes "AWS_ROLE_ARN") (text_read (variable s.configuration.environment (codes "AWS_WEB_IDENTITY_TOKEN_FILE"))) (text_read (variable s.configuration.environment (codes "AWS_ROLE_ARN")))
+    (λ file role. record { web_identity_token_file = file; role_arn = role; session_name = text_read (variable s.configuration.environment (codes "AWS_ROLE_SESSION_NAME")) }) e h
 
 identity_line : (s : Setting) (i : Result WebIdentity CredentialsError) (part : List Pair) (out : Answer) → identity_in s.configuration.environment ≡ i → Reads (by_identity s.configuration no_policies i) part out →
     is_not_loaded_answer out ≡ is_error i

@@ -5,7 +5,7 @@ use Rattle.std.specs.Prelude.{is_ok, codes, option_and_then, if◌then◌else◌
 use Rattle.std.specs.Result.{result_err}
 use denote.Hole.Carrier as carrier
 use Rattle.cfg_types.specs.Replies.{sts_in}
-use Rattle.cfg_types.specs.Environment.{Variables, variable}
+use Rattle.cfg_types.specs.Environment.{Variables, variable, text_read}
 use Rattle.cfg_types.specs.declared.errors.CredentialsError as errors
 use Rattle.cfg_types.specs.declared.errors.CredentialsError.{CredentialsError}
 use Rattle.cfg_types.specs.declared.errors.CredentialsError.TheVariants.{Unhandled}
@@ -25,8 +25,8 @@ use Rattle.cfg_providers.specs.declared.web_identity_token.WebIdentity.{WebIdent
 use Rattle.cfg_providers.specs.CustomSources.{Answer}
 use Rattle.cfg_providers.specs.EnvironmentKeys.{not_set}
 use Rattle.cfg_providers.specs.Sts.{into_credentials}
-use Rattle.cfg_providers.specs.Utf8.{utf8}
-use Rattle.cfg_providers.specs.WebIdentities.{readable, set_or_not, identity_in, why_text, why_file, why_granted, why_answer, why_entry}
+use Rattle.cfg_json.specs.Reading.{utf8_of}
+use Rattle.cfg_providers.specs.WebIdentities.{set_or_not, identity_in, why_text, why_file, why_granted, why_answer, why_entry}
 use Rattle.cfg_values.specs.Gives.{◌>>=◌}
 use Rattle.cfg_chain.specs.Settings.{Setting}
 use Rattle.cfg_keeping.specs.Chains.{passed}
@@ -113,7 +113,7 @@ text_stays None = refl
 
 file_stays : (file : List ℕ) (given : Given) → passes (why_file file given) ≡ false
 unfolding errors.out-CredentialsError carrier.out
-file_stays file (answer.Contents bytes) = text_stays (utf8 bytes)
+file_stays file (answer.Contents bytes) = text_stays (utf8_of bytes)
 file_stays file _ = refl
 
 answer_stays : (q : Question) (given : Given) → passes (why_answer q given) ≡ false
@@ -138,4 +138,4 @@ unset_passes (Some f) (Some r) session h = no_success (sym h)
 -- where the variables name no web identity, that is passed over
 pub no_identity_passes : (env : Variables) → is_ok (identity_in env) ≡ false → passes (result_err (identity_in env)) ≡ true
 unfolding identity_in
-no_identity_passes env h = unset_passes (readable (variable env (codes "AWS_WEB_IDENTITY_TOKEN_FILE"))) (readable (variable env (codes "AWS_ROLE_ARN"))) (readable (variable env (codes "AWS_ROLE_SESSION_NAME"))) h
+no_identity_passes env h = unset_passes (text_read (variable env (codes "AWS_WEB_IDENTITY_TOKEN_FILE"))) (text_read (variable env (codes "AWS_ROLE_ARN"))) (text_read (variable env (codes "AWS_ROLE_SESSION_NAME"))) h

@@ -37,7 +37,7 @@ use Rattle.cfg_providers.proofs.WebIdentityCauses.{assumed_cause}
 use Rattle.cfg_chain.specs.Settings.{Setting, names_of, container_settings, named_metadata}
 use Rattle.cfg_chain.specs.profile.Plans.{Planned, plan, refusal}
 use Rattle.cfg_chain.specs.profile.Bases.{by_container, unknown_source, without_role, built_in_source, source_or, named_source, profile_session, signed_on, base_tree, in_base, based}
-use Rattle.cfg_chain.specs.profile.Profiles.{marked, derived, follows_planned, follows_plan, profile}
+use Rattle.cfg_chain.specs.profile.Profiles.{marked, assumed, follows_planned, follows_plan, profile}
 use Rattle.cfg_chain.specs.profile.Causes.{why_by_container, BuiltInCause, SourceCause, BaseCause, first_failure, of_base, of_role, PlanCause, PlannedCause, ProfileCause}
 use Rattle.cfg_chain.proofs.RoleCauses.{roles_fail}
 
@@ -85,24 +85,24 @@ unfolding marked
 marked_fails (Ok keys) = refl
 marked_fails (Err e) = refl
 
-derived_marked : (journal first rest : List Pair) (middle out : Answer) → journal ≡ first ++ rest → low.Reads (Done (marked middle)) rest out → result_err middle ≡ option_map of_role (first_failure first) →
+assumed_marked : (journal first rest : List Pair) (middle out : Answer) → journal ≡ first ++ rest → low.Reads (Done (marked middle)) rest out → result_err middle ≡ option_map of_role (first_failure first) →
     result_err out ≡ option_map of_role (first_failure journal)
-derived_marked journal first [] middle out parts behind fails = ap result_err (sym behind) ∙ marked_fails middle ∙ fails ∙ ap (λ p. option_map of_role (first_failure p)) (sym (parts ∙ append-nil first))
-derived_marked journal first (e ∷ rest) middle out parts behind fails = absurd behind
+assumed_marked journal first [] middle out parts behind fails = ap result_err (sym behind) ∙ marked_fails middle ∙ fails ∙ ap (λ p. option_map of_role (first_failure p)) (sym (parts ∙ append-nil first))
+assumed_marked journal first (e ∷ rest) middle out parts behind fails = absurd behind
 
-derived_fails : (conf : Configuration) (roles : List RoleArn) (keys : Keys) (part : List Pair) (out : Answer) → low.Reads (derived conf roles keys) part out → result_err out ≡ option_map of_role (first_failure part)
-unfolding derived
-derived_fails conf roles keys part out h =
+assumed_fails : (conf : Configuration) (roles : List RoleArn) (keys : Keys) (part : List Pair) (out : Answer) → low.Reads (assumed conf roles keys) part out → result_err out ≡ option_map of_role (first_failure part)
+unfolding assumed
+assumed_fails conf roles keys part out h =
     let r = split_after (assumes_roles conf roles keys) (λ last. Done (marked last)) part out h in
-    derived_marked part r.part r.rest r.middle out r.parts r.then (roles_fail conf roles keys r.part r.middle r.first)
+    assumed_marked part r.part r.rest r.middle out r.parts r.then (roles_fail conf roles keys r.part r.middle r.first)
 
 -- the roles behind a base that gave this
-behind_base : (conf : Configuration) (roles : List RoleArn) (given out : Answer) (found : List Value) (rest : List Pair) → Reads (onwards_if_ok (λ keys. lift (derived conf roles keys)) (in_base given)) found rest out →
+behind_base : (conf : Configuration) (roles : List RoleArn) (given out : Answer) (found : List Value) (rest : List Pair) → Reads (onwards_if_ok (λ keys. lift (assumed conf roles keys)) (in_base given)) found rest out →
     (found ≡ []) × (result_err out ≡ option_or (option_map of_base (result_err given)) (option_map of_role (first_failure rest)))
 unfolding in_base
 behind_base conf roles (Ok keys) out found rest h =
-    let low = lowered (derived conf roles keys) found rest out h in
-    (low.0, derived_fails conf roles keys rest out low.1)
+    let low = lowered (assumed conf roles keys) found rest out h in
+    (low.0, assumed_fails conf roles keys rest out low.1)
 behind_base conf roles (Err e) out found rest h =
     let same = given_is (Err (of_base e)) out found rest h in
     (same.0, ap result_err (sym same.2))
@@ -110,9 +110,9 @@ behind_base conf roles (Err e) out found rest h =
 pub plan_fails : (s : Setting) (p : ProfileChain) (found : List Value) (part : List Pair) (out : Answer) → Reads (follows_planned s p) found part out → PlanCause s p found part out
 unfolding follows_planned based
 plan_fails s p found part out h =
-    let r = split_onwards (based s p.base) (onwards_if_ok (λ keys. lift (derived s.configuration p.roles keys))) found part out h in
+    let r = split_onwards (based s p.base) (onwards_if_ok (λ keys. lift (assumed s.configuration p.roles keys))) found part out h in
     let b = given_then (base_tree s p.base) in_base r.found_first r.part r.middle r.first in
-    let behind = behind_base s.configuration p.roles b.0 out r.found_then r.rest (subst (λ m. Reads (onwards_if_ok (λ keys. lift (derived s.configuration p.roles keys)) m) r.found_then r.rest out) b.2 r.then) in
+    let behind = behind_base s.configuration p.roles b.0 out r.found_then r.rest (subst (λ m. Reads (onwards_if_ok (λ keys. lift (assumed s.configuration p.roles keys)) m) r.found_then r.rest out) b.2 r.then) in
     let all : found ≡ r.found_first = whole_part found r.found_first r.found_then r.finds behind.0 in
     let reads : Reads (base_tree s p.base) found r.part b.0 = subst (λ f. Reads (base_tree s p.base) f r.part b.0) (sym all) b.1 in
     record {

@@ -10,9 +10,9 @@ use Rattle.cfg_profile.specs.declared.chain.ProfileChain.{ProfileChain}
 use Rattle.cfg_providers.specs.CustomSources.{Answer}
 use Rattle.cfg_chain.specs.Settings.{Setting}
 use Rattle.cfg_chain.specs.profile.Bases.{based}
-use Rattle.cfg_chain.specs.profile.Profiles.{derived, follows_planned}
+use Rattle.cfg_chain.specs.profile.Profiles.{assumed, follows_planned}
 
 pub planned_ends : {W : Type 0} (w : Ghosts W) (s : Setting) (p : ProfileChain) (old mid new : W) (before between : Holdings) (keys : Keys) (out : Answer) →
-    HoldsEnds w (based s p.base) old before mid between (Ok keys) → Ends w (derived s.configuration p.roles keys) mid new out → HoldsEnds w (follows_planned s p) old before new between out
+    HoldsEnds w (based s p.base) old before mid between (Ok keys) → Ends w (assumed s.configuration p.roles keys) mid new out → HoldsEnds w (follows_planned s p) old before new between out
 unfolding follows_planned
-planned_ends w s p old mid new before between keys out a b = holds_ends_then (onwards_if_ok (λ keys. lift (derived s.configuration p.roles keys))) a (holds_ends b)
+planned_ends w s p old mid new before between keys out a b = holds_ends_then (onwards_if_ok (λ keys. lift (assumed s.configuration p.roles keys))) a (holds_ends b)

@@ -15,7 +15,7 @@ use Rattle.cfg_metadata.proofs.Given.{whole_part}
 use Rattle.cfg_providers.specs.CustomSources.{Answer}
 use Rattle.cfg_chain.specs.Settings.{Setting, container_settings}
 use Rattle.cfg_chain.specs.profile.Bases.{by_container}
-use Rattle.cfg_chain.specs.Valid.{AreOfUse, HasToken}
+use Rattle.cfg_chain.specs.Valid.{HoldsHeaderValue, AreOfUse, HasToken}
 use Rattle.cfg_chain.proofs.UsableEntries.{no_success}
 use Rattle.cfg_chain.proofs.UsableContainer.{token_succeeds}
 use Rattle.cfg_chain.proofs.PassingErrors.{passes}
@@ -30,13 +30,13 @@ nothing_behind settings e [] out h = refl
 nothing_behind settings e (x ∷ rest) out h = absurd h
 
 by_token : (env : Variables) (settings : ContainerSettings) (token : Result (Option (List ℕ)) CredentialsError) (part first rest : List Pair) (out : Answer) → HasToken (token_file env) (token_text env) → part ≡ first ++ rest →
-    Reads (token_by (token_file env) (token_text env)) first token → Reads (if_ok (with_token settings uri.NotSet) token) rest out → AreOfUse env part → passes (result_err out) ≡ true
+    Reads (token_by (token_file env) (token_text env)) first token → Reads (if_ok (with_token settings uri.NotSet) token) rest out → AreOfUse HoldsHeaderValue part → passes (result_err out) ≡ true
 by_token env settings (Ok token) part first rest out fine parts reads behind uses = behind_token settings token rest out behind
 by_token env settings (Err e) part first rest out fine parts reads behind uses =
-    no_success (token_succeeds env (token_file env) (token_text env) refl fine first (Err e) reads (subst (AreOfUse env) (whole_part part first rest parts (nothing_behind settings e rest out behind)) uses))
+    no_success (token_succeeds (token_file env) (token_text env) fine first (Err e) reads (subst (AreOfUse HoldsHeaderValue) (whole_part part first rest parts (nothing_behind settings e rest out behind)) uses))
 
 pub unset_passes : (s : Setting) → s.container ≡ uri.NotSet → HasToken (token_file s.configuration.environment) (token_text s.configuration.environment) → (part : List Pair) (out : Answer) →
-    Reads (by_container s.configuration s.container) part out → AreOfUse s.configuration.environment part → passes (result_err out) ≡ true
+    Reads (by_container s.configuration s.container) part out → AreOfUse HoldsHeaderValue part → passes (result_err out) ≡ true
 unfolding container auth_token
 unset_passes s none fine part out h uses =
     let env = s.configuration.environment in

@@ -33,17 +33,17 @@ use Rattle.cfg_providers.specs.WebIdentities.{no_policies, assumes_by_web_identi
 use Rattle.cfg_chain.specs.Settings.{Setting, named_metadata}
 use Rattle.cfg_chain.specs.profile.Bases.{by_container, unknown_source, built_in_source, source_or, named_source, profile_session, signed_on, base_tree, in_base, based}
 use Rattle.cfg_chain.specs.profile.Causes.{of_base}
-use Rattle.cfg_chain.specs.profile.Profiles.{marked, derived, follows_planned}
-use Rattle.cfg_chain.specs.Valid.{AreOfUse, IsStretch, GivesMetadata, IsBuiltInBy, IsSource, IsBase}
+use Rattle.cfg_chain.specs.profile.Profiles.{marked, assumed, follows_planned}
+use Rattle.cfg_chain.specs.Valid.{Contents, IsText, HoldsHeaderValue, AreOfUse, IsStretch, GivesMetadata, IsBuiltInBy, IsSource, IsBase, IsFileOfBase}
 use Rattle.cfg_chain.proofs.UsableEntries.{Succeeds, done_succeeds, read_succeeds, rest_of_use, no_success}
 use Rattle.cfg_chain.proofs.UsableContainer.{container_succeeds}
 use Rattle.cfg_chain.proofs.UsableEnvironment.{keys_given}
 use Rattle.cfg_chain.proofs.UsableIdentities.{identity_succeeds, process_succeeds, roles_succeed}
 use Rattle.cfg_chain.proofs.Stretches.{first_stretch}
 
--- over answers of use the tree comes to a success, where nothing else stands in its way
-abbrev pub KeptSucceeds : {E : Type 0} → Variables → KeptInquiry (Result Keys E) → (List Value → List Pair → Type 0) → Type 0
-KeptSucceeds {E} env p Fine = (found whole : List Value) (part journal : List Pair) (out : Result Keys E) → IsStretch found whole → IsStretch part journal → Reads p found part out → AreOfUse env part → Fine whole journal → is_ok out ≡ true
+-- over answers of use the tree comes to a success, where this is asked of files, and nothing else stands in its way
+abbrev pub KeptSucceeds : {E : Type 0} → (Contents → Type 0) → KeptInquiry (Result Keys E) → (List Value → List Pair → Type 0) → Type 0
+KeptSucceeds {E} Files p Fine = (found whole : List Value) (part journal : List Pair) (out : Result Keys E) → IsStretch found whole → IsStretch part journal → Reads p found part out → AreOfUse Files part → Fine whole journal → is_ok out ≡ true
 
 module _ (s : Setting) where
   abbrev env : Variables
@@ -52,8 +52,8 @@ module _ (s : Setting) where
   quiet_succeeds : (given : Answer) (found : List Value) (part : List Pair) (out : Answer) → is_ok given ≡ true → Reads (Gives given) found part out → is_ok out ≡ true
   quiet_succeeds given found part out fine h = subst (λ x. is_ok x ≡ true) (given_is given out found part h).2 fine
 
-  lifted_succeeds : (p : Inquiry Answer) (found : List Value) (part : List Pair) (out : Answer) → Succeeds env p → Reads (lift p) found part out → AreOfUse env part → is_ok out ≡ true
-  lifted_succeeds p found part out fine h uses = fine part out (lowered p found part out h).1 uses
+  lifted_succeeds : (Files : Contents → Type 0) (p : Inquiry Answer) (found : List Value) (part : List Pair) (out : Answer) → Succeeds Files p → Reads (lift p) found part out → AreOfUse Files part → is_ok out ≡ true
+  lifted_succeeds Files p found part out fine h uses = fine part out (lowered p found part out h).1 uses
 
   -- ---- instance metadata
 
@@ -64,7 +64,7 @@ module _ (s : Setting) where
   found_answers (Some e) (Some keys) out there h = ap is_ok (sym h)
   found_answers (Some e) None out there h = no_success there
 
-  pub metadata_succeeds : (m : MetadataSetting) → KeptSucceeds env (metadata m) (GivesMetadata m)
+  pub metadata_succeeds : (m : MetadataSetting) → KeptSucceeds HoldsHeaderValue (metadata m) (GivesMetadata m)
   metadata_succeeds m found whole part journal out mine stretch h uses gives = elim (gives found part out mine stretch h) [
     | inl kept ↦ found_answers (why_nothing m part) (retrieved_in found) out kept (metadata_cause m found part out h)
     | inr valid ↦ valid_gives m found part out h valid
@@ -74,14 +74,14 @@ module _ (s : Setting) where
 
   choose : (b d m : Bool) (name : List ℕ) (found whole : List Value) (part journal : List Pair) (out : Answer) → IsStretch found whole → IsStretch part journal →
       Reads (if b then lift (by_environment env) else (if d then lift (by_container s.configuration s.container) else (if m then metadata (named_metadata s) else Gives (unknown_source name)))) found part out →
-      AreOfUse env part → IsBuiltInBy s b d m whole journal → is_ok out ≡ true
+      AreOfUse HoldsHeaderValue part → IsBuiltInBy s b d m whole journal → is_ok out ≡ true
   choose true d m name found whole part journal out mine stretch h uses fine =
-      lifted_succeeds (by_environment env) found part out (done_succeeds env (environment env) (keys_given env fine)) h uses
-  choose false true m name found whole part journal out mine stretch h uses fine = lifted_succeeds (by_container s.configuration s.container) found part out (container_succeeds s fine) h uses
+      lifted_succeeds HoldsHeaderValue (by_environment env) found part out (done_succeeds HoldsHeaderValue (environment env) (keys_given env fine)) h uses
+  choose false true m name found whole part journal out mine stretch h uses fine = lifted_succeeds HoldsHeaderValue (by_container s.configuration s.container) found part out (container_succeeds s fine) h uses
   choose false false true name found whole part journal out mine stretch h uses fine = metadata_succeeds (named_metadata s) found whole part journal out mine stretch h uses fine
   choose false false false name found whole part journal out mine stretch h uses fine = absurd fine
 
-  source_succeeds : (name : List ℕ) (own : Option Answer) → KeptSucceeds env (source_or (built_in_source s.configuration s.container (named_metadata s) name) own) (IsSource s name own)
+  source_succeeds : (name : List ℕ) (own : Option Answer) → KeptSucceeds HoldsHeaderValue (source_or (built_in_source s.configuration s.container (named_metadata s) name) own) (IsSource s name own)
   unfolding built_in_source
   source_succeeds name (Some given) found whole part journal out mine stretch h uses fine = quiet_succeeds given found part out fine h
   source_succeeds name None found whole part journal out mine stretch h uses fine =
@@ -89,15 +89,15 @@ module _ (s : Setting) where
 
   -- ---- the bases
 
-  base_succeeds : (b : BaseProvider) → KeptSucceeds env (base_tree s b) (IsBase s b)
+  base_succeeds : (b : BaseProvider) → KeptSucceeds (IsFileOfBase b) (base_tree s b) (IsBase s b)
   unfolding base_tree named_source
   base_succeeds (base.AccessKey keys) found whole part journal out mine stretch h uses fine = quiet_succeeds (Ok keys) found part out refl h
   base_succeeds (base.NamedSource name) found whole part journal out mine stretch h uses fine = source_succeeds name (last_named name s.sources) found whole part journal out mine stretch h uses fine
   base_succeeds (base.WebIdentityTokenRole arn file session) found whole part journal out mine stretch h uses fine =
       let identity : WebIdentity = record { web_identity_token_file = file; role_arn = arn; session_name = session } in
-      lifted_succeeds (assumes_by_web_identity s.configuration profile_session identity no_policies) found part out (identity_succeeds s.configuration env identity no_policies profile_session) h uses
+      lifted_succeeds IsText (assumes_by_web_identity s.configuration profile_session identity no_policies) found part out (identity_succeeds s.configuration identity no_policies profile_session) h uses
   base_succeeds (base.CredentialProcess command account) found whole part journal out mine stretch h uses fine =
-      lifted_succeeds (credential_process command account) found part out (process_succeeds env command account) h uses
+      lifted_succeeds (IsFileOfBase (base.CredentialProcess command account)) (credential_process command account) found part out (process_succeeds (IsFileOfBase (base.CredentialProcess command account)) command account) h uses
   base_succeeds (base.Sso session region url (Some account) (Some role)) found whole part journal out mine stretch h uses fine =
       let sso = signed_on session region url account role in
       let cause = sso_cause s.configuration sso found part out h in
@@ -116,25 +116,26 @@ module _ (s : Setting) where
   unfolding marked
   marked_fine keys = refl
 
-  derived_succeeds : (p : ProfileChain) (keys : Keys) → Succeeds s.configuration.environment (derived s.configuration p.roles keys)
-  unfolding derived
-  derived_succeeds p keys = read_succeeds s.configuration.environment (assumes_roles s.configuration p.roles keys) marked (roles_succeed s.configuration s.configuration.environment p.roles keys) marked_fine
+  assumed_succeeds : (Files : Contents → Type 0) (p : ProfileChain) (keys : Keys) → Succeeds Files (assumed s.configuration p.roles keys)
+  unfolding assumed
+  assumed_succeeds Files p keys = read_succeeds Files (assumes_roles s.configuration p.roles keys) marked (roles_succeed s.configuration Files p.roles keys) marked_fine
 
   by_given : (p : ProfileChain) (given out : Answer) (found first_found then_found whole : List Value) (part first rest journal : List Pair) → found ≡ first_found ++ then_found → part ≡ first ++ rest →
-      IsStretch found whole → IsStretch part journal → Reads (base_tree s p.base) first_found first given → Reads (onwards_if_ok (λ keys. lift (derived s.configuration p.roles keys)) (in_base given)) then_found rest out →
-      AreOfUse env part → IsBase s p.base whole journal → is_ok out ≡ true
+      IsStretch found whole → IsStretch part journal → Reads (base_tree s p.base) first_found first given → Reads (onwards_if_ok (λ keys. lift (assumed s.configuration p.roles keys)) (in_base given)) then_found rest out →
+      AreOfUse (IsFileOfBase p.base) part → IsBase s p.base whole journal → is_ok out ≡ true
   unfolding in_base
   by_given p (Ok keys) out found first_found then_found whole part first rest journal finds parts mine stretch reads behind uses fine =
-      lifted_succeeds (derived s.configuration p.roles keys) then_found rest out (derived_succeeds p keys) behind (rest_of_use env first rest (subst (AreOfUse env) parts uses))
+      lifted_succeeds (IsFileOfBase p.base) (assumed s.configuration p.roles keys) then_found rest out (assumed_succeeds (IsFileOfBase p.base) p keys) behind
+      (rest_of_use (IsFileOfBase p.base) first rest (subst (AreOfUse (IsFileOfBase p.base)) parts uses))
   by_given p (Err e) out found first_found then_found whole part first rest journal finds parts mine stretch reads behind uses fine =
       let alone = whole_part part first rest parts (given_is (Err (of_base e)) out then_found rest behind).1 in
       no_success (base_succeeds p.base first_found whole first journal (Err e) (first_stretch found first_found then_found whole finds mine) (first_stretch part first rest journal parts stretch) reads
-      (subst (AreOfUse env) alone uses) fine)
+      (subst (AreOfUse (IsFileOfBase p.base)) alone uses) fine)
 
-  pub plan_succeeds : (p : ProfileChain) → KeptSucceeds env (follows_planned s p) (IsBase s p.base)
+  pub plan_succeeds : (p : ProfileChain) → KeptSucceeds (IsFileOfBase p.base) (follows_planned s p) (IsBase s p.base)
   unfolding follows_planned based
   plan_succeeds p found whole part journal out mine stretch h uses fine =
-      let r = split_onwards (based s p.base) (onwards_if_ok (λ keys. lift (derived s.configuration p.roles keys))) found part out h in
+      let r = split_onwards (based s p.base) (onwards_if_ok (λ keys. lift (assumed s.configuration p.roles keys))) found part out h in
       let b = given_then (base_tree s p.base) in_base r.found_first r.part r.middle r.first in
       by_given p b.0 out found r.found_first r.found_then whole part r.part r.rest journal r.finds r.parts mine stretch b.1
-      (subst (λ m. Reads (onwards_if_ok (λ keys. lift (derived s.configuration p.roles keys)) m) r.found_then r.rest out) b.2 r.then) uses fine
+      (subst (λ m. Reads (onwards_if_ok (λ keys. lift (assumed s.configuration p.roles keys)) m) r.found_then r.rest out) b.2 r.then) uses fine

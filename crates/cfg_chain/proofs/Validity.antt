@@ -3,7 +3,7 @@ use Rattle.std.proofs.Common.{◌≡◌, ◌⊎◌, inl, inr, ℕ, List, [], ◌
 use Rattle.std.specs.Prelude.{IsOk, is_ok, codes}
 use Rattle.std.specs.List.{last_or}
 use Rattle.std.specs.Result.{result_err}
-use Rattle.cfg_types.specs.Environment.{Variables}
+use Rattle.cfg_types.specs.Environment.{Variables, readable}
 use Rattle.cfg_types.specs.declared.errors.CredentialsError.{CredentialsError}
 use Rattle.cfg_types.specs.declared.errors.ProviderAttempt.{ProviderAttempt}
 use Rattle.cfg_world.specs.Fits.{Pair}
@@ -14,12 +14,13 @@ use Rattle.cfg_keeping.specs.KeptInquiry.{Reads}
 use Rattle.cfg_keeping.proofs.Splits.{lowered}
 use Rattle.cfg_exchange.specs.declared.container.ContainerUri.TheVariants as uri
 use Rattle.cfg_exchange.specs.declared.container.ContainerUri.{ContainerUri}
-use Rattle.cfg_exchange.specs.Containers.{readable, token_file, token_text, IsUriBy, IsContainerUri}
+use Rattle.cfg_exchange.specs.Containers.{token_file, token_text, IsUriBy, IsContainerUri}
 use Rattle.cfg_metadata.proofs.Given.{given_is}
 use Rattle.cfg_providers.specs.declared.web_identity_token.WebIdentity.{WebIdentity}
 use Rattle.cfg_providers.specs.CustomSources.{Answer}
 use Rattle.cfg_providers.specs.EnvironmentKeys.{environment, by_environment}
-use Rattle.cfg_providers.specs.EnvironmentCauses.{missing_variable, is_not_loaded_answer}
+use Rattle.cfg_types.specs.Classes.{is_not_loaded_answer}
+use Rattle.cfg_providers.specs.EnvironmentCauses.{missing_variable}
 use Rattle.cfg_providers.specs.WebIdentities.{no_policies, identity_in, by_identity, web_identity, why_identity}
 use Rattle.cfg_chain.specs.declared.member.Member.{Member}
 use Rattle.cfg_chain.specs.declared.member.Member.TheVariants.{Environment, Profile, WebIdentityToken, EcsContainer, Ec2InstanceMetadata}
@@ -31,7 +32,7 @@ use Rattle.cfg_chain.specs.profile.Causes.{first_failure, PlannedCause}
 use Rattle.cfg_chain.specs.profile.Plans.{Planned, plan, refusal}
 use Rattle.cfg_chain.specs.profile.Profiles.{follows_plan, profile}
 use Rattle.cfg_chain.specs.Resolves.{IsPart, Resolves}
-use Rattle.cfg_chain.specs.Valid.{AreOfUse, IsAddress, HasTexts, HoldsKeys, IsStretch, HasToken, IsContainer, GivesMetadata, GivesBehindProfile, GivesBehindEnvironment, IsValid}
+use Rattle.cfg_chain.specs.Valid.{Contents, HoldsHeaderValue, AreOfUse, IsAddress, HasTexts, HoldsKeys, IsStretch, HasToken, IsContainer, GivesMetadata, GivesBehindProfile, GivesBehindEnvironment, IsFileBehindProfile, IsFile, IsValid}
 use Rattle.cfg_chain.proofs.UsableEntries.{no_success, rest_of_use}
 use Rattle.cfg_chain.proofs.UsableContainer.{container_succeeds}
 use Rattle.cfg_chain.proofs.UsableEnvironment.{no_error, texts_cause, keys_given}
@@ -67,8 +68,8 @@ module _ (s : Setting) (names : IsContainerUri s.configuration.environment s.con
   abbrev Parts : List Member → List (ProviderAttempt CredentialsError) → List Value → List Pair → Answer → Type 0
   Parts members attempts found journal out = AreParts (credentials_chain s) (IsPart s) members attempts found journal out
 
-  rest_used : (journal part rest : List Pair) → journal ≡ part ++ rest → AreOfUse env journal → AreOfUse env rest
-  rest_used journal part rest parts uses = rest_of_use env part rest (subst (AreOfUse env) parts uses)
+  rest_used : (Files : Contents → Type 0) (journal part rest : List Pair) → journal ≡ part ++ rest → AreOfUse Files journal → AreOfUse Files rest
+  rest_used Files journal part rest parts uses = rest_of_use Files part rest (subst (AreOfUse Files) parts uses)
 
   -- the part of one member and what is left: from here on the found values and the journal are stretches of
   -- those of the whole call
@@ -76,17 +77,17 @@ module _ (s : Setting) (names : IsContainerUri s.configuration.environment s.con
   -- ---- instance metadata
 
   metadata_answers : (found whole : List Value) (part journal : List Pair) (out : Answer) → GivesMetadata (chain_metadata s) whole journal → IsStretch found whole → IsStretch part journal →
-      AreOfUse env part → IsPart s Ec2InstanceMetadata found part out → is_ok out ≡ true
+      AreOfUse HoldsHeaderValue part → IsPart s Ec2InstanceMetadata found part out → is_ok out ≡ true
   unfolding member_tree
   metadata_answers found whole part journal out gives mine stretch uses p = metadata_succeeds s (chain_metadata s) found whole part journal out mine stretch p.reads uses gives
 
   from_metadata : (attempts : List (ProviderAttempt CredentialsError)) (found whole : List Value) (part journal : List Pair) (out : Answer) → GivesMetadata (chain_metadata s) whole journal → IsStretch found whole → IsStretch part journal →
-      AreOfUse env part → Parts (Ec2InstanceMetadata ∷ []) attempts found part out → is_ok out ≡ true
+      AreOfUse HoldsHeaderValue part → Parts (Ec2InstanceMetadata ∷ []) attempts found part out → is_ok out ≡ true
   from_metadata attempts found whole part journal out gives mine stretch uses (inl h) =
       let all = h.7 ∙ ap (λ r. h.2 ++ r) h.10.1 ∙ append-nil h.2 in
       let all_found = h.6 ∙ ap (λ r. h.0 ++ r) h.10.0 ∙ append-nil h.0 in
       success_decides h.4
-      (metadata_answers h.0 whole h.2 journal h.4 gives (subst (λ f. IsStretch f whole) all_found mine) (subst (λ p. IsStretch p journal) all stretch) (subst (AreOfUse env) all uses) h.8) (goes_on s h.4 h.5 h.9)
+      (metadata_answers h.0 whole h.2 journal h.4 gives (subst (λ f. IsStretch f whole) all_found mine) (subst (λ p. IsStretch p journal) all stretch) (subst (AreOfUse HoldsHeaderValue) all uses) h.8) (goes_on s h.4 h.5 h.9)
   from_metadata attempts found whole part journal out gives mine stretch uses (inr h) = metadata_answers found whole part journal out gives mine stretch uses h.0
 
   -- ---- a container
@@ -99,7 +100,7 @@ module _ (s : Setting) (names : IsContainerUri s.configuration.environment s.con
   unfolding member_tree
   container_low found part out p = (lowered (by_container s.configuration s.container) found part out p.reads).1
 
-  container_answers : (found : List Value) (part : List Pair) (out : Answer) → IsContainer s → AreOfUse env part → IsPart s EcsContainer found part out → is_ok out ≡ true
+  container_answers : (found : List Value) (part : List Pair) (out : Answer) → IsContainer s → AreOfUse HoldsHeaderValue part → IsPart s EcsContainer found part out → is_ok out ≡ true
   container_answers found part out can uses p = container_succeeds s can part out (container_low found part out p) uses
 
   -- a container that can be asked is not passed over
@@ -112,66 +113,69 @@ module _ (s : Setting) (names : IsContainerUri s.configuration.environment s.con
   container_passed found whole part journal given (inr none) p passing = none.2
 
   -- and one that there is none of is
-  container_decides : (found whole : List Value) (part journal : List Pair) (out : Answer) → IsBehindIdentity whole journal → AreOfUse env part → IsPart s EcsContainer found part out → passes (result_err out) ≡ false → is_ok out ≡ true
+  container_decides : (found whole : List Value) (part journal : List Pair) (out : Answer) → IsBehindIdentity whole journal → AreOfUse HoldsHeaderValue part → IsPart s EcsContainer found part out → passes (result_err out) ≡ false → is_ok out ≡ true
   container_decides found whole part journal out (inl can) uses p stays = container_answers found part out can uses p
   container_decides found whole part journal out (inr none) uses p stays = at_odds (passes (result_err out)) (unset_passes s none.0 none.1 part out (container_low found part out p) uses) stays
 
-  from_container : (attempts : List (ProviderAttempt CredentialsError)) (found whole : List Value) (part journal : List Pair) (out : Answer) → IsBehindIdentity whole journal → IsStretch found whole → IsStretch part journal → AreOfUse env part →
+  from_container : (attempts : List (ProviderAttempt CredentialsError)) (found whole : List Value) (part journal : List Pair) (out : Answer) → IsBehindIdentity whole journal → IsStretch found whole → IsStretch part journal → AreOfUse HoldsHeaderValue part →
       Parts (EcsContainer ∷ Ec2InstanceMetadata ∷ []) attempts found part out → is_ok out ≡ true
   from_container attempts found whole part journal out behind mine stretch uses (inl h) =
       from_metadata _ h.1 whole h.3 journal out (container_passed h.0 whole h.2 journal h.4 behind h.8 (goes_on s h.4 h.5 h.9))
-      (rest_stretch found h.0 h.1 whole h.6 mine) (rest_stretch part h.2 h.3 journal h.7 stretch) (rest_used part h.2 h.3 h.7 uses) h.10
+      (rest_stretch found h.0 h.1 whole h.6 mine) (rest_stretch part h.2 h.3 journal h.7 stretch) (rest_used HoldsHeaderValue part h.2 h.3 h.7 uses) h.10
   from_container attempts found whole part journal out behind mine stretch uses (inr h) = container_decides found whole part journal out behind uses h.0 (decides s out h.1)
 
   -- ---- web identity
 
   identity_decides : (r : Result WebIdentity CredentialsError) (part : List Pair) (out : Answer) → (is_ok r ≡ false → passes (result_err r) ≡ true) →
-      low.Reads (by_identity s.configuration no_policies r) part out → passes (result_err out) ≡ false → AreOfUse env part → is_ok out ≡ true
-  identity_decides (Ok identity) part out missing reads stays uses = identity_succeeds s.configuration env identity no_policies (codes "web-identity-token") part out reads uses
+      low.Reads (by_identity s.configuration no_policies r) part out → passes (result_err out) ≡ false → AreOfUse (IsFileBehindProfile r) part → is_ok out ≡ true
+  identity_decides (Ok identity) part out missing reads stays uses = identity_succeeds s.configuration identity no_policies (codes "web-identity-token") part out reads uses
   identity_decides (Err e) part out missing reads stays uses =
       at_odds (passes (result_err out)) (ap (λ o. passes (result_err o)) (sym (told (Err e) part out reads)) ∙ missing refl) stays
 
-  -- it was passed over: a variable is missing
-  identity_passed : (r : Result WebIdentity CredentialsError) (whole : List Value) (part journal : List Pair) (given : Answer) → IsOk r ⊎ IsBehindIdentity whole journal →
-      result_err given ≡ why_identity r part → passes (result_err given) ≡ true → IsBehindIdentity whole journal
-  identity_passed (Ok identity) whole part journal given either cause passing = at_odds (passes (result_err given)) passing (ap passes cause ∙ entry_stays (last_or None part))
-  identity_passed (Err e) whole part journal given (inl fine) cause passing = no_success fine
-  identity_passed (Err e) whole part journal given (inr behind) cause passing = behind
+  -- it was passed over: a variable is missing, and what is read behind it is the container's
+  identity_passed : (r : Result WebIdentity CredentialsError) (whole : List Value) (part rest journal : List Pair) (given : Answer) → IsOk r ⊎ IsBehindIdentity whole journal →
+      result_err given ≡ why_identity r part → passes (result_err given) ≡ true → AreOfUse (IsFileBehindProfile r) rest → IsBehindIdentity whole journal × AreOfUse HoldsHeaderValue rest
+  identity_passed (Ok identity) whole part rest journal given either cause passing uses = at_odds (passes (result_err given)) passing (ap passes cause ∙ entry_stays (last_or None part))
+  identity_passed (Err e) whole part rest journal given (inl fine) cause passing uses = no_success fine
+  identity_passed (Err e) whole part rest journal given (inr behind) cause passing uses = (behind, uses)
 
-  identity_answers : (found : List Value) (part : List Pair) (out : Answer) → AreOfUse env part → IsPart s WebIdentityToken found part out → passes (result_err out) ≡ false → is_ok out ≡ true
+  identity_answers : (found : List Value) (part : List Pair) (out : Answer) → AreOfUse (IsFileBehindProfile (identity_in env)) part → IsPart s WebIdentityToken found part out → passes (result_err out) ≡ false → is_ok out ≡ true
   unfolding member_tree web_identity
   identity_answers found part out uses p stays = identity_decides (identity_in env) part out (no_identity_passes env) (lowered (web_identity s.configuration None no_policies) found part out p.reads).1 stays uses
 
-  from_identity : (attempts : List (ProviderAttempt CredentialsError)) (found whole : List Value) (part journal : List Pair) (out : Answer) → GivesBehindProfile s whole journal → IsStretch found whole → IsStretch part journal → AreOfUse env part →
+  from_identity : (attempts : List (ProviderAttempt CredentialsError)) (found whole : List Value) (part journal : List Pair) (out : Answer) → GivesBehindProfile s whole journal → IsStretch found whole → IsStretch part journal → AreOfUse (IsFileBehindProfile (identity_in env)) part →
       Parts (WebIdentityToken ∷ EcsContainer ∷ Ec2InstanceMetadata ∷ []) attempts found part out → is_ok out ≡ true
   from_identity attempts found whole part journal out given mine stretch uses (inl h) =
-      from_container _ h.1 whole h.3 journal out (identity_passed (identity_in env) whole h.2 journal h.4 given h.8.cause (goes_on s h.4 h.5 h.9))
-      (rest_stretch found h.0 h.1 whole h.6 mine) (rest_stretch part h.2 h.3 journal h.7 stretch) (rest_used part h.2 h.3 h.7 uses) h.10
+      let left = rest_used (IsFileBehindProfile (identity_in env)) part h.2 h.3 h.7 uses in
+      let passed = identity_passed (identity_in env) whole h.2 h.3 journal h.4 given h.8.cause (goes_on s h.4 h.5 h.9) left in
+      from_container _ h.1 whole h.3 journal out passed.0 (rest_stretch found h.0 h.1 whole h.6 mine) (rest_stretch part h.2 h.3 journal h.7 stretch) passed.1 h.10
   from_identity attempts found whole part journal out given mine stretch uses (inr h) = identity_answers found part out uses h.0 (decides s out h.1)
 
   -- ---- the profile
 
   plan_decides : (p : Planned) (found whole : List Value) (part journal : List Pair) (out : Answer) → GivesBehindEnvironment s p whole journal → IsStretch found whole → IsStretch part journal →
-      Reads (follows_plan s p) found part out → passes (result_err out) ≡ false → AreOfUse env part → is_ok out ≡ true
+      Reads (follows_plan s p) found part out → passes (result_err out) ≡ false → AreOfUse (IsFile env p) part → is_ok out ≡ true
   plan_decides (Ok p) found whole part journal out given mine stretch reads stays uses = plan_succeeds s p found whole part journal out mine stretch reads uses given
   plan_decides (Err e) found whole part journal out given mine stretch reads stays uses =
       at_odds (passes (result_err out)) (ap (λ o. passes (result_err o)) (sym (given_is (Err (refusal e)) out found part reads).2) ∙ refusal_passes e given.0) stays
 
-  -- it was passed over: there is no plan
-  plan_passed : (p : Planned) (found whole : List Value) (part journal : List Pair) (out : Answer) → GivesBehindEnvironment s p whole journal → PlannedCause s p found part out → passes (result_err out) ≡ true → GivesBehindProfile s whole journal
-  plan_passed (Ok p) found whole part journal out given cause passing = at_odds (passes (result_err out)) passing (ap passes cause.cause ∙ plan_stays (result_err cause.given) (first_failure cause.role_part))
-  plan_passed (Err e) found whole part journal out given cause passing = given.1
+  -- it was passed over: there is no plan, and what is read behind it is not the profile's
+  plan_passed : (p : Planned) (found whole : List Value) (part rest journal : List Pair) (out : Answer) → GivesBehindEnvironment s p whole journal → PlannedCause s p found part out → passes (result_err out) ≡ true →
+      AreOfUse (IsFile env p) rest → GivesBehindProfile s whole journal × AreOfUse (IsFileBehindProfile (identity_in env)) rest
+  plan_passed (Ok p) found whole part rest journal out given cause passing uses = at_odds (passes (result_err out)) passing (ap passes cause.cause ∙ plan_stays (result_err cause.given) (first_failure cause.role_part))
+  plan_passed (Err e) found whole part rest journal out given cause passing uses = (given.1, uses)
 
-  profile_answers : (found whole : List Value) (part journal : List Pair) (out : Answer) → GivesBehindEnvironment s the_plan whole journal → IsStretch found whole → IsStretch part journal → AreOfUse env part →
+  profile_answers : (found whole : List Value) (part journal : List Pair) (out : Answer) → GivesBehindEnvironment s the_plan whole journal → IsStretch found whole → IsStretch part journal → AreOfUse (IsFile env the_plan) part →
       IsPart s Profile found part out → passes (result_err out) ≡ false → is_ok out ≡ true
   unfolding member_tree profile
   profile_answers found whole part journal out given mine stretch uses p stays = plan_decides the_plan found whole part journal out given mine stretch p.reads stays uses
 
   from_profile : (attempts : List (ProviderAttempt CredentialsError)) (found whole : List Value) (part journal : List Pair) (out : Answer) → GivesBehindEnvironment s the_plan whole journal → IsStretch found whole → IsStretch part journal →
-      AreOfUse env part → Parts (Profile ∷ WebIdentityToken ∷ EcsContainer ∷ Ec2InstanceMetadata ∷ []) attempts found part out → is_ok out ≡ true
+      AreOfUse (IsFile env the_plan) part → Parts (Profile ∷ WebIdentityToken ∷ EcsContainer ∷ Ec2InstanceMetadata ∷ []) attempts found part out → is_ok out ≡ true
   from_profile attempts found whole part journal out given mine stretch uses (inl h) =
-      from_identity _ h.1 whole h.3 journal out (plan_passed the_plan h.0 whole h.2 journal h.4 given h.8.cause (goes_on s h.4 h.5 h.9))
-      (rest_stretch found h.0 h.1 whole h.6 mine) (rest_stretch part h.2 h.3 journal h.7 stretch) (rest_used part h.2 h.3 h.7 uses) h.10
+      let left = rest_used (IsFile env the_plan) part h.2 h.3 h.7 uses in
+      let passed = plan_passed the_plan h.0 whole h.2 h.3 journal h.4 given h.8.cause (goes_on s h.4 h.5 h.9) left in
+      from_identity _ h.1 whole h.3 journal out passed.0 (rest_stretch found h.0 h.1 whole h.6 mine) (rest_stretch part h.2 h.3 journal h.7 stretch) passed.1 h.10
   from_profile attempts found whole part journal out given mine stretch uses (inr h) = profile_answers found whole part journal out given mine stretch uses h.0 (decides s out h.1)
 
   -- ---- the environment
@@ -194,7 +198,7 @@ module _ (s : Setting) (names : IsContainerUri s.configuration.environment s.con
       Parts (Environment ∷ Profile ∷ WebIdentityToken ∷ EcsContainer ∷ Ec2InstanceMetadata ∷ []) [] found journal out → is_ok out ≡ true
   from_environment found journal out valid (inl h) =
       from_profile (attempt (credentials_chain s) Environment h.5 ∷ []) h.1 found h.3 journal out (environment_passed found journal h.4 valid.given (environment_told h.0 h.2 h.4 h.8) (goes_on s h.4 h.5 h.9))
-      (rest_stretch found h.0 h.1 found h.6 (all_of_it found)) (rest_stretch journal h.2 h.3 journal h.7 (all_of_it journal)) (rest_used journal h.2 h.3 h.7 valid.answers) h.10
+      (rest_stretch found h.0 h.1 found h.6 (all_of_it found)) (rest_stretch journal h.2 h.3 journal h.7 (all_of_it journal)) (rest_used (IsFile env the_plan) journal h.2 h.3 h.7 valid.answers) h.10
   from_environment found journal out valid (inr h) = environment_answers out valid.texts (environment_told found journal out h.0) (decides s out h.1)
 
 pub valid_loaded : (s : Setting) (found : List Value) (journal : List Pair) (out : Answer) → IsContainerUri s.configuration.environment s.container → Resolves s found journal out → IsValid s found journal → is_ok out ≡ true

@@ -15,7 +15,7 @@ use Rattle.cfg_keeping.specs.Kinds.{Value, States}
 use Rattle.cfg_exchange.specs.Containers.{IsContainerUri}
 use Rattle.cfg_profile.specs.Configuration.{Configuration}
 use Rattle.cfg_providers.specs.CustomSources.{Answer}
-use Rattle.cfg_providers.specs.EnvironmentCauses.{is_not_loaded_answer}
+use Rattle.cfg_types.specs.Classes.{is_not_loaded_answer}
 use Rattle.cfg_chain.specs.declared.member.Member.{Member}
 use Rattle.cfg_chain.specs.Settings.{Setting, Lent, setting}
 use Rattle.cfg_chain.specs.Members.{credentials_chain, default_members, is_not_loaded, none_loaded}

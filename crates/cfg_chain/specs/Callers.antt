@@ -7,7 +7,7 @@ use Rattle.cfg_world.specs.Fits.{Pair}
 use Rattle.cfg_keeping.specs.Kinds.{Value}
 use Rattle.cfg_profile.specs.Configuration.{Configuration}
 use Rattle.cfg_providers.specs.CustomSources.{Answer}
-use Rattle.cfg_providers.specs.EnvironmentCauses.{is_not_loaded_answer}
+use Rattle.cfg_types.specs.Classes.{is_not_loaded_answer}
 use Rattle.cfg_chain.specs.declared.member.Member.{Member}
 use Rattle.cfg_chain.specs.Settings.{Setting, Lent, Services, AreServices, setting}
 use Rattle.cfg_chain.specs.Members.{name_of, is_not_loaded, none_loaded, default_members}

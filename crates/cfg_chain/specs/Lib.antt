@@ -10,3 +10,4 @@ pub mod Valid
 pub mod Provides
 pub mod Setups
 pub mod Callers
+pub mod SignOns

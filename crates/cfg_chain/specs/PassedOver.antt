@@ -4,7 +4,8 @@ use Rattle.cfg_world.specs.Fits.{Pair}
 use Rattle.cfg_exchange.specs.ContainerUnset.{IsUnset}
 use Rattle.cfg_keeping.specs.Kinds.{Value}
 use Rattle.cfg_metadata.specs.PassedOver as metadata
-use Rattle.cfg_providers.specs.EnvironmentCauses.{environment_is_passed_over, is_not_loaded_answer}
+use Rattle.cfg_types.specs.Classes.{is_not_loaded_answer}
+use Rattle.cfg_providers.specs.EnvironmentCauses.{environment_is_passed_over}
 use Rattle.cfg_providers.specs.CustomSources.{Answer}
 use Rattle.cfg_providers.specs.WebIdentities.{identity_in}
 use Rattle.cfg_chain.specs.declared.member.Member.{Member}

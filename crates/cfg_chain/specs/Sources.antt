@@ -1,7 +1,7 @@
 -- What the caller lends, as contracts see it.
 use Rattle.std.specs.Prelude.{List, map}
 use Rattle.cfg_exchange.specs.Classifiers.{Repeats}
-use Rattle.cfg_keeping.specs.Clients.{client_rules}
+use Rattle.cfg_imds.specs.Clients.{client_rules}
 use Rattle.cfg_providers.specs.declared.custom.CustomSource.{CustomSource}
 use Rattle.cfg_providers.specs.CustomSources.{Answer, NamedAnswer, named}
 use Rattle.cfg_chain.specs.declared.services.Services as asked

@@ -8,6 +8,7 @@ use Rattle.cfg_types.specs.Environment.{Variables, variable}
 use Rattle.cfg_types.specs.Replies.{sts_in}
 use Rattle.cfg_types.specs.declared.command.Finished.{Finished}
 use Rattle.cfg_types.specs.declared.environment.VarError.TheVariants.{NotUnicode}
+use Rattle.cfg_types.specs.declared.errors.CredentialsError.{CredentialsError}
 use Rattle.cfg_types.specs.declared.reply.FailKind.{FailKind}
 use Rattle.cfg_types.specs.declared.reply.sts.StsReply.{StsReply}
 use Rattle.cfg_types.specs.declared.request.Request.{Request}
@@ -19,6 +20,7 @@ use Rattle.cfg_world.specs.declared.ask.Answer.TheVariants as answer
 use Rattle.cfg_world.specs.declared.leaves.NotGranted.{NotGranted}
 use Rattle.cfg_world.specs.Leaves.{contents_of, addresses_of, granted_of}
 use Rattle.cfg_world.specs.Fits.{Pair}
+use Rattle.cfg_world.specs.Repeats.{IsRepeated}
 use Rattle.cfg_exchange.specs.declared.container.ContainerUri.{ContainerUri}
 use Rattle.cfg_exchange.specs.declared.container.ContainerUri.TheVariants as uri
 use Rattle.cfg_exchange.specs.declared.full_uri.FullUri.{FullUri}
@@ -42,6 +44,7 @@ use Rattle.cfg_profile.specs.Configuration.{Configuration}
 use Rattle.cfg_profile.specs.declared.chain.BaseProvider.{BaseProvider}
 use Rattle.cfg_profile.specs.declared.chain.BaseProvider.TheVariants as base
 use Rattle.cfg_profile.specs.NamedSources.{is_alike}
+use Rattle.cfg_providers.specs.declared.web_identity_token.WebIdentity.{WebIdentity}
 use Rattle.cfg_providers.specs.CustomSources.{Answer, last_named}
 use Rattle.cfg_providers.specs.EnvironmentKeys.{usable}
 use Rattle.cfg_providers.specs.ProcessDocuments.{process_document}
@@ -80,10 +83,19 @@ IsGranted (request.AssumeRoleWithWebIdentity call) given = IsUsable (granted_of 
 IsGranted (request.Http call) given = IsOk (answer_keys given)
 IsGranted _ given = Unit {0}
 
--- A file was read and is UTF-8, and that of a container's token holds a header value.
-abbrev pub IsTokenFile : Variables → List ℕ → Result (List ℕ) FailKind → Type 0
-IsTokenFile env path (Ok bytes) = (is_utf8 bytes ≡ true) × (token_file env ≡ Some path → is_header_value bytes ≡ true)
-IsTokenFile env path (Err kind) = ⊥
+-- what was read of a file, or why it could not be read
+abbrev pub Contents : Type 0
+Contents = Result (List ℕ) FailKind
+
+-- The file of a web identity was read, and is UTF-8.
+abbrev pub IsText : Contents → Type 0
+IsText (Ok bytes) = is_utf8 bytes ≡ true
+IsText (Err kind) = ⊥
+
+-- The file of a container's token was read, and holds a header value.
+abbrev pub HoldsHeaderValue : Contents → Type 0
+HoldsHeaderValue (Ok bytes) = is_header_value bytes ≡ true
+HoldsHeaderValue (Err kind) = ⊥
 
 -- A command ended with the status 0, and its output is a document of credentials, in UTF-8.
 pub record HasPrinted (finished : Finished) : Type 0 where
@@ -100,23 +112,18 @@ abbrev pub AreAllowed : Result (List Address) FailKind → Type 0
 AreAllowed (Ok addresses) = All (λ a. is_allowed a ≡ true) addresses
 AreAllowed (Err kind) = ⊥
 
--- The answer is of use.
-abbrev pub IsOfUse : Variables → Question → Given → Type 0
-IsOfUse env (question.Read path) given = IsTokenFile env path (contents_of given)
-IsOfUse env (question.Run command) given = IsPrinted given
-IsOfUse env (question.LookUp host) given = AreAllowed (addresses_of given)
-IsOfUse env (question.Send request) given = IsGranted request given
-IsOfUse env _ given = Unit {0}
-
--- The next entry asks the same again.
-abbrev pub IsRepeated : Question → List Pair → Type 0
-IsRepeated q [] = ⊥
-IsRepeated q (e ∷ rest) = e.0 ≡ q
+-- The answer is of use, where this is asked of a file.
+abbrev pub IsOfUse : (Contents → Type 0) → Question → Given → Type 0
+IsOfUse Files (question.Read path) given = Files (contents_of given)
+IsOfUse Files (question.Run command) given = IsPrinted given
+IsOfUse Files (question.LookUp host) given = AreAllowed (addresses_of given)
+IsOfUse Files (question.Send request) given = IsGranted request given
+IsOfUse Files _ given = Unit {0}
 
 -- Each answer is of use, but for those of attempts that are made again.
-abbrev pub AreOfUse : Variables → List Pair → Type 0
-AreOfUse env [] = Unit {0}
-AreOfUse env (e ∷ rest) = (IsOfUse env e.0 e.1 ⊎ IsRepeated e.0 rest) × AreOfUse env rest
+abbrev pub AreOfUse : (Contents → Type 0) → List Pair → Type 0
+AreOfUse Files [] = Unit {0}
+AreOfUse Files (e ∷ rest) = (IsOfUse Files e.0 e.1 ⊎ IsRepeated e.0 rest) × AreOfUse Files rest
 
 -- ---- the variables and the profile
 
@@ -167,7 +174,7 @@ GivesMetadata m found journal = (mine : List Value) (part : List Pair) (given : 
 -- Over the stretch in which IAM Identity Center is asked, nothing stands in the way.
 abbrev pub GivesSignOn : Configuration → SsoProviderConfig → List Value → List Pair → Type 0
 GivesSignOn conf sso found journal = (mine : List Value) (part : List Pair) (given : Answer) → IsStretch mine found → IsStretch part journal → (cause : SsoCause conf sso mine part given) →
-    NothingInTheWay conf sso cause.token_part cause.role_part
+    NothingInTheWay conf sso mine cause.token_part cause.role_part
 
 -- Over the stretch in which the token of a sign-in session is looked at, nothing stands in the way.
 abbrev pub GivesSignIn : Configuration → List ℕ → List Value → List Pair → Type 0
@@ -208,9 +215,27 @@ abbrev pub GivesBehindEnvironment : Setting → Planned → List Value → List 
 GivesBehindEnvironment s (Ok p) found journal = IsBase s p.base found journal
 GivesBehindEnvironment s (Err e) found journal = (is_not_loaded_error e ≡ true) × GivesBehindProfile s found journal
 
+-- What is asked of a file that a base reads: a web identity's own, or that of a container's token, which is
+-- the only one that a named source reads. Those of sessions are judged with the section of their token.
+abbrev pub IsFileOfBase : BaseProvider → Contents → Type 0
+IsFileOfBase (base.WebIdentityTokenRole arn file session) held = IsText held
+IsFileOfBase (base.NamedSource name) held = HoldsHeaderValue held
+IsFileOfBase _ held = Unit {0}
+
+-- Behind the profile that of the web identity is read, where the variables name one, and else that of a
+-- container's token.
+abbrev pub IsFileBehindProfile : Result WebIdentity CredentialsError → Contents → Type 0
+IsFileBehindProfile (Ok identity) held = IsText held
+IsFileBehindProfile (Err e) held = HoldsHeaderValue held
+
+-- what is asked of a file that a call reads
+abbrev pub IsFile : Variables → Planned → Contents → Type 0
+IsFile env (Ok p) held = IsFileOfBase p.base held
+IsFile env (Err e) held = IsFileBehindProfile (identity_in env) held
+
 -- Nothing stands in the way of credentials: the variables are texts; the environment has something to
 -- give, or a member behind it; and each answer in the journal's part is of use.
 pub record IsValid (s : Setting) (found : List Value) (part : List Pair) : Type 0 where
   pub texts : HasTexts s.configuration.environment
   pub given : HoldsKeys s.configuration.environment ⊎ GivesBehindEnvironment s (plan s.configuration (names_of s.sources)) found part
-  pub answers : AreOfUse s.configuration.environment part
+  pub answers : AreOfUse (IsFile s.configuration.environment (plan s.configuration (names_of s.sources))) part

@@ -22,8 +22,10 @@ ghost use Rattle.cfg_chain.specs.Causes.{Cause};
 ghost use Rattle.cfg_chain.specs.PassedOver.{IsPassedOver, PassesByTable};
 ghost use Rattle.cfg_chain.specs.Resolves.{Resolves};
 ghost use Rattle.cfg_chain.specs.Valid.{IsValid};
-ghost use Rattle.cfg_chain.specs.Provides.{IsCall, Provides};
+ghost use Rattle.cfg_chain.specs.Provides.{IsCall, Provides, Interrupted};
 ghost use Rattle.cfg_chain.specs.Callers.{TellsWho};
+ghost use Rattle.cfg_chain.specs.SignOns.{PlansSignOn, SignsOn};
+ghost use Rattle.cfg_sso.specs.declared.config.SsoProviderConfig.{SsoProviderConfig as SignOn};
 ghost use Rattle.cfg_chain.specs.profile.Bases.{CanBeAsked};
 ghost use Rattle.cfg_chain.specs.profile.Plans.{Planned, profile_plan, plan, key_of_plan, key_of};
 
@@ -97,4 +99,14 @@ pub fn a_configuration_has_one_key()
 pub fn a_call_tells_who_answered<D: Devices>()
     ensures { (conf : Configuration) (lent : Lent) (old new : States) (found : List Value) (before later : Held D) (out : Answer) →
         Provides ⟦<D as Devices>⟧ conf lent old new found before later out → TellsWho conf lent found before.journal later.journal out }
+{}
+
+/// Where the selected profile's plan begins with a role of IAM Identity Center, a call sends at most one
+/// `GetRoleCredentials`, with the token that the part before it gave; a session's token ends after the last
+/// reading of the clock in this part. It holds of a call for which memory ran out, too.
+pub fn a_call_sends_no_expired_token<D: Devices>()
+    ensures answered { (conf : Configuration) (lent : Lent) (sso : SignOn) (old new : States) (found : List Value) (before later : Held D) (out : Answer) →
+        PlansSignOn (plan conf (names_of lent.sources)) sso → Provides ⟦<D as Devices>⟧ conf lent old new found before later out → SignsOn conf sso found before.journal later.journal }
+    ensures interrupted { (conf : Configuration) (lent : Lent) (sso : SignOn) (old new : States) (found : List Value) (before later : Held D) →
+        PlansSignOn (plan conf (names_of lent.sources)) sso → Interrupted ⟦<D as Devices>⟧ conf lent old new found before later → SignsOn conf sso found before.journal later.journal }
 {}

@@ -12,10 +12,11 @@ pub mod profile;
 mod services;
 
 pub use cfg_imds::Client;
-pub use cfg_keeping::{Found, Kept, TokenKey};
+pub use cfg_keeping::{Found, Kept};
 pub use cfg_profile::{ProfileSet, ProfileSource, ProviderConfig, Section};
 pub use cfg_providers::{CustomProvider, CustomSource, ProvideCredentials};
 pub use cfg_region::RegionSource;
-pub use cfg_types::{CredentialsError, OutOfMemory};
+pub use cfg_token::TokenKey;
+pub use cfg_types::{CredentialsError, OutOfMemory, ProfileFileError};
 pub use default_provider::credentials::DefaultCredentialsChain;
 pub use profile::credentials::ProfileFileCredentialsProvider;

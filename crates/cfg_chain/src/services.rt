@@ -1,6 +1,6 @@
 //! Where the services of a call are asked.
 ghost use Rattle.std.specs.Prelude.{◌≡◌, option_map};
-ghost use Rattle.cfg_keeping.specs.Clients.{client_rules};
+ghost use Rattle.cfg_imds.specs.Clients.{client_rules};
 ghost use Rattle.cfg_chain.specs.Settings.{lent_or as lent_or_own};
 
 use cfg_exchange::ContainerUri;

@@ -1,10 +1,8 @@
 // What builders build, by scripts: a chain in its region, and a provider of a profile.
 use crate::setup::{Configured, Outcome, answer_words, answered, read_configuration};
-use cfg_chain::{
-    DefaultCredentialsChain, ProfileFileCredentialsProvider, ProfileSource, ProviderConfig,
-    RegionSource,
-};
-use cfg_region::EnvironmentVariableRegionProvider;
+use cfg_chain::{DefaultCredentialsChain, ProfileFileCredentialsProvider};
+use cfg_profile::{ProfileSource, ProviderConfig};
+use cfg_region::{EnvironmentVariableRegionProvider, RegionSource};
 use cfg_types::{OutOfMemory, Region, Request, Text, TryCopy};
 use cfg_world::{Entry, Question, ScriptDevices, World};
 use std::alloc::{AllocError, Global};

@@ -1,8 +1,10 @@
 // Calls on one `Kept`: what they answer, how much they ask and find kept, and what stands in for a call
 // that is interrupted then.
 use crate::setup::{Setup, answer_words, called, set_up};
-use cfg_chain::{Client, CustomSource, DefaultCredentialsChain, Kept};
-use cfg_keeping::Keeper;
+use cfg_chain::DefaultCredentialsChain;
+use cfg_imds::Client;
+use cfg_keeping::{Keeper, Kept};
+use cfg_providers::CustomSource;
 use cfg_types::OutOfMemory;
 use cfg_world::{ScriptDevices, World};
 use std::alloc::Global;

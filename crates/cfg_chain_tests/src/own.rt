@@ -1,6 +1,6 @@
 //! Sources of credentials that the tests bring.
-use cfg_chain::{CredentialsError, CustomSource, OutOfMemory, ProvideCredentials};
-use cfg_types::{Credentials, CredentialsBuilder, Text};
+use cfg_providers::{CustomSource, ProvideCredentials};
+use cfg_types::{Credentials, CredentialsBuilder, CredentialsError, OutOfMemory, Text};
 use std::alloc::Global;
 
 // Keys of this id.

@@ -4,10 +4,12 @@ ghost use Rattle.cfg_script.specs.Script.{plain};
 ghost use Rattle.cfg_script.specs.Devices.{lists_of};
 
 use crate::own::own_sources;
-use cfg_chain::{
-    Client, CustomSource, DefaultCredentialsChain, Kept, ProfileSet, ProfileSource, ProviderConfig,
-    RegionSource, Section,
-};
+use cfg_chain::DefaultCredentialsChain;
+use cfg_imds::Client;
+use cfg_keeping::Kept;
+use cfg_profile::{ProfileSet, ProfileSource, ProviderConfig, Section};
+use cfg_providers::CustomSource;
+use cfg_region::RegionSource;
 use cfg_script::{Script, ScriptProfiles, read_script};
 use cfg_types::{Credentials, CredentialsError, Env, EnvText, OutOfMemory, Region, TryCopy};
 use cfg_world::{Asking, Entry, ScriptDevices, World};

@@ -7,13 +7,13 @@ use Rattle.http_uri.specs.Grammar.{authority_host}
 use Rattle.cfg_values.specs.Text.{characters}
 use Rattle.cfg_values.specs.declared.address.Address.{Address}
 use Rattle.cfg_values.proofs.AddressLaws.{one_address}
-use Rattle.cfg_types.specs.Environment.{Variables}
+use Rattle.cfg_types.specs.Environment.{Variables, readable}
 use Rattle.cfg_exchange.specs.declared.target.Target.{Target}
 use Rattle.cfg_exchange.specs.declared.full_uri.FullUri.{FullUri}
 use Rattle.cfg_exchange.specs.declared.container.ContainerUri.{ContainerUri}
 use Rattle.cfg_exchange.specs.declared.container.ContainerUri.TheVariants as uri
 use Rattle.cfg_exchange.specs.FullUris.{full_at, relative_at, IsRelativeUri, IsBareHost, IsAddressOf, at_host, IsHostNamed, IsSchemeNamed, IsNamed, IsFullUri}
-use Rattle.cfg_exchange.specs.Containers.{readable, relative_uri, IsUriBy, IsContainerUri}
+use Rattle.cfg_exchange.specs.Containers.{relative_uri, IsUriBy, IsContainerUri}
 use Rattle.cfg_exchange.proofs.OneUri.{one_uri}
 
 one_relative : (text : List ℕ) (a b : Option Target) → IsRelativeUri text a → IsRelativeUri text b → a ≡ b

@@ -3,7 +3,7 @@ use Rattle.std.proofs.Common.{◌≡◌, inl, inr, ℕ, zero, suc, List, [], ◌
 use Rattle.std.specs.Prelude.{Ok, Err, ◌-◌, codes, option_map, if◌then◌else◌}
 use Rattle.std.specs.List.{AllByRecursion}
 use Rattle.std.specs.Str.{encode_utf8_all}
-use Rattle.cfg_types.specs.Environment.{Variables}
+use Rattle.cfg_types.specs.Environment.{Variables, readable}
 use Rattle.cfg_types.specs.declared.request.Request.{Request}
 use Rattle.cfg_types.specs.declared.request.Request.TheVariants as request
 use Rattle.cfg_world.specs.declared.ask.Question.TheVariants.{LookUp, Send}
@@ -23,7 +23,7 @@ use Rattle.cfg_exchange.specs.Attempts.{asked, attempts}
 use Rattle.cfg_exchange.specs.Classifiers.{credentials_repeats, is_repeated}
 use Rattle.cfg_exchange.specs.FullUris.{IsRelativeUri, IsFullUri}
 use Rattle.cfg_exchange.specs.Targets.{Checked, at_name, full_target}
-use Rattle.cfg_exchange.specs.Containers.{Read, readable, token_file, token_text, token_of_file, token_of_bytes, token_by, auth_token, relative_uri, IsUriBy, IsContainerUri, or_full_uri, container_target, answer_keys, credentials_request, credentials_attempts, attempt_limit, fetched_keys, with_token, container}
+use Rattle.cfg_exchange.specs.Containers.{Read, token_file, token_text, token_of_file, token_of_bytes, token_by, auth_token, relative_uri, IsUriBy, IsContainerUri, or_full_uri, container_target, answer_keys, credentials_request, credentials_attempts, attempt_limit, fetched_keys, with_token, container}
 use Rattle.cfg_exchange.specs.ContainerRequests.{look_up_before, look_ups, IsSafeRequest, IsSafeQuestion}
 use Rattle.cfg_exchange.proofs.Checks.{read_begun}
 use Rattle.cfg_exchange.proofs.SafeTargets.{target_is_allowed}

@@ -5,8 +5,8 @@ use Rattle.std.specs.Result.{result_err}
 use Rattle.std.specs.Prelude.{Result, Ok, Err, codes, option_map, if◌then◌else◌}
 use Rattle.std.specs.Str.{encode_utf8_all}
 use Rattle.cfg_types.specs.Keys.{Keys}
-use Rattle.cfg_types.specs.Classes.{is_of_class}
-use Rattle.cfg_types.specs.Environment.{Variables}
+use Rattle.cfg_types.specs.Classes.{is_of_class, is_not_loaded_answer}
+use Rattle.cfg_types.specs.Environment.{Variables, readable}
 use Rattle.cfg_types.specs.declared.errors.Class.TheVariants as class
 use Rattle.cfg_types.specs.declared.errors.CredentialsError.{CredentialsError}
 use Rattle.cfg_types.specs.declared.errors.CredentialsError as errors
@@ -33,9 +33,9 @@ use Rattle.cfg_exchange.specs.declared.target.Target.{Target}
 use Rattle.cfg_exchange.specs.Documents.{body_document}
 use Rattle.cfg_exchange.specs.HeaderValues.{is_header_value}
 use Rattle.cfg_exchange.specs.Readings.{is_success}
-use Rattle.cfg_exchange.specs.Containers.{Read, readable, token_file, token_text, token_of_file, token_of_bytes, token_by, auth_token, relative_uri, IsUriBy, IsContainerUri, container_target, said_keys, reply_keys, sent_keys, answer_keys, with_token, container}
+use Rattle.cfg_exchange.specs.Containers.{Read, token_file, token_text, token_of_file, token_of_bytes, token_by, auth_token, relative_uri, IsUriBy, IsContainerUri, container_target, said_keys, reply_keys, sent_keys, answer_keys, with_token, container}
 use Rattle.cfg_exchange.specs.ContainerCauses.{file_read, last_answer, held_fault, token_fault_by, token_fault, full_fault, address_fault, fault_of_answer, answer_fault, why_container}
-use Rattle.cfg_exchange.specs.ContainerUnset.{is_not_loaded, IsTokenPart, IsUnset}
+use Rattle.cfg_exchange.specs.ContainerUnset.{IsTokenPart, IsUnset}
 use Rattle.cfg_exchange.proofs.Causes.{has_cause}
 
 abbrev Given : Type 0
@@ -51,7 +51,7 @@ is_unset_cause (Some e) = is_of_class class.CredentialsNotLoaded e
 clash : false ≡ true → ⊥
 clash h = absurd cc
 
-by_cause : (out : Given) → is_not_loaded out ≡ is_unset_cause (result_err out)
+by_cause : (out : Given) → is_not_loaded_answer out ≡ is_unset_cause (result_err out)
 by_cause (Ok keys) = refl
 by_cause (Err e) = refl
 
@@ -159,10 +159,10 @@ module _ (env : Variables) (settings : ContainerSettings) (named : ContainerUri)
   abbrev full_text : Option (List ℕ)
   full_text = readable env (codes "AWS_CONTAINER_CREDENTIALS_FULL_URI")
 
-  caused : is_not_loaded out ≡ is_unset_cause (why_container env settings named part)
+  caused : is_not_loaded_answer out ≡ is_unset_cause (why_container env settings named part)
   caused = by_cause out ∙ ap is_unset_cause (has_cause env settings named part out reads)
 
-  pub passed_over : is_not_loaded out ≡ true → IsUnset env part
+  pub passed_over : is_not_loaded_answer out ≡ true → IsUnset env part
   unfolding container auth_token
   passed_over p =
       let token =
@@ -176,7 +176,7 @@ module _ (env : Variables) (settings : ContainerSettings) (named : ContainerUri)
         asks = token_part settings (token_file env) (token_text env) part out (subst (λ m. Reads (container env settings m) part out) unset reads);
       }
 
-  pub unset_passed : IsUnset env part → is_not_loaded out ≡ true
+  pub unset_passed : IsUnset env part → is_not_loaded_answer out ≡ true
   unfolding errors.out-CredentialsError carrier.out
   unset_passed u =
       caused

@@ -1,7 +1,7 @@
 -- Where a container's requests go.
 use Rattle.std.specs.Prelude.{◌≡◌, ◌⊎◌, ℕ, List, [], ◌∷◌, Some, codes}
 use Rattle.std.specs.Str.{encode_utf8_all}
-use Rattle.cfg_types.specs.Environment.{Variables}
+use Rattle.cfg_types.specs.Environment.{Variables, readable}
 use Rattle.cfg_types.specs.declared.request.Request.{Request}
 use Rattle.cfg_types.specs.declared.request.Request.TheVariants as request
 use Rattle.cfg_world.specs.declared.ask.Question.{Question}
@@ -10,7 +10,6 @@ use Rattle.cfg_world.specs.declared.ask.Answer.{Answer}
 use Rattle.cfg_world.specs.Fits.{Pair}
 use Rattle.cfg_exchange.specs.declared.target.Target.{Target}
 use Rattle.cfg_exchange.specs.AllowedTargets.{IsAllowedTarget}
-use Rattle.cfg_exchange.specs.Containers.{readable}
 
 abbrev pub look_up_before : Question → Answer → List Pair → List Pair
 look_up_before (question.LookUp host) given others = (question.LookUp host, given) ∷ others

@@ -1,19 +1,11 @@
 -- When a container is passed over: where nothing says where its credentials are.
-use Rattle.std.specs.Prelude.{◌≡◌, ℕ, List, [], ◌∷◌, Bool, false, Option, Some, None, Result, Ok, Err, codes}
-use Rattle.cfg_types.specs.Classes.{is_of_class}
-use Rattle.cfg_types.specs.Environment.{Variables}
-use Rattle.cfg_types.specs.declared.errors.Class.TheVariants as class
-use Rattle.cfg_types.specs.declared.errors.CredentialsError.{CredentialsError}
+use Rattle.std.specs.Prelude.{◌≡◌, ℕ, List, [], ◌∷◌, Option, Some, None, codes}
+use Rattle.cfg_types.specs.Environment.{Variables, readable}
 use Rattle.cfg_world.specs.declared.ask.Question.TheVariants as question
 use Rattle.cfg_world.specs.declared.ask.Answer.{Answer}
 use Rattle.cfg_world.specs.Fits.{Pair}
-use Rattle.cfg_exchange.specs.Containers.{readable, token_file}
+use Rattle.cfg_exchange.specs.Containers.{token_file}
 use Rattle.cfg_exchange.specs.ContainerCauses.{token_fault}
-
--- whether an answer says that there was nothing to load
-abbrev pub is_not_loaded : {A : Type 0} → Result A CredentialsError → Bool
-is_not_loaded (Ok given) = false
-is_not_loaded (Err e) = is_of_class class.CredentialsNotLoaded e
 
 -- the token's file is read, where a variable names one, and nothing else is asked
 abbrev pub IsTokenPart : Option (List ℕ) → List Pair → Type 0

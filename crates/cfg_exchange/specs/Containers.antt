@@ -3,8 +3,7 @@ use Rattle.std.specs.Prelude.{◌≡◌, ◌⊎◌, ℕ, List, [], ◌∷◌, �
 use Rattle.std.specs.Str.{encode_utf8_all}
 use Rattle.cfg_values.specs.Moment.{Moment}
 use Rattle.cfg_types.specs.Keys.{Keys}
-use Rattle.cfg_types.specs.Environment.{Variables, variable}
-use Rattle.cfg_types.specs.declared.environment.VarError.{VarError}
+use Rattle.cfg_types.specs.Environment.{Variables, readable}
 use Rattle.cfg_types.specs.declared.credentials.AwsCredentialFeature.TheVariants.{CredentialsHttp}
 use Rattle.cfg_types.specs.declared.errors.CredentialsError.{CredentialsError}
 use Rattle.cfg_types.specs.declared.errors.CredentialsError.TheVariants.{CredentialsNotLoaded, InvalidConfiguration, ProviderError, Unhandled}
@@ -44,14 +43,6 @@ use Rattle.cfg_exchange.specs.Targets.{Checked, full_target}
 
 abbrev pub Read : Type 0 → Type 0
 Read A = Result A CredentialsError
-
-abbrev pub text_in : Result (List ℕ) VarError → Option (List ℕ)
-text_in (Ok text) = Some text
-text_in (Err e) = None
-
--- the text of a variable, where it can be read
-abbrev pub readable : Variables → List ℕ → Option (List ℕ)
-readable env name = text_in (variable env name)
 
 -- ---- the token that is sent
 
@@ -150,7 +141,8 @@ credentials_request settings token target = record {
   timeouts = record { connect_ms = Some settings.connect_ms; read_ms = Some settings.read_ms; operation_ms = None; attempt_ms = None };
 }
 
--- three attempts at most where it is known how to wait between them, and else one
+-- Three attempts at most where it is known how to wait between them, and else one: the provider of aws-config
+-- (`http_credential_provider.rs`) retries by `RetryConfig::standard()`, which has three, or not at all.
 abbrev pub attempt_limit : Bool → ℕ
 attempt_limit sleep = if sleep then 3 else 1
 

@@ -9,8 +9,8 @@ ghost use Rattle.cfg_exchange.specs.Readings.{IsReadOf};
 use crate::classify::ClassifyRetry;
 use crate::documents::Said;
 use crate::reading::{Reading, ReplyKind};
-use cfg_types::{HttpReply, OutOfMemory, TryCopy};
-use cfg_world::{Answer, Asking, Question, Receipt, Reply, Request, Stop};
+use cfg_types::{HttpReply, OutOfMemory, Reply, Request, TryCopy};
+use cfg_world::{Answer, Asking, Question, Receipt, Stop};
 use std::alloc::Global;
 
 /// Sends the request until its answer is not repeated, `limit` times at most, and once where that is

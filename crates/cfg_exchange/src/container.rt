@@ -1,6 +1,5 @@
 //! Credentials of a container, as the agents of Amazon ECS and EKS give them.
 ghost use Rattle.std.specs.Prelude.{◌≡◌, IfOk, IfSome, option_map};
-ghost use Rattle.std.specs.Str.{encode_utf8_all};
 ghost use Rattle.cfg_values.specs.Text.{characters};
 ghost use Rattle.cfg_world.specs.Follows.{Follows};
 ghost use Rattle.cfg_exchange.specs.declared.container.ContainerUri.TheVariants as uri_of;
@@ -8,7 +7,7 @@ ghost use Rattle.cfg_exchange.specs.Attempts.{outcome_of};
 ghost use Rattle.cfg_exchange.specs.Documents.{body_document as body_document_of};
 ghost use Rattle.cfg_exchange.specs.Readings.{IsReadOf};
 ghost use Rattle.cfg_exchange.specs.FullUris.{IsRelativeUri, IsFullUri};
-ghost use Rattle.cfg_exchange.specs.Containers.{readable as readable_of, checked_token as checked_token_of, token_of_file as token_of_file_of, token_of_bytes as token_of_bytes_of, auth_token as auth_token_of, relative_uri as relative_uri_of, IsContainerUri, or_full_uri as or_full_uri_of, container_target, said_keys as said_keys_of, reply_keys as reply_keys_of, answer_keys as answer_keys_of, credentials_request, credentials_attempts, attempt_limit as attempt_limit_of, fetched_keys, container as container_of, FollowsContainer};
+ghost use Rattle.cfg_exchange.specs.Containers.{checked_token as checked_token_of, token_of_file as token_of_file_of, token_of_bytes as token_of_bytes_of, auth_token as auth_token_of, relative_uri as relative_uri_of, IsContainerUri, or_full_uri as or_full_uri_of, container_target, said_keys as said_keys_of, reply_keys as reply_keys_of, answer_keys as answer_keys_of, credentials_request, credentials_attempts, attempt_limit as attempt_limit_of, fetched_keys, container as container_of, FollowsContainer};
 
 use crate::attempts::exchange_and_read;
 use crate::classify::HttpCredentialRetryClassifier;
@@ -77,29 +76,14 @@ impl TryCopy for ContainerUri {
     }
 }
 
-// The text of a variable, where it can be read.
-fn readable<'a>(env: &'a Env, name: &str) -> Option<&'a str>
-    ensures chars { option_map (λ t. characters t.now) result ≡ readable_of env.now name.now }
-    ensures bytes { option_map (λ t. t.now) result ≡ option_map encode_utf8_all (readable_of env.now name.now) }
+fn checked_token(bytes: Bytes) -> Result<Option<Bytes>, CredentialsError>
+    ensures { result ≡ checked_token_of bytes }
 {
-    match env.get(name) {
-        Ok(text) => Some(text),
-        Err(_) => None,
+    if is_header_value(bytes.as_slice()) {
+        return Ok(Some(bytes));
     }
-}
-
-fn checked_token(
-    alloc: Global,
-    bytes: &[u8],
-) -> Result<Result<Option<Bytes>, CredentialsError>, OutOfMemory>
-    ensures { IfOk result (λ token. token ≡ checked_token_of bytes.now) }
-{
-    if !is_header_value(bytes) {
-        let cause = ConfigCause::AuthToken;
-        return Ok(Err(CredentialsError::InvalidConfiguration(cause)));
-    }
-    let bytes = Bytes::of(alloc, bytes)?;
-    Ok(Ok(Some(bytes)))
+    let cause = ConfigCause::AuthToken;
+    Err(CredentialsError::InvalidConfiguration(cause))
 }
 
 fn token_of_file(
@@ -110,7 +94,7 @@ fn token_of_file(
     ensures { IfOk result (λ token. token ≡ token_of_file_of (characters path.now) held) }
 {
     match held {
-        Ok(bytes) => checked_token(alloc, bytes.as_slice()),
+        Ok(bytes) => Ok(checked_token(bytes)),
         Err(_) => {
             let path = Text::of(alloc, path)?;
             Ok(Err(CredentialsError::ProviderError(ProviderCause::File(path))))
@@ -126,7 +110,10 @@ fn token_of_text(
 {
     match text {
         None => Ok(Ok(None)),
-        Some(text) => checked_token(alloc, text.as_bytes()),
+        Some(text) => {
+            let bytes = Bytes::of(alloc, text.as_bytes())?;
+            Ok(checked_token(bytes))
+        }
     }
 }
 
@@ -139,7 +126,7 @@ fn auth_token<A: Asking>(
 ) -> Result<Result<Option<Bytes>, CredentialsError>, Stop>
     ensures { Follows ⟦<A as Asking>⟧ (auth_token_of env.now) asking.old asking.new result }
 {
-    match readable(env, "AWS_CONTAINER_AUTHORIZATION_TOKEN_FILE") {
+    match env.readable("AWS_CONTAINER_AUTHORIZATION_TOKEN_FILE") {
         Some(path) => {
             let asked = Text::of(alloc, path)?;
             let held = read_file(alloc, asked, asking)?;
@@ -147,7 +134,7 @@ fn auth_token<A: Asking>(
             Ok(token)
         }
         None => {
-            let text = readable(env, "AWS_CONTAINER_AUTHORIZATION_TOKEN");
+            let text = env.readable("AWS_CONTAINER_AUTHORIZATION_TOKEN");
             let token = token_of_text(alloc, text)?;
             Ok(token)
         }
@@ -182,10 +169,10 @@ fn full_uri(alloc: Global, text: &str) -> Result<ContainerUri, OutOfMemory>
 pub fn container_uri(alloc: Global, env: &Env) -> Result<ContainerUri, OutOfMemory>
     ensures { IfOk result (IsContainerUri env.now) }
 {
-    if let Some(text) = readable(env, "AWS_CONTAINER_CREDENTIALS_RELATIVE_URI") {
+    if let Some(text) = env.readable("AWS_CONTAINER_CREDENTIALS_RELATIVE_URI") {
         return relative_uri(alloc, text);
     }
-    match readable(env, "AWS_CONTAINER_CREDENTIALS_FULL_URI") {
+    match env.readable("AWS_CONTAINER_CREDENTIALS_FULL_URI") {
         Some(text) => full_uri(alloc, text),
         None => Ok(ContainerUri::NotSet),
     }

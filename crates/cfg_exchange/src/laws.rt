@@ -23,7 +23,8 @@ ghost use Rattle.cfg_exchange.specs.declared.container.ContainerSettings.{Contai
 ghost use Rattle.cfg_exchange.specs.declared.container.ContainerUri.{ContainerUri as Place};
 ghost use Rattle.cfg_exchange.specs.Containers.{IsContainerUri, container};
 ghost use Rattle.cfg_exchange.specs.ContainerCauses.{why_container};
-ghost use Rattle.cfg_exchange.specs.ContainerUnset.{is_not_loaded, IsUnset};
+ghost use Rattle.cfg_types.specs.Classes.{is_not_loaded_answer};
+ghost use Rattle.cfg_exchange.specs.ContainerUnset.{IsUnset};
 ghost use Rattle.cfg_exchange.specs.ContainerRequests.{look_ups, IsSafeQuestion};
 
 /// The journal of an exchange is attempts of its request, and the other way round: at least one and at
@@ -66,7 +67,7 @@ pub fn a_container_has_its_cause()
 /// read, and the token's file at most was read.
 pub fn a_container_is_passed_over_where_no_address_is_set()
     ensures { (env : Variables) (settings : Settings) (place : Place) (part : List Pair) (out : Result Keys Refusal) →
-        IsContainerUri env place → Reads (container env settings place) part out → (is_not_loaded out ≡ true) ↔ IsUnset env part }
+        IsContainerUri env place → Reads (container env settings place) part out → (is_not_loaded_answer out ≡ true) ↔ IsUnset env part }
 {}
 
 /// Each request of a container goes to the agent of Amazon ECS, or to the target of the full address

@@ -1,10 +1,13 @@
+//! How long a metadata token lives, as its reply tells it.
 ghost use Rattle.std.specs.Prelude.{◌≡◌, IfOk};
 ghost use Rattle.cfg_exchange.specs.Lifetimes.{number as number_of, lifetime as lifetime_of};
 
 use cfg_types::{HttpReply, OutOfMemory, Text};
 use std::alloc::Global;
 
-fn number(text: &str) -> Option<u64>
+/// The whole number of 64 bits without sign that the text is, in decimal digits. A plus may stand before
+/// them. None where it is no such number.
+pub fn number(text: &str) -> Option<u64>
     ensures { result ≡ number_of text.now }
 {
     match text.parse::<u64>() {
@@ -13,7 +16,8 @@ fn number(text: &str) -> Option<u64>
     }
 }
 
-// The seconds that the metadata token of a reply lives, where the reply tells them.
+/// The seconds that the metadata token of a reply lives, where the reply tells them. `OutOfMemory` where
+/// memory runs out.
 #[tactic(auto, unfolding(crate::specs::Lifetimes::lifetime))]
 pub fn lifetime(alloc: Global, reply: &HttpReply) -> Result<Option<u64>, OutOfMemory>
     ensures { IfOk result (λ seconds. seconds ≡ lifetime_of reply.now) }

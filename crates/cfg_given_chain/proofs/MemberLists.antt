@@ -15,7 +15,7 @@ use Rattle.cfg_members.specs.MemberParts.{Keeping}
 use Rattle.cfg_members.specs.Provides.{ProvidesByMembers, InterruptedMembers}
 use Rattle.cfg_members.proofs.Mapped.{mapped_follows, mapped_provides, mapped_interrupted}
 use Rattle.cfg_providers.specs.CustomSources.{Answer}
-use Rattle.cfg_providers.specs.Provides.{is_memory}
+use Rattle.cfg_types.specs.Classes.{is_memory}
 use Rattle.cfg_chain.specs.Settings.{Lent}
 use Rattle.cfg_given_chain.specs.CredentialsAnswers.{credentials_rules}
 use Rattle.cfg_given_chain.specs.Members.{NamedAsked, LentAsked, lent_to, lent_name, IsLentTree}

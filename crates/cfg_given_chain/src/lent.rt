@@ -5,9 +5,10 @@ ghost use Rattle.cfg_given_chain.specs.CredentialsAnswers.{is_memory_error};
 
 use crate::member::Member;
 use cfg_imds::{BoxedClassifier, Client};
-use cfg_keeping::{Kept, TokenKey};
+use cfg_keeping::Kept;
 use cfg_members::{ChainMember, FallsBack};
 use cfg_providers::CustomSource;
+use cfg_token::TokenKey;
 use cfg_types::{
     Credentials, CredentialsError, NotLoadedCause, OutOfMemory, ProviderChainError, Text,
 };

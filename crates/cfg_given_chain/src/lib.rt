@@ -9,5 +9,6 @@ mod lent;
 pub mod member;
 pub mod meta;
 
+pub use cfg_types::{CredentialsError, OutOfMemory};
 pub use member::Member;
 pub use meta::credentials::CredentialsProviderChain;

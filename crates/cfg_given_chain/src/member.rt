@@ -1,11 +1,10 @@
 //! Members of chains of credentials providers.
 ghost use Rattle.std.specs.Prelude.{◌≡◌, IfOk, map, option_map};
 ghost use Rattle.std.specs.Option.{option_copied};
-ghost use Rattle.cfg_keeping.specs.Clients.{client_rules};
+ghost use Rattle.cfg_imds.specs.Clients.{client_rules};
 ghost use Rattle.cfg_keeping.specs.KeptStates.{kept_holdings, kept_key, states_of};
 ghost use Rattle.cfg_members.specs.FollowsMembers.{FollowsMember};
 ghost use Rattle.cfg_providers.specs.CustomSources.{named};
-ghost use Rattle.cfg_providers.specs.Provides.{is_memory as is_memory_of};
 ghost use Rattle.cfg_chain.specs.Settings.{lends};
 ghost use Rattle.cfg_given_chain.specs.Members.{IsMemberTree, needed_key, fallback_of};
 ghost use Rattle.cfg_given_chain.specs.Views.{of_box, asked_of};
@@ -13,16 +12,16 @@ ghost use Rattle.cfg_given_chain.specs.Views.{of_box, asked_of};
 use cfg_assume_role::AssumeRoleProvider;
 use cfg_chain::{DefaultCredentialsChain, ProfileFileCredentialsProvider};
 use cfg_imds::Client;
-use cfg_keeping::{Kept, TokenKey};
+use cfg_keeping::Kept;
 use cfg_metadata::ImdsCredentialsProvider;
-use cfg_providers::process::CredentialProcessProvider;
 use cfg_providers::{
-    CustomProvider, CustomSource, EcsCredentialsProvider, EnvironmentVariableCredentialsProvider,
-    WebIdentityTokenCredentialsProvider,
+    CredentialProcessProvider, CustomProvider, CustomSource, EcsCredentialsProvider,
+    EnvironmentVariableCredentialsProvider, WebIdentityTokenCredentialsProvider,
 };
 use cfg_sign_in::LoginCredentialsProvider;
 use cfg_sso::SsoCredentialsProvider;
-use cfg_types::{Credentials, CredentialsError, OutOfMemory, TryCopy};
+use cfg_token::TokenKey;
+use cfg_types::{Credentials, CredentialsError, OutOfMemory, TryCopy, is_memory};
 use cfg_world::{Asking, Stop};
 use std::alloc::Global;
 
@@ -133,10 +132,4 @@ fn told(own: &CustomProvider) -> Result<Result<Credentials, CredentialsError>, O
         return Err(OutOfMemory);
     }
     Ok(answer)
-}
-
-fn is_memory(answer: &Result<Credentials, CredentialsError>) -> bool
-    ensures { result ≡ is_memory_of answer.now }
-{
-    matches!(answer, Err(CredentialsError::OutOfMemory))
 }

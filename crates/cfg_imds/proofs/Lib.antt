@@ -1,6 +1,5 @@
 pub mod Hosting
 pub mod Steps
-pub mod Utf8Bytes
 pub mod Pathing
 pub mod Shapes
 pub mod WhyNot

@@ -33,6 +33,10 @@ module _ {V : Type 0} {I : V → Type 0} where
   abbrev pub rules_of : (DynBox V Global I → Repeats) → Client V I → ClientRules
   rules_of boxed client = record { endpoint = client.endpoint; service = service client.settings (repeated_by boxed client.classifier) }
 
+  -- the same, as the crates above say it: by the meaning of a value that is a classifier
+  abbrev pub client_rules : ((v : V) × I v → Repeats) → Client V I → ClientRules
+  client_rules repeated client = rules_of (λ b. repeated (b.vtable, b.value)) client
+
 -- the text of an endpoint, whatever it is
 abbrev pub place_of : Endpoint → List ℕ
 place_of (At text) = text

@@ -12,7 +12,7 @@ use Rattle.cfg_profile.specs.Sections.{property}
 use Rattle.cfg_profile.specs.Selected.{selected_name}
 use Rattle.cfg_profile.specs.declared.sections.ProfileSource.{ProfileSource}
 use Rattle.cfg_profile.specs.declared.sections.ProfileSource.TheVariants.{Sections, Refused}
-use Rattle.cfg_exchange.specs.Containers.{readable}
+use Rattle.cfg_types.specs.Environment.{readable}
 use Rattle.cfg_imds.specs.declared.endpoint.Endpoint.{Endpoint}
 use Rattle.cfg_imds.specs.declared.endpoint.Endpoint.TheVariants.{At, NoUri, NoMode}
 

@@ -15,7 +15,7 @@ use Rattle.cfg_world.specs.Inquiry.{Inquiry, Done, after}
 use Rattle.cfg_world.specs.Leaves.{http_of}
 use Rattle.cfg_exchange.specs.Readings.{is_success}
 use Rattle.cfg_imds.specs.Requests.{Service, get_attempts}
-use Rattle.cfg_imds.specs.Utf8.{utf8}
+use Rattle.cfg_json.specs.Reading.{utf8_of}
 
 -- a send that failed
 abbrev pub send_error : FailKind → ImdsError
@@ -28,7 +28,7 @@ text_fault None = Some (imds.Unexpected NotUtf8)
 
 -- what is wrong with a reply: it is no success, or its body is not UTF-8
 unfoldable pub reply_fault : HttpReply → Option ImdsError
-reply_fault reply = if is_success reply.status then text_fault (utf8 reply.body) else Some (imds.ErrorResponse (record { reply = reply }))
+reply_fault reply = if is_success reply.status then text_fault (utf8_of reply.body) else Some (imds.ErrorResponse (record { reply = reply }))
 
 abbrev pub sent_fault : Result HttpReply FailKind → Option ImdsError
 sent_fault (Ok reply) = reply_fault reply

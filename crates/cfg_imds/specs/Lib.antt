@@ -4,7 +4,6 @@ pub mod Endpoints
 pub mod Hosts
 pub mod Requests
 pub mod Settles
-pub mod Utf8
 pub mod Fetches
 pub mod Paths
 pub mod Classifiers

@@ -1,9 +1,8 @@
 -- The region that the instance metadata service tells.
 use Rattle.std.specs.Prelude.{ℕ, List, Bool, false, Option, Some, None, option_map, Ok, Err, codes, if◌then◌else◌}
 use Rattle.std.specs.Str.{encode_utf8_all, str_eq_ignore_ascii_case}
-use Rattle.cfg_types.specs.Environment.{Variables}
+use Rattle.cfg_types.specs.Environment.{Variables, readable}
 use Rattle.cfg_world.specs.Inquiry.{Inquiry, Done, after}
-use Rattle.cfg_exchange.specs.Containers.{readable}
 use Rattle.cfg_imds.specs.Clients.{ClientRules, get}
 use Rattle.cfg_imds.specs.Settles.{Given, Settled}
 use Rattle.cfg_imds.specs.Tokens.{Token}

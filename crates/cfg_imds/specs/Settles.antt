@@ -1,6 +1,6 @@
 -- How a session token is had: a kept one, or a new one.
-use Rattle.std.specs.Prelude.{ℕ, ◌+ℤ◌, List, [], Bool, false, int_lt, Option, Some, None, Result, Ok, Err, if◌then◌else◌}
-use Rattle.cfg_values.specs.Instant.{number, nanos_in}
+use Rattle.std.specs.Prelude.{ℕ, List, [], Bool, false, Option, Some, None, Result, Ok, Err, if◌then◌else◌}
+use Rattle.cfg_values.specs.Instant.{is_later_by}
 use Rattle.cfg_values.specs.Moment.{Moment}
 use Rattle.cfg_types.specs.declared.errors.imds.ImdsError.{ImdsError}
 use Rattle.cfg_types.specs.declared.errors.imds.ImdsError.TheVariants as imds
@@ -22,14 +22,10 @@ Given = Result (List ℕ) ImdsError
 abbrev pub Settled : Type 0
 Settled = Given × Option Token
 
--- a moment is more than so many seconds after another
-abbrev pub is_later_by : ℕ → Moment → Moment → Bool
-is_later_by seconds moment now = int_lt (number now +ℤ nanos_in seconds) (number moment)
-
 -- a kept token is good while more than 120 seconds of it are left
 abbrev pub is_good : Option Token → Moment → Bool
 is_good None now = false
-is_good (Some token) now = is_later_by 120 token.expiry now
+is_good (Some token) now = is_later_by token.expiry now 120
 
 abbrev pub kept_value : Option Token → List ℕ
 kept_value None = []

@@ -1,17 +1,15 @@
 //! Where the instance metadata service is asked.
 ghost use Rattle.std.specs.Prelude.{◌≡◌, ◌≢◌, Option, Bool, true, false, Ok as ok, Err as err, option_map, IfOk, IfErr, codes, is_some, Some as some, None as none, ◌&&◌};
 ghost use Rattle.http_uri.specs.Uri.{uri_scheme, uri_authority};
-ghost use Rattle.std.specs.Str.{encode_utf8_all};
 ghost use Rattle.cfg_values.specs.Text.{characters};
 ghost use Rattle.cfg_types.specs.declared.errors.imds.InvalidEndpointMode.TheVariants as invalid;
-ghost use Rattle.cfg_exchange.specs.Containers.{readable as readable_of};
 ghost use Rattle.cfg_imds.specs.Endpoints.{mode_in, mode_endpoint as mode_endpoint_of, key_in, setting as setting_of, mode_by, by_mode as by_mode_of, or_mode as or_mode_of, endpoint_text, IsEndpointAt, IsEndpointBy, IsEndpoint};
 ghost use Rattle.cfg_profile.specs.Selected.{selected_name as selected_name_of};
 ghost use Rattle.cfg_imds.specs.Hosts.{IsHosted};
 
 use cfg_profile::{ProfileSource, ProviderConfig, selected_name};
 use cfg_types::imds::{EndpointMode, InvalidEndpointMode};
-use cfg_types::{Env, OutOfMemory, Text, TryCopy};
+use cfg_types::{OutOfMemory, Text, TryCopy};
 use http_uri::{Uri, UriError};
 use std::alloc::Global;
 
@@ -45,16 +43,6 @@ impl TryCopy for Endpoint {
     }
 }
 
-// The text of a variable, where it can be read.
-pub(crate) fn readable<'a>(env: &'a Env, name: &str) -> Option<&'a str>
-    ensures { option_map (λ t. t.now) result ≡ option_map encode_utf8_all (readable_of env.now name.now) }
-{
-    match env.get(name) {
-        Ok(text) => Some(text),
-        Err(_) => None,
-    }
-}
-
 // The value of a key of the selected profile, where both are there.
 fn selected_key<'a>(config: &'a ProviderConfig, key: &str) -> Option<&'a str>
     ensures { option_map (λ t. t.now) result ≡ key_in config.now.profiles (selected_name_of config.now) key.now }
@@ -73,7 +61,7 @@ fn selected_key<'a>(config: &'a ProviderConfig, key: &str) -> Option<&'a str>
 fn setting<'a>(config: &'a ProviderConfig, variable: &str, key: &str) -> Option<&'a str>
     ensures { option_map (λ t. t.now) result ≡ setting_of config.now variable.now key.now }
 {
-    match readable(config.env(), variable) {
+    match config.env().readable(variable) {
         Some(text) => Some(text),
         None => selected_key(config, key),
     }

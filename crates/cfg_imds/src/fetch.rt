@@ -1,30 +1,19 @@
 //! What stands at a path of the instance metadata service.
-ghost use Rattle.std.specs.Prelude.{◌≡◌, None as none, option_map, IfOk, true};
+ghost use Rattle.std.specs.Prelude.{◌≡◌, None as none, IfOk, true};
 ghost use Rattle.cfg_world.specs.Follows.{Follows};
 ghost use Rattle.cfg_world.specs.Leaves.{http_of};
 ghost use Rattle.cfg_imds.specs.Requests.{service};
-ghost use Rattle.cfg_imds.specs.Utf8.{utf8 as utf8_of};
 ghost use Rattle.cfg_imds.specs.Fetches.{is_get, send_error as send_error_of, reply_fault as reply_fault_of, sent_fault, entry_fault as entry_fault_of, fetched as fetched_of, fetch_at as fetch_at_of, entry_text as entry_text_of};
 ghost use Rattle.cfg_values.specs.Text.{characters};
 
 use crate::requests::{ImdsSettings, ask_path};
 use cfg_exchange::ClassifyRetry;
 use cfg_exchange::reading::is_success;
+use cfg_json::utf8_text;
 use cfg_types::imds::{ErrorResponse, ImdsError, UnexpectedCause};
 use cfg_types::{Bytes, FailKind, HttpReply, OutOfMemory, Reply, Text, TryCopy};
 use cfg_world::{Answer, Asking, Receipt, Stop};
 use std::alloc::Global;
-
-// The text that these bytes are, where they are UTF-8.
-#[tactic(auto, unfolding(crate::specs::Utf8::utf8))]
-fn utf8(bytes: &[u8]) -> Option<&str>
-    ensures { option_map (λ t. t.now) result ≡ utf8_of bytes.now }
-{
-    match str::from_utf8(bytes) {
-        Ok(text) => Some(text),
-        Err(_) => None,
-    }
-}
 
 fn send_error(kind: FailKind) -> ImdsError
     ensures { result ≡ send_error_of kind }
@@ -44,7 +33,7 @@ fn reply_fault(alloc: Global, reply: &HttpReply) -> Result<Option<ImdsError>, Ou
         let error = ErrorResponse::new(reply.copy(alloc)?);
         return Ok(Some(ImdsError::ErrorResponse(error)));
     }
-    match utf8(reply.body.as_slice()) {
+    match utf8_text(reply.body.as_slice()) {
         Some(_) => Ok(None),
         None => Ok(Some(ImdsError::Unexpected(UnexpectedCause::NotUtf8))),
     }
@@ -103,12 +92,12 @@ pub fn fetch_at<A: Asking, C: ClassifyRetry>(
 }
 
 // The text of a reply with which nothing is wrong.
-#[tactic(auto, unfolding(crate::specs::Fetches::reply_fault, crate::specs::Utf8::utf8))]
+#[tactic(auto, unfolding(crate::specs::Fetches::reply_fault, cfg_json::specs::Reading::utf8_of))]
 fn reply_text(alloc: Global, reply: &HttpReply) -> Result<Text, OutOfMemory>
     requires { reply_fault_of reply.now ≡ none }
     ensures { IfOk result (λ t. t ≡ characters reply.now.body) }
 {
-    match utf8(reply.body.as_slice()) {
+    match utf8_text(reply.body.as_slice()) {
         Some(text) => Text::of(alloc, text),
         None => unreachable!(),
     }

@@ -18,6 +18,8 @@ pub mod state;
 pub mod token;
 
 pub use builder::Builder;
+pub use cfg_types::OutOfMemory;
+pub use cfg_types::imds::{BuildError, FailedToLoadToken, ImdsError, InvalidEndpointMode};
 pub use classifier::{BoxedClassifier, Classifier};
 pub use client::Client;
 pub use endpoint::{Endpoint, endpoint_mode, endpoint_of};

@@ -7,7 +7,6 @@ ghost use Rattle.cfg_imds.specs.Settles.{with_kept};
 ghost use Rattle.cfg_imds.specs.Tokens.{bare_token};
 
 use crate::client::Client;
-use crate::endpoint::readable;
 use crate::token::MetadataToken;
 use cfg_types::imds::ImdsError;
 use cfg_types::{Env, OutOfMemory, Region, SensitiveString};
@@ -29,7 +28,7 @@ fn is_true_text(text: Option<&str>) -> bool
 pub fn is_disabled(env: &Env) -> bool
     ensures { result ≡ is_disabled_of env.now }
 {
-    is_true_text(readable(env, "AWS_EC2_METADATA_DISABLED"))
+    is_true_text(env.readable("AWS_EC2_METADATA_DISABLED"))
 }
 
 fn region_of_text(

@@ -1,12 +1,11 @@
 //! How a session token is had: a kept one, or a new one.
 ghost use Rattle.std.specs.Prelude.{◌≡◌, IfOk, OnErr, option_map};
-ghost use Rattle.cfg_values.specs.Instant.{number as number_of_moment, nanos_in};
 ghost use Rattle.cfg_world.specs.Follows.{Follows};
 ghost use Rattle.cfg_exchange.specs.Attempts.{asked};
 ghost use Rattle.cfg_world.specs.declared.ask.Question.TheVariants.{Now};
 ghost use Rattle.cfg_imds.specs.Requests.{service};
 ghost use Rattle.cfg_imds.specs.Tokens.{bare_token};
-ghost use Rattle.cfg_imds.specs.Settles.{is_later_by as is_later_by_of, is_good as is_good_of, kept_value as kept_value_of, renewal, renew as renew_of, settle_at as settle_at_of, with_kept};
+ghost use Rattle.cfg_imds.specs.Settles.{is_good as is_good_of, kept_value as kept_value_of, renewal, renew as renew_of, settle_at as settle_at_of, with_kept};
 
 use crate::requests::{ImdsSettings, ask_token};
 use crate::token::MetadataToken;
@@ -16,33 +15,13 @@ use cfg_types::{Bytes, Instant, OutOfMemory, Text, TryCopy};
 use cfg_world::{Asking, Question, Receipt, Stop, read_clock};
 use std::alloc::Global;
 
-// No sum of seconds passes the end of 128 bits.
-fn number_of(moment: Instant) -> i128
-    ensures { result ≡ number_of_moment moment }
-{
-    i128::from(moment.seconds()) * 1_000_000_000 + i128::from(moment.nanos())
-}
-
-fn nanos_of(seconds: u64) -> i128
-    ensures { result ≡ nanos_in seconds }
-{
-    i128::from(seconds) * 1_000_000_000
-}
-
-// Whether a moment is more than so many seconds after another.
-fn is_later_by(seconds: u64, moment: Instant, now: Instant) -> bool
-    ensures { result ≡ is_later_by_of seconds moment now }
-{
-    number_of(now) + nanos_of(seconds) < number_of(moment)
-}
-
 // Whether more than 120 seconds of a kept token are left.
 fn is_good(kept: &Option<MetadataToken>, now: Instant) -> bool
     ensures { result ≡ is_good_of (option_map bare_token kept.now) now }
 {
     match kept {
         None => false,
-        Some(token) => is_later_by(120, token.expiry(), now),
+        Some(token) => token.expiry().is_later_by(120, now),
     }
 }
 

@@ -2,11 +2,11 @@
 ghost use Rattle.std.specs.Prelude.{◌≡◌, ok_or, option_and_then, IfOk};
 ghost use Rattle.cfg_types.specs.declared.errors.imds.TokenError.TheVariants.{InvalidTtl};
 ghost use Rattle.cfg_world.specs.declared.ask.Question.TheVariants.{Now};
-ghost use Rattle.cfg_world.specs.Leaves.{moment_of};
 ghost use Rattle.cfg_exchange.specs.Lifetimes.{number as number_of};
 ghost use Rattle.cfg_imds.specs.Tokens.{bare_token, in_ok, later as later_of, reply_expiry as reply_expiry_of, reply_token as reply_token_of, sent_token, read_token, IsRead};
 
 use cfg_exchange::is_header_value;
+use cfg_exchange::lifetime::number;
 use cfg_types::imds::{FailedToLoadToken, TokenError};
 use cfg_types::{Bytes, FailKind, HttpReply, Instant, OutOfMemory, Reply, Text, TryCopy};
 use cfg_world::{Answer, Receipt};
@@ -152,25 +152,6 @@ impl fmt::Debug for MetadataToken {
     }
 }
 
-// The moment that a receipt of a reading tells.
-fn moment(reading: &Receipt) -> Instant
-    ensures { result ≡ moment_of reading.now.1 }
-{
-    match reading.entry().answer() {
-        Answer::Moment(moment) => *moment,
-        _ => Instant::epoch(),
-    }
-}
-
-fn number(text: &str) -> Option<u64>
-    ensures { result ≡ number_of text.now }
-{
-    match text.parse::<u64>() {
-        Ok(number) => Some(number),
-        Err(_) => None,
-    }
-}
-
 // So many seconds later, unless that is past the last moment of all.
 fn later(moment: Instant, seconds: u64) -> Option<Instant>
     ensures { result ≡ later_of moment seconds }
@@ -258,7 +239,7 @@ fn read_receipts(
 ) -> Result<Result<ReadToken, FailedToLoadToken>, OutOfMemory>
     ensures { IfOk result (λ token. token ≡ read_token reply.now reading.now) }
 {
-    let now = moment(reading);
+    let now = reading.moment();
     let kind = match reply.entry().answer() {
         Answer::Replied(Reply::Http(reply)) => return replied_token(alloc, reply, now),
         Answer::Failed(kind) => *kind,

@@ -7,7 +7,7 @@ use Rattle.cfg_json.specs.Ascii.{comma, colon, left_curly_bracket, right_curly_b
 use Rattle.cfg_json.specs.Values.{IsKey, IsValue, IsItem, AreItems}
 use Rattle.cfg_json.specs.Objects.{inner_depth, IsMemberValue, IsMember, AreMembers, IsObject, HasObject}
 use Rattle.cfg_json.specs.Writing.{quoted, braced, before_next, with_member}
-use Rattle.cfg_json.specs.WrittenObjects.{WrittenObject, members_text, HasScalars, Nests, Tale, Told, told_member, told}
+use Rattle.cfg_json.specs.WrittenObjects.{WrittenObject, members_text, HasScalars, Nests, Tale, ToldMember, told_member, told}
 use Rattle.cfg_json.specs.declared.member.Member.{Member}
 use Rattle.cfg_json.specs.declared.member.MemberValue.{MemberValue}
 use Rattle.cfg_json.specs.declared.member.MemberValue.TheVariants as value
@@ -143,12 +143,12 @@ object_member at key inner h k n = member_is at key (braced (members_text inner)
 members_before : (w : WrittenObject) → HasScalars w → Nests w 127 → (at : ℕ) (suffix : List ℕ) (tales : List Tale) → ((place : ℕ) → Back place suffix tales) → Back at (bytes (before_next (members_text w)) ++ suffix) (told w ++ tales)
 members_before WrittenObject.bare h n at suffix tales more = more at
 members_before (WrittenObject.with_text w key text) h n at suffix tales more =
-    subst (Back at _) (sym (append_assoc (told w) ((key, Told.a_text text) ∷ []) tales))
-    (subst (λ (t : List ℕ). Back at t (told w ++ (key, Told.a_text text) ∷ tales)) (sym (before_is (members_text w) key (quoted text) suffix))
+    subst (Back at _) (sym (append_assoc (told w) ((key, ToldMember.a_text text) ∷ []) tales))
+    (subst (λ (t : List ℕ). Back at t (told w ++ (key, ToldMember.a_text text) ∷ tales)) (sym (before_is (members_text w) key (quoted text) suffix))
     (members_before w h.0 n at _ _ (λ place. back_more place _ suffix tales _ (text_member place key text h.1 h.2) (more _))))
 members_before (WrittenObject.with_object w key inner) h n at suffix tales more =
-    subst (Back at _) (sym (append_assoc (told w) ((key, Told.an_object) ∷ []) tales))
-    (subst (λ (t : List ℕ). Back at t (told w ++ (key, Told.an_object) ∷ tales)) (sym (before_is (members_text w) key (braced (members_text inner)) suffix))
+    subst (Back at _) (sym (append_assoc (told w) ((key, ToldMember.an_object) ∷ []) tales))
+    (subst (λ (t : List ℕ). Back at t (told w ++ (key, ToldMember.an_object) ∷ tales)) (sym (before_is (members_text w) key (braced (members_text inner)) suffix))
     (members_before w h.0 n.0 at _ _ (λ place. back_more place _ suffix tales (object_of place key inner) (object_member place key inner h.1 h.2 n.1) (more _))))
 
 -- an object of which this is told

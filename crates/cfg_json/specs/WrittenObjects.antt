@@ -31,25 +31,25 @@ Nests (WrittenObject.with_object w key inner) zero = ⊥
 Nests (WrittenObject.with_object w key inner) (suc d) = Nests w (suc d) × Nests inner d
 
 -- what is told of a member: its text, or that it is an object
-pub data Told : Type 0 where
-  a_text : List ℕ → Told
-  an_object : Told
-  another : Told
+pub data ToldMember : Type 0 where
+  a_text : List ℕ → ToldMember
+  an_object : ToldMember
+  another : ToldMember
 
 abbrev pub Tale : Type 0
-Tale = List ℕ × Told
+Tale = List ℕ × ToldMember
 
-abbrev pub told_value : MemberValue → Told
-told_value (value.Text t) = Told.a_text t
-told_value (value.Number t) = Told.another
-told_value (value.Object from to) = Told.an_object
-told_value (value.Array has) = Told.another
-told_value value.Other = Told.another
+abbrev pub told_value : MemberValue → ToldMember
+told_value (value.Text t) = ToldMember.a_text t
+told_value (value.Number t) = ToldMember.another
+told_value (value.Object from to) = ToldMember.an_object
+told_value (value.Array has) = ToldMember.another
+told_value value.Other = ToldMember.another
 
 abbrev pub told_member : Member → Tale
 told_member m = (m.key, told_value m.value)
 
 abbrev pub told : WrittenObject → List Tale
 told WrittenObject.bare = []
-told (WrittenObject.with_text w key text) = told w ++ (key, Told.a_text text) ∷ []
-told (WrittenObject.with_object w key inner) = told w ++ (key, Told.an_object) ∷ []
+told (WrittenObject.with_text w key text) = told w ++ (key, ToldMember.a_text text) ∷ []
+told (WrittenObject.with_object w key inner) = told w ++ (key, ToldMember.an_object) ∷ []

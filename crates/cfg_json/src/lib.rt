@@ -25,4 +25,5 @@ pub use dates::writing::write_date;
 pub use member::{Member, MemberValue, Members};
 pub use process::parse_credential_process_json_credentials;
 pub use reading::{members, only_members};
+pub use strings::utf8_text;
 pub use writer::ObjectWriter;

@@ -16,7 +16,7 @@ use Rattle.cfg_token.specs.declared.sections.Sectioned.{Sectioned}
 use Rattle.cfg_token.specs.declared.sections.Sectioned.TheVariants.{Hit, Load}
 use Rattle.cfg_token.specs.Rules.{Rules}
 use Rattle.cfg_token.specs.Sections.{answer_of, ok_of}
-use Rattle.cfg_token.specs.Histories.{Told, TokenLoad, History, token_in, kept_in, load_in, kept_by, with_section}
+use Rattle.cfg_token.specs.Histories.{FinishedLoad, TokenLoad, History, token_in, kept_in, load_in, kept_by, with_section}
 use Rattle.cfg_token.specs.SectionCalls.{section_on, SectionEnds}
 use Rattle.cfg_token.proofs.HistorySteps.{noted_by-more, token_of_load}
 use Rattle.cfg_keeping.specs.Kinds.{Value, KeptToken, States, spot_of, with_value}
@@ -37,15 +37,15 @@ sso_is_spot = record { at_spot = λ kept. refl; is_in = λ kept. refl }
 pub login_is_spot : IsSpot login_spot
 login_is_spot = record { at_spot = λ kept. refl; is_in = λ kept. refl }
 
-kept_by-more : {T E : Type 0} (kept : Option T) (records : List (Told T E)) (r : Told T E) → kept_by kept (records ++ r ∷ []) ≡ ok_of r.outcome
+kept_by-more : {T E : Type 0} (kept : Option T) (records : List (FinishedLoad T E)) (r : FinishedLoad T E) → kept_by kept (records ++ r ∷ []) ≡ ok_of r.outcome
 kept_by-more kept [] r = refl
 kept_by-more kept (x ∷ records) r = kept_by-more (ok_of x.outcome) records r
 
 -- a history with a section's record keeps what the section leaves
 pub history_keeps : {T E : Type 0} (h : History T E) (receipts : List Pair) (made : Sectioned T E) → kept_of (with_section h receipts made) ≡ section_leaves (kept_of h) made
-history_keeps {T} {E} h receipts (Hit token) = ap (λ (records : List (Told T E)). kept_of (let now : History T E = record h { records = records } in now)) (append-nil h.records)
+history_keeps {T} {E} h receipts (Hit token) = ap (λ (records : List (FinishedLoad T E)). kept_of (let now : History T E = record h { records = records } in now)) (append-nil h.records)
 history_keeps {T} {E} h receipts (Load l) =
-    let r : Told T E = record { receipts = receipts; outcome = l.outcome; noted = l.noted } in
+    let r : FinishedLoad T E = record { receipts = receipts; outcome = l.outcome; noted = l.noted } in
     rw (kept_by-more (token_in h.load) h.records r, noted_by-more h.last h.records r) refl
 
 -- the load that was found has the token that is kept

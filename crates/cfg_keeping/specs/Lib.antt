@@ -9,7 +9,6 @@ pub mod SsoHoldings
 pub mod LoginHoldings
 pub mod RoleDocuments
 pub mod Retrieved
-pub mod Clients
 pub mod MetadataHoldings
 pub mod FoundValues
 pub mod KeyedStates

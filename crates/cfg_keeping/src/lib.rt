@@ -19,9 +19,11 @@ pub mod place;
 pub mod retrieved;
 pub mod role_document;
 
-pub use cfg_login::{LoginToken, LoginTokenError};
-pub use cfg_token::{
-    CachedSsoToken, CachedSsoTokenError, Load, SsoTokenProviderError, TokenKey, TokenState,
+pub use cfg_login::LoginToken;
+pub use cfg_token::{CachedSsoToken, Load, TokenKey, TokenState};
+pub use cfg_types::imds::ImdsError;
+pub use cfg_types::{
+    CachedSsoTokenError, CredentialsError, LoginTokenError, OutOfMemory, SsoTokenProviderError,
 };
 pub use found::Found;
 pub use keeper::{Keeper, imds_token, login_section, sso_section};

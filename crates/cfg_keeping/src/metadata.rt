@@ -1,6 +1,6 @@
 //! What is kept for one place of a metadata client, and the holdings of it.
 ghost use Rattle.std.specs.Prelude.{◌≡◌, ◌++◌, ◌∷◌, [], IfOk, OnOk, OnErr, map, option_map};
-ghost use Rattle.cfg_keeping.specs.Clients.{client_rules};
+ghost use Rattle.cfg_imds.specs.Clients.{client_rules};
 ghost use Rattle.cfg_imds.specs.Tokens.{bare_token};
 ghost use Rattle.cfg_keeping.specs.FoundValues.{bare};
 ghost use Rattle.cfg_keeping.specs.Holds.{HoldsOne};

@@ -6,7 +6,7 @@ ghost use Rattle.cfg_world.specs.Leaves.{moment_of, jitter_of};
 ghost use Rattle.cfg_keeping.specs.RoleDocuments.{bare_role};
 ghost use Rattle.cfg_keeping.specs.Retrieved.{is_due, later_or_last as later_or_last_of, cut_jitter as cut_jitter_of, extended as extended_of, expiry_by as expiry_by_of, keys_at, keys_until, IsRetrieved};
 
-use crate::role_document::{RoleDocument, moment};
+use crate::role_document::RoleDocument;
 use cfg_types::{Credentials, CredentialsBuilder, Instant, OutOfMemory, Seq, Text, TryCopy};
 use cfg_world::{Answer, Receipt};
 use std::alloc::Global;
@@ -56,7 +56,7 @@ impl Retrieved {
         ensures keys { IfOk result (λ r. r.keys ≡ keys_at reading jitter (bare_role document)) }
         ensures receipts { IfOk result (λ r. r.receipts ≡ document.get ∷ reading ∷ option_to_list jitter) }
     {
-        let end = expiry_by(document.expiry, moment(&reading), &jitter);
+        let end = expiry_by(document.expiry, reading.moment(), &jitter);
         let credentials = credentials_until(alloc, &document, end)?;
         let receipts = receipts_of(alloc, &document, reading, jitter)?;
         Ok(Retrieved {

@@ -1,19 +1,20 @@
 //! The document of a role's credentials that the instance metadata service gives.
 ghost use Rattle.std.specs.Prelude.{◌≡◌, None as none, IfOk, true};
 ghost use Rattle.cfg_world.specs.Leaves.{moment_of};
-ghost use Rattle.cfg_exchange.specs.Documents.{is_memory as is_memory_of};
 ghost use Rattle.cfg_imds.specs.Fetches.{is_get, entry_fault};
 ghost use Rattle.cfg_imds.specs.Tokens.{in_ok};
 ghost use Rattle.cfg_keeping.specs.RoleDocuments.{bare_role, refused_role as refused_role_of, said_role as said_role_of, get_document as get_document_of, role_document as role_document_of, IsRoleDocument};
 ghost use Rattle.cfg_keeping.specs.Retrieved.{is_due as is_due_of};
 
+use cfg_exchange::is_out_of_memory;
 use cfg_imds::entry_text;
-use cfg_json::{InvalidJsonCredentials, JsonCredentials, parse_json_credentials};
+use cfg_json::{JsonCredentials, parse_json_credentials};
 use cfg_token::decision::is_before;
 use cfg_types::{
-    ConfigCause, CredentialsError, Instant, OutOfMemory, ProviderCause, Text, UnhandledCause,
+    ConfigCause, CredentialsError, Instant, InvalidJsonCredentials, OutOfMemory, ProviderCause,
+    Text, UnhandledCause,
 };
-use cfg_world::{Answer, Receipt};
+use cfg_world::Receipt;
 use std::alloc::Global;
 use std::marker::Model;
 
@@ -66,15 +67,6 @@ impl Model for ReadRole {
     ghost view = { λ d. record { access_key_id = d.access_key_id; secret_access_key = d.secret_access_key; session_token = d.session_token; expiry = d.expiry } };
 }
 
-fn is_memory(said: &Result<JsonCredentials, InvalidJsonCredentials>) -> bool
-    ensures { result ≡ is_memory_of said.now }
-{
-    match said {
-        Err(InvalidJsonCredentials::OutOfMemory) => true,
-        _ => false,
-    }
-}
-
 // What the text of a get is, as a document of credentials.
 #[tactic(auto, unfolding(crate::specs::RoleDocuments::get_document))]
 fn get_document(
@@ -86,7 +78,7 @@ fn get_document(
 {
     let text = entry_text(alloc, get)?;
     let said = parse_json_credentials(alloc, text.as_str());
-    if is_memory(&said) {
+    if is_out_of_memory(&said) {
         return Err(OutOfMemory);
     }
     Ok(said)
@@ -200,16 +192,6 @@ impl RoleDocument {
     pub fn is_due(&self, reading: &Receipt) -> bool
         ensures { result ≡ is_due_of self.now.expiry (moment_of reading.now.1) }
     {
-        !is_before(moment(reading), self.expiry)
-    }
-}
-
-// The moment that a receipt of a reading tells. An answer of another kind never comes.
-pub(crate) fn moment(reading: &Receipt) -> Instant
-    ensures { result ≡ moment_of reading.now.1 }
-{
-    match reading.entry().answer() {
-        Answer::Moment(moment) => *moment,
-        _ => Instant::epoch(),
+        !is_before(reading.moment(), self.expiry)
     }
 }

@@ -6,4 +6,6 @@ mod keeping;
 #[cfg(test)]
 mod login;
 #[cfg(test)]
+mod sections;
+#[cfg(test)]
 mod token;

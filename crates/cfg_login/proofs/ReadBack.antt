@@ -25,7 +25,7 @@ use Rattle.cfg_json.specs.declared.member.MemberValue.TheVariants as value
 use Rattle.cfg_json.specs.Places.{between}
 use Rattle.cfg_json.specs.Objects.{HasObject}
 use Rattle.cfg_json.specs.Writing.{quoted, braced, before_next, with_member}
-use Rattle.cfg_json.specs.WrittenObjects.{WrittenObject, Told, Tale, members_text, HasScalars, Nests, told_value, told_member, told}
+use Rattle.cfg_json.specs.WrittenObjects.{WrittenObject, ToldMember, Tale, members_text, HasScalars, Nests, told_value, told_member, told}
 use Rattle.cfg_json.specs.Lookups.{is_named}
 use Rattle.cfg_json.specs.Dates.{IsWrittenDate}
 use Rattle.cfg_json.specs.Documents.{field_text, required, dated, date_in, refreshable, by_code, document_of}
@@ -217,11 +217,11 @@ front_bytes held w h =
 
 -- and what is told of the others is texts
 abbrev Others : WrittenObject → Type 0
-Others w = (tales : List Tale) × (told w ≡ (access_name, Told.an_object) ∷ tales) × AllTexts tales
+Others w = (tales : List Tale) × (told w ≡ (access_name, ToldMember.an_object) ∷ tales) × AllTexts tales
 
 others_with : (g : Field) (o : Option (List ℕ)) (w : WrittenObject) → Others w → Others (with_field g o w)
 others_with g None w h = h
-others_with g (Some text) w h = (h.0 ++ (characters (field_name g), Told.a_text text) ∷ [], ap (λ (t : List Tale). t ++ (characters (field_name g), Told.a_text text) ∷ []) h.1, texts_push h.0 (characters (field_name g), Told.a_text text) h.2 tt)
+others_with g (Some text) w h = (h.0 ++ (characters (field_name g), ToldMember.a_text text) ∷ [], ap (λ (t : List Tale). t ++ (characters (field_name g), ToldMember.a_text text) ∷ []) h.1, texts_push h.0 (characters (field_name g), ToldMember.a_text text) h.2 tt)
 
 others_bare : (held : WrittenObject) → Others (WrittenObject.with_object WrittenObject.bare access_name held)
 others_bare held = ([], refl, tt)
@@ -305,10 +305,10 @@ own_name : names.is_named (field_name field.AccessToken) access_name ≡ true
 unfolding lib.Utf8.encode
 own_name = refl
 
-opened_list : (list : List Member) (tales : List Tale) → map told_member list ≡ (access_name, Told.an_object) ∷ tales → AllTexts tales → Opened list
+opened_list : (list : List Member) (tales : List Tale) → map told_member list ≡ (access_name, ToldMember.an_object) ∷ tales → AllTexts tales → Opened list
 opened_list [] tales is h = absurd (none tales is)
   where
-    none : (tales : List Tale) → (let l : List Tale = [] in l) ≡ (access_name, Told.an_object) ∷ tales → ⊥
+    none : (tales : List Tale) → (let l : List Tale = [] in l) ≡ (access_name, ToldMember.an_object) ∷ tales → ⊥
     none tales is = absurd cc
 opened_list (m ∷ rest) tales is h = by_value m.value refl
   where
@@ -318,19 +318,19 @@ opened_list (m ∷ rest) tales is h = by_value m.value refl
     same_tales : (a b : Tale) (s t : List Tale) → a ∷ s ≡ b ∷ t → s ≡ t
     same_tales a b s t e = cc
 
-    first : told_member m ≡ (access_name, Told.an_object)
-    first = same_tale (told_member m) (access_name, Told.an_object) (map told_member rest) tales is
+    first : told_member m ≡ (access_name, ToldMember.an_object)
+    first = same_tale (told_member m) (access_name, ToldMember.an_object) (map told_member rest) tales is
 
     others : last_place (field_name field.AccessToken) rest ≡ None
-    others = no_place (field_name field.AccessToken) rest (subst AllTexts (sym (same_tales (told_member m) (access_name, Told.an_object) (map told_member rest) tales is)) h)
+    others = no_place (field_name field.AccessToken) rest (subst AllTexts (sym (same_tales (told_member m) (access_name, ToldMember.an_object) (map told_member rest) tales is)) h)
 
     named : names.is_named (field_name field.AccessToken) m.key ≡ true
     named = ap (λ (t : Tale). names.is_named (field_name field.AccessToken) t.0) first ∙ own_name
 
-    no_other : Told.another ≡ Told.an_object → ⊥
+    no_other : ToldMember.another ≡ ToldMember.an_object → ⊥
     no_other e = absurd cc
 
-    no_text : (t : List ℕ) → Told.a_text t ≡ Told.an_object → ⊥
+    no_text : (t : List ℕ) → ToldMember.a_text t ≡ ToldMember.an_object → ⊥
     no_text t e = absurd cc
 
     by_value : (v : MemberValue) → m.value ≡ v → Opened (m ∷ rest)

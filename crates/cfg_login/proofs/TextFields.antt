@@ -11,7 +11,7 @@ use Rattle.cfg_json.specs.declared.member.Member.{Member}
 use Rattle.cfg_json.specs.declared.member.MemberValue.{MemberValue}
 use Rattle.cfg_json.specs.declared.member.MemberValue.TheVariants as value
 use Rattle.cfg_json.specs.Lookups.{last_given, text_in}
-use Rattle.cfg_json.specs.WrittenObjects.{WrittenObject, Told, Tale, members_text, HasScalars, Nests, told_value, told_member, told}
+use Rattle.cfg_json.specs.WrittenObjects.{WrittenObject, ToldMember, Tale, members_text, HasScalars, Nests, told_value, told_member, told}
 use Rattle.cfg_token.specs.SsoText.{with_text_if_there, HasScalarsIfThere}
 use Rattle.cfg_token.specs.SsoFile.{is_named}
 use Rattle.cfg_login.specs.Access.{place_in, place_under, last_place, has_object, holds_object}
@@ -24,10 +24,10 @@ Named = List ℕ → Bool
 abbrev pub text_given : Named → Member → Option (List ℕ)
 text_given named m = cond (named m.key) (text_in m.value) None
 
-abbrev told_in : Told → Option (List ℕ)
-told_in (Told.a_text text) = Some text
-told_in Told.an_object = None
-told_in Told.another = None
+abbrev told_in : ToldMember → Option (List ℕ)
+told_in (ToldMember.a_text text) = Some text
+told_in ToldMember.an_object = None
+told_in ToldMember.another = None
 
 abbrev told_text : Named → Tale → Option (List ℕ)
 told_text named tale = cond (named tale.0) (told_in tale.1) None
@@ -76,7 +76,7 @@ told_with named g None w = nothing (named (characters (field_name g)))
     nothing : (b : Bool) → last_told named (told w) ≡ option_or (let none : Option (List ℕ) = None in cond b none None) (last_told named (told w))
     nothing true = refl
     nothing false = refl
-told_with named g (Some text) w = told_push named (told w) (characters (field_name g), Told.a_text text)
+told_with named g (Some text) w = told_push named (told w) (characters (field_name g), ToldMember.a_text text)
 
 pub text_with : (g : Field) (o : Option (List ℕ)) (w : WrittenObject) → members_text (with_field g o w) ≡ with_text_if_there g o (members_text w)
 text_with g None w = refl
@@ -92,10 +92,10 @@ nests_with g (Some text) w n = n
 
 -- ---- objects in which texts stand alone
 
-abbrev pub IsTold : Told → Type 0
-IsTold (Told.a_text text) = Unit {0}
-IsTold Told.an_object = ⊥
-IsTold Told.another = ⊥
+abbrev pub IsTold : ToldMember → Type 0
+IsTold (ToldMember.a_text text) = Unit {0}
+IsTold ToldMember.an_object = ⊥
+IsTold ToldMember.another = ⊥
 
 abbrev pub AllTexts : List Tale → Type 0
 AllTexts [] = Unit {0}

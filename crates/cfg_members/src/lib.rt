@@ -11,6 +11,7 @@ pub mod laws;
 mod member;
 mod provide;
 
+pub use cfg_types::OutOfMemory;
 pub use fallback::{FallsBack, first_fallback};
 pub use follow::follow_members;
 pub use member::{ChainMember, new_kept};

@@ -9,7 +9,8 @@ ghost use Rattle.cfg_keeping.specs.Kinds.{no_states};
 ghost use Rattle.cfg_members.specs.AnswerRules.{AnswerRules};
 ghost use Rattle.cfg_members.specs.FollowsMembers.{FollowsMember};
 
-use cfg_keeping::{Kept, TokenKey};
+use cfg_keeping::Kept;
+use cfg_token::TokenKey;
 use cfg_types::{OutOfMemory, ProviderChainError, TryCopy};
 use cfg_world::{Asking, Stop};
 use std::alloc::Global;

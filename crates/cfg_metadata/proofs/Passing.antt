@@ -4,7 +4,7 @@ use Rattle.std.specs.Prelude.{Ok, Err, IsOk, IsSome, option_map, codes, if◌the
 use Rattle.std.specs.Result.{result_err}
 use Rattle.std.specs.Str.{bytes_eq}
 use denote.Hole.Carrier as carrier
-use Rattle.cfg_types.specs.Classes.{is_of_class}
+use Rattle.cfg_types.specs.Classes.{is_of_class, is_not_loaded_answer}
 use Rattle.cfg_types.specs.Keys.{Keys}
 use Rattle.cfg_types.specs.declared.errors.Class.TheVariants as class
 use Rattle.cfg_types.specs.declared.errors.CredentialsError as errors
@@ -27,7 +27,6 @@ use Rattle.cfg_keeping.specs.KeptInquiry.{Gives, Reads}
 use Rattle.cfg_keeping.specs.RoleDocuments.{refused_role, said_role, get_document, role_document}
 use Rattle.cfg_keeping.proofs.Splits.{split_onwards}
 use Rattle.cfg_providers.specs.CustomSources.{Answer}
-use Rattle.cfg_providers.specs.EnvironmentCauses.{is_not_loaded_answer}
 use Rattle.cfg_metadata.specs.Settings.{MetadataSetting}
 use Rattle.cfg_metadata.specs.Metadata.{listing_path, role_path, get_error, absence, listing_error_by, listing_error, retrieves, unless_disabled, or_found, settled, metadata}
 use Rattle.cfg_metadata.specs.Causes.{first_text, why_document, why_role_by, why_listed_by, why_by_role, why_nothing, retrieved_in, AnswersBy}

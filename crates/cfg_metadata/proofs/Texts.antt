@@ -24,7 +24,7 @@ use Rattle.cfg_imds.specs.Requests.{Service, token_request, get_request}
 use Rattle.cfg_imds.specs.SettledParts.{SettledBy}
 use Rattle.cfg_imds.specs.Settles.{Given, Settled, is_good}
 use Rattle.cfg_imds.specs.Tokens.{Token}
-use Rattle.cfg_imds.specs.Utf8.{utf8}
+use Rattle.cfg_json.specs.Reading.{utf8_of}
 use Rattle.cfg_imds.proofs.Shapes.{settle_shape, fetch_shape}
 use Rattle.cfg_keeping.specs.declared.place.Place.{Place}
 use Rattle.cfg_keeping.specs.Kinds.{Value}
@@ -109,7 +109,7 @@ by_tests true false body fault r h = refl
 by_tests false text body fault r h = refl
 
 repeated_reply : (repeats : Repeats) (given : HttpReply) → repeats_reply kind.MetadataText repeats (Some given) ≡ true → is_none (reply_fault given) ≡ false
-unfolding reply_fault text_reading utf8
+unfolding reply_fault text_reading utf8_of
 repeated_reply repeats given h = by_tests (is_success given.status) (is_utf8 given.body) given.body _ _ h
 
 repeated_faulty : (repeats : Repeats) (q : Question) (a : Answer) → is_repeated kind.MetadataText repeats a ≡ true → is_none (entry_fault (q, a)) ≡ false

@@ -40,7 +40,8 @@ use Rattle.cfg_providers.specs.CustomSources.{Answer}
 use Rattle.cfg_metadata.specs.Settings.{MetadataSetting}
 use Rattle.cfg_metadata.specs.Metadata.{get_fault, unless_fault, token_and_text, metadata_get, listing_path, role_path, listed, listing, path_of_role, documented, document, dated, retrieves_at, retrieves, unless_disabled, settled, metadata}
 use Rattle.cfg_metadata.specs.Causes.{first_text, retrieved_in, AnswersBy}
-use Rattle.cfg_metadata.specs.Valid.{IsOfUse, IsRepeated, AreOfUse, IsDocument, IsListing, GivesRole, IsValid}
+use Rattle.cfg_world.specs.Repeats.{IsRepeated}
+use Rattle.cfg_metadata.specs.Valid.{IsOfUse, AreOfUse, IsDocument, IsListing, GivesRole, IsValid}
 use Rattle.cfg_metadata.proofs.Given.{given_is, whole_part}
 use Rattle.cfg_metadata.proofs.Gets.{token_settles}
 use Rattle.cfg_metadata.proofs.Reasons.{Shows, get_shows, Lists, listing_lists, dated_ok, settled_answers}

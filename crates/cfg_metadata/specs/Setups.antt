@@ -2,13 +2,12 @@
 use Rattle.std.specs.Prelude.{ℕ, List, true, Option, None}
 use Rattle.cfg_profile.specs.Configuration.{Configuration, nothing_configured}
 use Rattle.cfg_exchange.specs.Classifiers.{Repeats}
-use Rattle.cfg_imds.specs.Clients.{ClientRules}
+use Rattle.cfg_imds.specs.Clients.{ClientRules, client_rules}
 use Rattle.cfg_imds.specs.Regions.{is_disabled}
 use Rattle.cfg_keeping.specs.declared.place.Place.{Place}
 use Rattle.cfg_keeping.specs.declared.place.Place.TheVariants.{Chain}
 use Rattle.cfg_metadata.specs.declared.builder.Builder.{Builder}
 use Rattle.cfg_metadata.specs.declared.provider.ImdsCredentialsProvider.{ImdsCredentialsProvider}
-use Rattle.cfg_keeping.specs.Clients.{client_rules}
 use Rattle.cfg_metadata.specs.Settings.{MetadataSetting, setting}
 
 -- what a builder is set to: the role where it was given, and the client

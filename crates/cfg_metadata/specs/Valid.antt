@@ -6,6 +6,7 @@ use Rattle.cfg_types.specs.declared.request.Request.TheVariants as request
 use Rattle.cfg_world.specs.declared.ask.Question.{Question}
 use Rattle.cfg_world.specs.declared.ask.Question.TheVariants.{Send}
 use Rattle.cfg_world.specs.Fits.{Pair}
+use Rattle.cfg_world.specs.Repeats.{IsRepeated}
 use Rattle.cfg_imds.specs.Clients.{endpoint_fault}
 use Rattle.cfg_imds.specs.Fetches.{entry_fault, entry_text}
 use Rattle.cfg_imds.specs.Paths.{IsPath}
@@ -29,11 +30,6 @@ IsAnswered _ e rest = Unit {0}
 abbrev pub IsOfUse : Question → Pair → List Pair → Type 0
 IsOfUse (Send request) e rest = IsAnswered request e rest
 IsOfUse _ e rest = Unit {0}
-
--- The next entry asks the same again.
-abbrev pub IsRepeated : Question → List Pair → Type 0
-IsRepeated q [] = ⊥
-IsRepeated q (e ∷ rest) = e.0 ≡ q
 
 -- Each answer is of use, but for those of attempts that are made again.
 abbrev pub AreOfUse : List Pair → Type 0

@@ -1,7 +1,7 @@
 //! What a provider of metadata credentials is set up with.
 ghost use Rattle.std.specs.Prelude.{◌≡◌, IfOk, Some as some};
 ghost use Rattle.cfg_values.specs.Text.{characters};
-ghost use Rattle.cfg_keeping.specs.Clients.{client_rules};
+ghost use Rattle.cfg_imds.specs.Clients.{client_rules};
 
 use crate::provider::ImdsCredentialsProvider;
 use cfg_imds::{Client, is_disabled};
@@ -73,11 +73,11 @@ impl Builder {
     }
 
     /// The provider. Whether metadata is switched off is read from the configuration now, and nothing
-    /// is asked for it.
-    pub fn build(self) -> ImdsCredentialsProvider
-        ensures { setting_of repeated result ≡ provider_of (setup_of repeated self) }
+    /// is asked for it. `OutOfMemory` where memory runs out.
+    pub fn build(self) -> Result<ImdsCredentialsProvider, OutOfMemory>
+        ensures { IfOk result (λ p. setting_of repeated p ≡ provider_of (setup_of repeated self)) }
     {
         let disabled = is_disabled(self.config.env());
-        ImdsCredentialsProvider::of(self.alloc, disabled, self.client, self.role, self.place)
+        Ok(ImdsCredentialsProvider::of(self.alloc, disabled, self.client, self.role, self.place))
     }
 }

@@ -4,7 +4,7 @@ ghost use Rattle.cfg_world.specs.declared.ask.Question.TheVariants.{Now, Jitter}
 ghost use Rattle.cfg_world.specs.Follows.{Follows};
 ghost use Rattle.cfg_world.specs.Leaves.{moment_of};
 ghost use Rattle.cfg_exchange.specs.Attempts.{asked};
-ghost use Rattle.cfg_keeping.specs.Clients.{client_rules};
+ghost use Rattle.cfg_imds.specs.Clients.{client_rules};
 ghost use Rattle.cfg_imds.specs.Fetches.{is_get, entry_fault};
 ghost use Rattle.cfg_imds.specs.Tokens.{in_ok};
 ghost use Rattle.cfg_keeping.specs.Holds.{HoldsFollows};

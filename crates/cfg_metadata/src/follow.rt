@@ -1,6 +1,6 @@
 //! The body of a provider of metadata credentials, over anything that can be asked.
 ghost use Rattle.std.specs.Prelude.{◌≡◌, IfOk, Some, Ok, Err, option_map};
-ghost use Rattle.cfg_keeping.specs.Clients.{client_rules};
+ghost use Rattle.cfg_imds.specs.Clients.{client_rules};
 ghost use Rattle.cfg_imds.specs.Tokens.{in_ok};
 ghost use Rattle.cfg_keeping.specs.Holds.{HoldsFollows};
 ghost use Rattle.cfg_keeping.specs.Retrieved.{keys_of_retrieved};

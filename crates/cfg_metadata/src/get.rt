@@ -1,8 +1,7 @@
 //! What stands at a path of the instance metadata service, with the session token that is kept.
 ghost use Rattle.std.specs.Prelude.{◌≡◌, IfOk, true, None as none};
 ghost use Rattle.cfg_imds.specs.Calls.{is_memory as is_memory_of};
-ghost use Rattle.cfg_imds.specs.Clients.{endpoint_fault};
-ghost use Rattle.cfg_keeping.specs.Clients.{client_rules};
+ghost use Rattle.cfg_imds.specs.Clients.{endpoint_fault, client_rules};
 ghost use Rattle.cfg_imds.specs.Fetches.{is_get, entry_fault};
 ghost use Rattle.cfg_keeping.specs.Holds.{HoldsFollows};
 ghost use Rattle.cfg_metadata.specs.Metadata.{get_fault as get_fault_of, token_and_text as token_and_text_of, metadata_get as metadata_get_of};

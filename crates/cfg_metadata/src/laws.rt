@@ -4,7 +4,7 @@ ghost use Rattle.cfg_world.specs.Fits.{Pair};
 ghost use Rattle.cfg_keeping.specs.Kinds.{Value};
 ghost use Rattle.cfg_keeping.specs.KeptInquiry.{Reads};
 ghost use Rattle.cfg_providers.specs.CustomSources.{Answer};
-ghost use Rattle.cfg_providers.specs.EnvironmentCauses.{is_not_loaded_answer};
+ghost use Rattle.cfg_types.specs.Classes.{is_not_loaded_answer};
 ghost use Rattle.cfg_metadata.specs.Settings.{MetadataSetting};
 ghost use Rattle.cfg_metadata.specs.Metadata.{metadata};
 ghost use Rattle.cfg_metadata.specs.Causes.{CauseMetadata};

@@ -13,5 +13,6 @@ mod listing;
 pub mod provider;
 
 pub use builder::Builder;
+pub use cfg_types::{CredentialsError, OutOfMemory};
 pub use follow::follow_metadata;
 pub use provider::ImdsCredentialsProvider;

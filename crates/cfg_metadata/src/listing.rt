@@ -1,6 +1,6 @@
 //! The path of the machine's role.
 ghost use Rattle.std.specs.Prelude.{◌≡◌, IfOk, string_bytes, None as none};
-ghost use Rattle.cfg_keeping.specs.Clients.{client_rules};
+ghost use Rattle.cfg_imds.specs.Clients.{client_rules};
 ghost use Rattle.cfg_imds.specs.Fetches.{entry_fault};
 ghost use Rattle.cfg_imds.specs.Tokens.{in_ok};
 ghost use Rattle.cfg_keeping.specs.Holds.{HoldsFollows};

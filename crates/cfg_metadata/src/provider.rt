@@ -1,10 +1,10 @@
 //! The provider of metadata credentials.
 ghost use Rattle.std.specs.Prelude.{◌≡◌, IfOk, true, false};
-ghost use Rattle.cfg_keeping.specs.Clients.{client_rules};
+ghost use Rattle.cfg_imds.specs.Clients.{client_rules};
 ghost use Rattle.cfg_keeping.specs.Holds.{HoldsFollows, HoldsBreaks};
 ghost use Rattle.cfg_keeping.specs.KeptStates.{states_of};
 ghost use Rattle.cfg_keeping.specs.Kinds.{place_states};
-ghost use Rattle.cfg_providers.specs.Provides.{is_memory};
+ghost use Rattle.cfg_types.specs.Classes.{is_memory};
 ghost use Rattle.cfg_metadata.specs.Settings.{setting};
 ghost use Rattle.cfg_metadata.specs.Metadata.{metadata};
 ghost use Rattle.cfg_metadata.specs.Provides.{ProvidesMetadata};

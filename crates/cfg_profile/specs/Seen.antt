@@ -10,7 +10,7 @@ use Rattle.cfg_profile.specs.declared.keys.Source.TheVariants as origin
 use Rattle.cfg_profile.specs.declared.walk.End as ended
 use Rattle.cfg_profile.specs.declared.walk.End.TheVariants as ends
 use Rattle.cfg_profile.specs.declared.walk.Step as stepped
-use Rattle.cfg_profile.specs.declared.walk.Step.TheVariants.{On, Ends}
+use Rattle.cfg_profile.specs.declared.walk.Step.TheVariants.{On, EndsAt}
 use Rattle.cfg_profile.specs.declared.walk.Path.{Path}
 use Rattle.cfg_profile.specs.SectionParts.{SectionParts}
 use Rattle.cfg_profile.specs.Properties.{Source, Both, Neither, Own, source}
@@ -46,13 +46,13 @@ pub record GoesOn (profiles : Named SectionParts) (on_path : List ℕ → Bool) 
 
 abbrev pub IsStep : Named SectionParts → (List ℕ → Bool) → Bool → SectionParts → stepped.Step → Type 0
 IsStep profiles on_path is_first section (On next following) = GoesOn profiles on_path is_first section next.now following.now
-IsStep profiles on_path is_first section (Ends end) = ending profiles on_path is_first section ≡ Some (seen_end end)
+IsStep profiles on_path is_first section (EndsAt end) = ending profiles on_path is_first section ≡ Some (seen_end end)
 
 -- the same from the name of the source
 abbrev pub IsFollowed : Named SectionParts → (List ℕ → Bool) → List ℕ → stepped.Step → Type 0
 IsFollowed profiles on_path name (On next following) =
     (ending_by_source profiles on_path (properties.Named name) ≡ None) × (next.now ≡ name) × (get profiles name ≡ Some following.now)
-IsFollowed profiles on_path name (Ends end) = ending_by_source profiles on_path (properties.Named name) ≡ Some (seen_end end)
+IsFollowed profiles on_path name (EndsAt end) = ending_by_source profiles on_path (properties.Named name) ≡ Some (seen_end end)
 
 -- a path, with the sections of its names
 pub record IsWalked (profiles : Named SectionParts) (selected : List ℕ) (walked : Path) : Type 0 where

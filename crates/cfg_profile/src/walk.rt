@@ -45,7 +45,7 @@ impl<'a> Path<'a> {
 #[derive(Clone, Copy)]
 enum Step<'a> {
     On(&'a str, &'a Section),
-    Ends(End<'a>),
+    EndsAt(End<'a>),
 }
 
 /// The path from the profile of this name, which is this section.
@@ -66,7 +66,7 @@ pub(crate) fn walk<'a>(
     loop {
         visited.insert(last_name)?;
         match next_step(set, last, names.is_empty(), &visited) {
-            Step::Ends(end) => {
+            Step::EndsAt(end) => {
                 return Ok(Path {
                     names,
                     sections,
@@ -95,14 +95,14 @@ fn next_step<'a>(
     ensures { IsStep set.now.profiles (on_set visited.now) is_first section.now result }
 {
     if !is_first && has_both_keys(section) {
-        return Step::Ends(End::Keys);
+        return Step::EndsAt(End::Keys);
     }
     if !is_role(section) {
-        return Step::Ends(End::Base);
+        return Step::EndsAt(End::Base);
     }
     match source_of(section) {
-        Source::Both | Source::Neither => Step::Ends(End::NoSource),
-        Source::Own => Step::Ends(End::OwnBase),
+        Source::Both | Source::Neither => Step::EndsAt(End::NoSource),
+        Source::Own => Step::EndsAt(End::OwnBase),
         Source::Named(next) => follow(set, next, visited),
     }
 }
@@ -112,10 +112,10 @@ fn follow<'a>(set: &'a ProfileSet, next: &'a str, visited: &HashSet<&'a str>) ->
     ensures { IsFollowed set.now.profiles (on_set visited.now) next.now result }
 {
     if visited.contains(next) {
-        return Step::Ends(End::Loops(next));
+        return Step::EndsAt(End::Loops(next));
     }
     match set.get_profile(next) {
-        None => Step::Ends(End::Missing(next)),
+        None => Step::EndsAt(End::Missing(next)),
         Some(source) => Step::On(next, source),
     }
 }

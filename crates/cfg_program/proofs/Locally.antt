@@ -12,7 +12,7 @@ use Rattle.cfg_world.specs.Held.{Held}
 use Rattle.cfg_profile.specs.Configuration.{Configuration, nothing_configured}
 use Rattle.cfg_keeping.specs.Kinds.{Value, States, no_states}
 use Rattle.cfg_providers.specs.CustomSources.{Answer, NamedAnswer}
-use Rattle.cfg_providers.specs.Provides.{is_memory}
+use Rattle.cfg_types.specs.Classes.{is_memory}
 use Rattle.cfg_chain.specs.Settings.{Lent, lends}
 use Rattle.cfg_chain.specs.Provides.{IsCall, Provides, Interrupted}
 use Rattle.cfg_program.specs.Lines.{shown}

@@ -5,7 +5,7 @@ ghost use Rattle.cfg_values.specs.TextMap.{named};
 ghost use Rattle.cfg_script.specs.Script.{plain_profiles, section_bytes};
 ghost use Rattle.cfg_program.specs.Calls.{section_parts, source_of, configured_by};
 
-use cfg_chain::{ProfileSet, ProfileSource, ProviderConfig, Section};
+use cfg_profile::{ProfileSet, ProfileSource, ProviderConfig, Section};
 use cfg_script::ScriptProfiles;
 use cfg_types::{Env, EnvText, OutOfMemory, Region};
 use std::alloc::Global;

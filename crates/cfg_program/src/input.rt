@@ -8,8 +8,8 @@ use std::alloc::{AllocError, Global};
 /// The longest script, in bytes.
 pub const LIMIT: usize = 1_048_576;
 
-// The most bytes that are asked of the source at once.
-const PIECE: usize = 16_384;
+// The most bytes that are asked of the source at once, as std's buffered readers ask.
+const PIECE: usize = 8_192;
 
 /// Why the input was not read.
 #[derive(Clone, Copy, Debug, PartialEq, Eq)]
@@ -58,7 +58,7 @@ pub fn read_all<S: Source>(alloc: Global, source: &mut S) -> Result<Vec<u8>, Inp
     ensures counted { S.faults source.old ≤ S.faults source.new }
     ensures failed { result ≡ Err InputError.Fault → Rose (S.faults source.old) (S.faults source.new) }
 {
-    let mut out = Vec::new(alloc);
+    let mut out = Vec::with_capacity(alloc, LIMIT + 1)?;
     let mut buffer = [0u8; PIECE];
     while out.len() <= LIMIT {
         let room = (LIMIT + 1 - out.len()).min(PIECE);

@@ -1,6 +1,6 @@
 //! What a call answered, and its line.
 ghost use Rattle.std.specs.Prelude.{◌≡◌, ◌++◌, false, is_ok, IfOk};
-ghost use Rattle.cfg_providers.specs.Provides.{is_memory};
+ghost use Rattle.cfg_types.specs.Classes.{is_memory};
 ghost use Rattle.cfg_program.specs.Lines.{shown_as};
 
 use crate::lines::{LineForm, write_call};

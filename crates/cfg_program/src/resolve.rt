@@ -13,7 +13,11 @@ ghost use Rattle.cfg_program.specs.Calls.{IsFresh, MakesCall, AnswersOver, Answe
 use crate::configuration::{configuration, region_named};
 use crate::lines::LineForm;
 use crate::outcome::{Answered, Outcome, tell};
-use cfg_chain::{CustomSource, DefaultCredentialsChain, Kept, ProviderConfig, RegionSource};
+use cfg_chain::DefaultCredentialsChain;
+use cfg_keeping::Kept;
+use cfg_profile::ProviderConfig;
+use cfg_providers::CustomSource;
+use cfg_region::RegionSource;
 use cfg_script::Script;
 use cfg_types::{OutOfMemory, Region};
 use cfg_world::{DeviceLists, Devices, ScriptDevices, World};

@@ -28,7 +28,7 @@ use crate::resolve::resolve;
 use crate::status::Status;
 use crate::token::find_token;
 use crate::words::{HELP, VERSION, Word, word_of};
-use cfg_chain::CustomSource;
+use cfg_providers::CustomSource;
 use cfg_script::{Script, ScriptError, read_script};
 use cfg_types::{EnvText, OutOfMemory};
 use cfg_world::{Devices, Sink, Source, StreamFault, World};

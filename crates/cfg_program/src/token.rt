@@ -12,7 +12,7 @@ use crate::configuration::{configuration, region_named};
 use crate::lines::{write_expiry, write_kinds, write_word};
 use crate::outcome::Answered;
 use cfg_bearer::DefaultTokenChain;
-use cfg_chain::ProviderConfig;
+use cfg_profile::ProviderConfig;
 use cfg_region::RegionSource;
 use cfg_script::Script;
 use cfg_types::{OutOfMemory, Region, Token, TokenError};

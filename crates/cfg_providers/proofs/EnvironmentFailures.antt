@@ -11,7 +11,8 @@ use Rattle.cfg_types.specs.declared.credentials.AwsCredentialFeature.TheVariants
 use Rattle.cfg_types.specs.Environment.{Variables, variable}
 use Rattle.cfg_values.specs.Gives.{◌>>=◌}
 use Rattle.cfg_providers.specs.EnvironmentKeys.{not_set, required_by, secret_or, optional, usable, is_not_unicode, environment}
-use Rattle.cfg_providers.specs.EnvironmentCauses.{not_unicode, environment_is_passed_over, unreadable_variable, why_environment, is_not_loaded_answer, named_variable}
+use Rattle.cfg_types.specs.Classes.{is_not_loaded_answer}
+use Rattle.cfg_providers.specs.EnvironmentCauses.{not_unicode, environment_is_passed_over, unreadable_variable, why_environment, named_variable}
 
 abbrev id_name : List ℕ
 id_name = codes "AWS_ACCESS_KEY_ID"

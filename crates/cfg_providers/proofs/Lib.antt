@@ -6,7 +6,6 @@ pub mod SessionSteps
 pub mod RoleSteps
 pub mod IdentitySteps
 pub mod Colons
-pub mod Utf8Bytes
 pub mod Versions
 pub mod ProcessSaid
 pub mod ProcessCauses

@@ -7,7 +7,8 @@ use Rattle.std.specs.Char.{is_digit, digit_value}
 use Rattle.std.specs.Str.{encode_utf8_all}
 use Rattle.std.specs.Str.Parse.{AllDigits, IsNumeral, without_leading_sign, signed_digits_value}
 use Rattle.cfg_json.specs.Documents.{IsWholeNumber, ReadsWhole, ReadsVersion}
-use Rattle.cfg_providers.specs.ProcessDocuments.{are_digits, is_of_32_bits, whole_number, version_number}
+use Rattle.cfg_exchange.specs.Lifetimes.{are_digits}
+use Rattle.cfg_providers.specs.ProcessDocuments.{is_of_32_bits, whole_number, version_number}
 
 less : (n m : ℕ) → nat_lt n m ≡ true → n < m
 less n m h = grind (arith, tests)

@@ -21,7 +21,7 @@ use Rattle.cfg_providers.specs.declared.web_identity_token.WebIdentity.{WebIdent
 use Rattle.cfg_providers.specs.declared.web_identity_token.StaticConfiguration.{StaticConfiguration}
 use Rattle.cfg_providers.specs.declared.web_identity_token.SessionPolicies.{SessionPolicies}
 use Rattle.cfg_providers.specs.SessionNames.{session_name}
-use Rattle.cfg_providers.specs.Utf8.{utf8}
+use Rattle.cfg_json.specs.Reading.{utf8_of}
 use Rattle.cfg_providers.specs.WebIdentities.{identity_of, or_not_utf8, token_in, identity_token, or_unhandled, identity_answer, with_token, with_name, assumes_by_web_identity, by_identity, web_identity, why_text, why_file, why_granted, why_answer, why_entry, why_web_identity, why_identity}
 
 text_cause : (text : Option (List ℕ)) → result_err (or_not_utf8 text) ≡ why_text text
@@ -30,7 +30,7 @@ text_cause (Some text) = refl
 
 file_cause : (file : List ℕ) (given : Answer) → result_err (token_in file (contents_of given)) ≡ why_file file given
 unfolding token_in
-file_cause file (answer.Contents bytes) = text_cause (utf8 bytes)
+file_cause file (answer.Contents bytes) = text_cause (utf8_of bytes)
 file_cause file (answer.Finished f) = refl
 file_cause file (answer.Moment m) = refl
 file_cause file (answer.Jitter n) = refl

@@ -1,10 +1,9 @@
 -- Where the environment gives no credentials, and why.
 use Rattle.std.specs.Option.{option_or}
-use Rattle.std.specs.Prelude.{ℕ, List, Bool, false, not, ◌&&◌, ◌||◌, Option, Some, None, is_some, is_none, option_map, option_and_then, Result, Ok, Err, codes, if◌then◌else◌}
+use Rattle.std.specs.Prelude.{ℕ, List, Bool, not, ◌&&◌, ◌||◌, Option, Some, None, is_some, is_none, option_map, option_and_then, Result, Ok, Err, codes, if◌then◌else◌}
 use Rattle.cfg_types.specs.Keys.{Keys}
-use Rattle.cfg_types.specs.Classes.{is_of_class, unhandled_cause}
+use Rattle.cfg_types.specs.Classes.{unhandled_cause}
 use Rattle.cfg_types.specs.Environment.{Variables, variable}
-use Rattle.cfg_types.specs.declared.errors.Class.TheVariants as class
 use Rattle.cfg_types.specs.declared.errors.CredentialsError.{CredentialsError}
 use Rattle.cfg_types.specs.declared.errors.CredentialsError.TheVariants.{Unhandled}
 use Rattle.cfg_types.specs.declared.errors.UnhandledCause.{UnhandledCause}
@@ -50,11 +49,6 @@ not_unicode name = Unhandled (unhandled.NotUnicode name)
 -- The error of the environment: a variable that is not Unicode, or one that is absent or blank.
 abbrev pub why_environment : Variables → Option CredentialsError
 why_environment env = option_or (option_map not_unicode (unreadable_variable env)) (option_map not_set (missing_variable env))
-
--- whether an answer says that nothing was loaded
-abbrev pub is_not_loaded_answer : Result Keys CredentialsError → Bool
-is_not_loaded_answer (Ok keys) = false
-is_not_loaded_answer (Err e) = is_of_class class.CredentialsNotLoaded e
 
 abbrev pub variable_of_cause : UnhandledCause → Option (List ℕ)
 variable_of_cause (unhandled.NotUnicode name) = Some name

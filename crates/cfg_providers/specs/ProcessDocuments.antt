@@ -1,7 +1,5 @@
 -- What the document of a credential process says, as a function of its text.
-use Rattle.std.specs.Prelude.{ℕ, ◌^◌, List, [], ◌∷◌, Bool, true, false, ◌&&◌, nat_lt, ℤ, pos, negsuc, Option, Some, None, option_map, Result, Ok, Err, if◌then◌else◌}
-use Rattle.std.specs.List.{list_all}
-use Rattle.std.specs.Char.{is_digit}
+use Rattle.std.specs.Prelude.{ℕ, ◌^◌, List, Bool, true, false, ◌&&◌, nat_lt, ℤ, pos, negsuc, Option, Some, None, option_map, Result, Ok, Err, if◌then◌else◌}
 use Rattle.std.specs.Str.{encode_utf8_all}
 use Rattle.std.specs.Str.Parse.{without_leading_sign, signed_digits_value}
 use Rattle.cfg_types.specs.Keys.{Keys}
@@ -14,11 +12,7 @@ use Rattle.cfg_json.specs.declared.member.Member.{Member}
 use Rattle.cfg_json.specs.Answers.{MemberList, only_list_answer}
 use Rattle.cfg_json.specs.Lookups.{last_number}
 use Rattle.cfg_json.specs.Documents.{Read, process_of, more_tokens}
-
--- one decimal digit or more, and nothing else
-abbrev pub are_digits : List ℕ → Bool
-are_digits [] = false
-are_digits (c ∷ text) = list_all (λ d. is_digit d 10) (c ∷ text)
+use Rattle.cfg_exchange.specs.Lifetimes.{are_digits}
 
 -- from -2^31 to 2^31 - 1; `negsuc n` is -(n + 1)
 abbrev pub is_of_32_bits : ℤ → Bool

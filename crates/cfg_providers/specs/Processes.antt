@@ -18,7 +18,8 @@ use Rattle.cfg_world.specs.Inquiry.{Inquiry, Done, after}
 use Rattle.cfg_world.specs.Leaves.{running}
 use Rattle.std.specs.List.{last_or}
 use Rattle.cfg_providers.specs.ProcessDocuments.{process_document}
-use Rattle.cfg_providers.specs.Utf8.{utf8, text_in}
+use Rattle.cfg_json.specs.Reading.{utf8_of}
+use Rattle.cfg_providers.specs.Utf8.{text_in}
 
 -- credentials that a process printed, marked as such
 abbrev pub by_process : Keys → Keys
@@ -35,19 +36,19 @@ by_text account None = Err cause.NotUtf8
 
 -- what a process gives that ended
 abbrev pub ended : Option (List ℕ) → Finished → Result Keys ProcessCause
-ended account finished = if int_eq finished.status (pos 0) then by_text account (utf8 finished.output) else Err (cause.Status finished.status (text_in finished.errors))
+ended account finished = if int_eq finished.status (pos 0) then by_text account (utf8_of finished.output) else Err (cause.Status finished.status (text_in finished.errors))
 
 -- what a process gives that was to be run
 abbrev pub ran : Option (List ℕ) → Result Finished FailKind → Result Keys ProcessCause
 ran account (Ok finished) = ended account finished
 ran account (Err kind) = Err cause.NotRun
 
-abbrev pub told : ProcessCause → CredentialsError
-told reason = ProviderError (Process reason)
+abbrev pub process_error : ProcessCause → CredentialsError
+process_error reason = ProviderError (Process reason)
 
 abbrev pub or_told : Result Keys ProcessCause → Result Keys CredentialsError
 or_told (Ok keys) = Ok keys
-or_told (Err reason) = Err (told reason)
+or_told (Err reason) = Err (process_error reason)
 
 unfoldable pub process_answer : Option (List ℕ) → Result Finished FailKind → Result Keys CredentialsError
 process_answer account finished = or_told (ran account finished)
@@ -68,11 +69,11 @@ why_text account (Some text) = why_document (process_document text account)
 -- Why the answer of a command gives no credentials: it did not run, it ended with a status other than
 -- 0, or its output is not UTF-8 or no document.
 abbrev pub why_run : Option (List ℕ) → Answer → Option ProcessCause
-why_run account (answer.Finished finished) = if int_eq finished.status (pos 0) then why_text account (utf8 finished.output) else Some (cause.Status finished.status (text_in finished.errors))
+why_run account (answer.Finished finished) = if int_eq finished.status (pos 0) then why_text account (utf8_of finished.output) else Some (cause.Status finished.status (text_in finished.errors))
 why_run account _ = Some cause.NotRun
 
 abbrev pub why_entry : Option (List ℕ) → Pair → Option CredentialsError
-why_entry account entry = option_map told (why_run account entry.1)
+why_entry account entry = option_map process_error (why_run account entry.1)
 
 -- The error of a process, by the last entry of its part.
 abbrev pub why_process : Option (List ℕ) → List Pair → Option CredentialsError

@@ -1,20 +1,13 @@
 -- What a provider's call over a world leaves of its journal.
-use Rattle.std.specs.Prelude.{◌≡◌, List, Bool, false, Option, Result, Ok, Err}
+use Rattle.std.specs.Prelude.{◌≡◌, List, Option, Result}
 use Rattle.std.specs.Result.{result_err}
 use Rattle.cfg_types.specs.Keys.{Keys}
-use Rattle.cfg_types.specs.Classes.{is_of_class}
-use Rattle.cfg_types.specs.declared.errors.Class.TheVariants as class
 use Rattle.cfg_types.specs.declared.errors.CredentialsError.{CredentialsError}
 use Rattle.cfg_world.specs.declared.devices.Devices.{Ghosts}
 use Rattle.cfg_world.specs.Fits.{Pair}
 use Rattle.cfg_world.specs.Held.{Held}
 use Rattle.cfg_world.specs.Grows.{Grows, Stays}
 use Rattle.cfg_world.specs.Inquiry.{Inquiry, Reads, Begun}
-
--- whether memory ran out
-abbrev pub is_memory : Result Keys CredentialsError → Bool
-is_memory (Ok keys) = false
-is_memory (Err e) = is_of_class class.OutOfMemory e
 
 -- It grew by exactly a part over which the inquiry comes to this answer, and the answer is an error
 -- exactly where, and of the cause that, the part shows.

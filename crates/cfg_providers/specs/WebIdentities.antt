@@ -5,7 +5,7 @@ use Rattle.std.specs.Result.{result_err}
 use Rattle.cfg_values.specs.Text.{characters}
 use Rattle.cfg_values.specs.Gives.{◌>>=◌}
 use Rattle.cfg_types.specs.Keys.{Keys}
-use Rattle.cfg_types.specs.Environment.{Variables, variable}
+use Rattle.cfg_types.specs.Environment.{Variables, variable, text_read}
 use Rattle.cfg_types.specs.Replies.{sts_in}
 use Rattle.cfg_types.specs.declared.credentials.AwsCredentialFeature.TheVariants.{CredentialsProfileStsWebIdToken}
 use Rattle.cfg_types.specs.declared.environment.VarError.{VarError}
@@ -34,12 +34,7 @@ use Rattle.cfg_providers.specs.declared.web_identity_token.SessionPolicies.{Sess
 use Rattle.cfg_providers.specs.EnvironmentKeys.{not_set}
 use Rattle.cfg_providers.specs.SessionNames.{session_name}
 use Rattle.cfg_providers.specs.Sts.{into_credentials}
-use Rattle.cfg_providers.specs.Utf8.{utf8}
-
--- what a variable is set to, where that is a text
-abbrev pub readable : Result (List ℕ) VarError → Option (List ℕ)
-readable (Ok text) = Some text
-readable (Err e) = None
+use Rattle.cfg_json.specs.Reading.{utf8_of}
 
 abbrev pub set_or_not : List ℕ → Option (List ℕ) → Result (List ℕ) CredentialsError
 set_or_not name (Some text) = Ok text
@@ -47,14 +42,14 @@ set_or_not name None = Err (not_set name)
 
 -- a variable that has to be set to a text
 abbrev pub needed : List ℕ → Result (List ℕ) VarError → Result (List ℕ) CredentialsError
-needed name value = set_or_not name (readable value)
+needed name value = set_or_not name (text_read value)
 
 -- the web identity that the environment names, or which variable is missing for it
 unfoldable pub identity_in : Variables → Result WebIdentity CredentialsError
 identity_in env = do
   file ← needed (codes "AWS_WEB_IDENTITY_TOKEN_FILE") (variable env (codes "AWS_WEB_IDENTITY_TOKEN_FILE"))
   role ← needed (codes "AWS_ROLE_ARN") (variable env (codes "AWS_ROLE_ARN"))
-  Ok (record { web_identity_token_file = file; role_arn = role; session_name = readable (variable env (codes "AWS_ROLE_SESSION_NAME")) })
+  Ok (record { web_identity_token_file = file; role_arn = role; session_name = text_read (variable env (codes "AWS_ROLE_SESSION_NAME")) })
 
 -- the given web identity, or else the environment's
 abbrev pub identity_of : Variables → Option StaticConfiguration → Result WebIdentity CredentialsError
@@ -67,7 +62,7 @@ or_not_utf8 None = Err (Unhandled NotUtf8)
 
 -- the token that the file of this path holds, or why it holds none
 unfoldable pub token_in : List ℕ → Result (List ℕ) FailKind → Result (List ℕ) CredentialsError
-token_in file (Ok bytes) = or_not_utf8 (utf8 bytes)
+token_in file (Ok bytes) = or_not_utf8 (utf8_of bytes)
 token_in file (Err kind) = Err (ProviderError (cause.File file))
 
 -- one reading of that file
@@ -132,7 +127,7 @@ why_text None = Some (Unhandled NotUtf8)
 
 -- Why a file gives no token: it could not be read, or it is not UTF-8.
 abbrev pub why_file : List ℕ → Answer → Option CredentialsError
-why_file file (answer.Contents bytes) = why_text (utf8 bytes)
+why_file file (answer.Contents bytes) = why_text (utf8_of bytes)
 why_file file _ = Some (ProviderError (cause.File file))
 
 -- Why a request was not granted, or its reply gives no credentials.

@@ -2,7 +2,7 @@
 ghost use Rattle.std.specs.Prelude.{◌≡◌, IfOk, IfSome, Some, false, is_some, map, option_map, Option, Result};
 ghost use Rattle.cfg_types.specs.Keys.{Keys};
 ghost use Rattle.cfg_types.specs.declared.errors.CredentialsError.{CredentialsError as Refusal};
-ghost use Rattle.cfg_providers.specs.Provides.{is_memory};
+ghost use Rattle.cfg_types.specs.Classes.{is_memory};
 ghost use Rattle.cfg_providers.specs.CustomSources.{named, last_named};
 
 use cfg_profile::is_named;

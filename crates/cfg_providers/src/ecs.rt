@@ -3,7 +3,7 @@ ghost use Rattle.std.specs.Prelude.{◌≡◌, IfOk, true, false};
 ghost use Rattle.cfg_world.specs.Follows.{Follows};
 ghost use Rattle.cfg_profile.specs.Configuration.{nothing_configured};
 ghost use Rattle.cfg_exchange.specs.Containers.{IsContainerUri, FollowsContainer};
-ghost use Rattle.cfg_providers.specs.Provides.{is_memory};
+ghost use Rattle.cfg_types.specs.Classes.{is_memory};
 ghost use Rattle.cfg_providers.specs.ContainerSetups.{container_setup, settings_in, asks_container, ProvidesContainer, InterruptedContainer};
 
 use cfg_exchange::{

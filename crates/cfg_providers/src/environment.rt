@@ -5,7 +5,7 @@ ghost use Rattle.cfg_values.specs.Text.{characters};
 ghost use Rattle.cfg_types.specs.Environment.{variable};
 ghost use Rattle.cfg_world.specs.Follows.{Follows};
 ghost use Rattle.cfg_providers.specs.Gives.{GivesAnswer};
-ghost use Rattle.cfg_providers.specs.Provides.{is_memory};
+ghost use Rattle.cfg_types.specs.Classes.{is_memory};
 ghost use Rattle.cfg_providers.specs.EnvironmentKeys.{required, usable, secret as secret_of, optional as optional_of, environment, by_environment};
 ghost use Rattle.cfg_providers.specs.EnvironmentCauses.{why_environment};
 

@@ -17,7 +17,8 @@ ghost use Rattle.cfg_providers.specs.declared.web_identity_token.WebIdentity.{We
 ghost use Rattle.cfg_types.specs.Environment.{Variables};
 ghost use Rattle.cfg_providers.specs.CustomSources.{Answer, NamedAnswer, last_named};
 ghost use Rattle.cfg_providers.specs.EnvironmentKeys.{environment};
-ghost use Rattle.cfg_providers.specs.EnvironmentCauses.{environment_is_passed_over, unreadable_variable, why_environment, is_not_loaded_answer, named_variable};
+ghost use Rattle.cfg_types.specs.Classes.{is_not_loaded_answer};
+ghost use Rattle.cfg_providers.specs.EnvironmentCauses.{environment_is_passed_over, unreadable_variable, why_environment, named_variable};
 ghost use Rattle.cfg_providers.specs.ProcessDocuments.{process_document};
 ghost use Rattle.cfg_providers.specs.Processes.{credential_process, why_process};
 ghost use Rattle.cfg_providers.specs.WebIdentities.{assumes_by_web_identity, web_identity, why_entry, why_web_identity};

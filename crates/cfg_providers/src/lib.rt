@@ -15,6 +15,7 @@ mod utf8;
 pub mod web_identity_token;
 
 pub use assume_role::assume_roles;
+pub use cfg_types::{CredentialsError, OutOfMemory, UnhandledCause};
 pub use custom::{
     CustomProvider, CustomSource, ProvideCredentials, custom_source, names_of, provide_by_name,
 };

@@ -3,12 +3,13 @@ ghost use Rattle.std.specs.Prelude.{◌≡◌, IfOk, option_map, None, true, fal
 ghost use Rattle.cfg_values.specs.Text.{characters};
 ghost use Rattle.cfg_world.specs.Follows.{Follows};
 ghost use Rattle.cfg_world.specs.Leaves.{running};
-ghost use Rattle.cfg_providers.specs.Provides.{is_memory as is_memory_answer, Provides, Interrupted};
+ghost use Rattle.cfg_types.specs.Classes.{is_memory as is_memory_answer};
+ghost use Rattle.cfg_providers.specs.Provides.{Provides, Interrupted};
 ghost use Rattle.cfg_providers.specs.ProcessDocuments.{is_memory as is_memory_of, process_document};
 ghost use Rattle.cfg_providers.specs.Processes.{by_process, by_text, ended as ended_of, ran as ran_of, process_answer as process_answer_of, credential_process as credential_process_of, why_process};
 
-use crate::utf8::{text_in, utf8};
-use cfg_json::parse_credential_process_json_credentials;
+use crate::utf8::text_in;
+use cfg_json::{parse_credential_process_json_credentials, utf8_text};
 use cfg_types::{
     AccountId, AwsCredentialFeature, CommandWithSensitiveArgs, Credentials, CredentialsError,
     FailKind, Finished, InvalidJsonCredentials, OutOfMemory, ProcessCause, ProviderCause, Text,
@@ -87,7 +88,7 @@ fn ended(
     ensures { IfOk result (λ r. r ≡ ended_of (option_map (λ a. a.now) account_id.entry) finished.now) }
 {
     if finished.status == 0 {
-        return printed(alloc, utf8(finished.output.as_slice()), account_id);
+        return printed(alloc, utf8_text(finished.output.as_slice()), account_id);
     }
     let errors = text_in(alloc, finished.errors.as_slice())?;
     Ok(Err(ProcessCause::Status {

@@ -1,22 +1,23 @@
 //! Credentials by a web identity token.
 ghost use Rattle.std.specs.Prelude.{◌≡◌, IfOk, Some, None, true, false, map, option_map, string_bytes};
 ghost use Rattle.cfg_values.specs.Text.{characters};
-ghost use Rattle.cfg_types.specs.Environment.{variable};
+ghost use Rattle.cfg_types.specs.Environment.{variable, text_read};
 ghost use Rattle.cfg_world.specs.Follows.{Follows};
 ghost use Rattle.cfg_world.specs.Leaves.{reading_file, assuming_by_web_identity};
 ghost use Rattle.cfg_profile.specs.Configuration.{nothing_configured};
 ghost use Rattle.cfg_providers.specs.Gives.{GivesAnswer};
-ghost use Rattle.cfg_providers.specs.Provides.{is_memory, Provides, Interrupted};
-ghost use Rattle.cfg_providers.specs.WebIdentities.{readable as readable_of, needed as needed_of, identity_in as identity_in_of, identity_of, token_in as token_in_of, identity_token as identity_token_of, no_policies, request as request_of, by_web_identity, identity_answer as identity_answer_of, with_token as with_token_of, assumes_by_web_identity, web_identity as web_identity_of, why_web_identity};
+ghost use Rattle.cfg_types.specs.Classes.{is_memory};
+ghost use Rattle.cfg_providers.specs.Provides.{Provides, Interrupted};
+ghost use Rattle.cfg_providers.specs.WebIdentities.{needed as needed_of, identity_in as identity_in_of, identity_of, token_in as token_in_of, identity_token as identity_token_of, no_policies, request as request_of, by_web_identity, identity_answer as identity_answer_of, with_token as with_token_of, assumes_by_web_identity, web_identity as web_identity_of, why_web_identity};
 
 use crate::session_name::session_name;
 use crate::sts::into_credentials;
-use crate::utf8::utf8;
+use cfg_json::utf8_text;
 use cfg_profile::{ProviderConfig, call_settings};
 use cfg_types::{
     AssumeRoleWithWebIdentity, AwsCredentialFeature, Bytes, Credentials, CredentialsError, Env,
     FailKind, NotLoadedCause, OutOfMemory, ProviderCause, Seq, StsReply, Text, TryCopy,
-    UnhandledCause, copy_option,
+    UnhandledCause, copy_option, texts,
 };
 use cfg_world::{
     Asking, Devices, Halt, NotGranted, Stop, World, assume_role_with_web_identity, read_file,
@@ -158,7 +159,7 @@ fn identity_in(alloc: Global, env: &Env) -> Result<WebIdentity, Halt<Credentials
 
 // What a variable is set to, where that is a text.
 fn readable(alloc: Global, env: &Env, name: &str) -> Result<Option<Text>, OutOfMemory>
-    ensures { IfOk result (λ text. text ≡ readable_of (variable env.now name.now)) }
+    ensures { IfOk result (λ text. text ≡ text_read (variable env.now name.now)) }
 {
     match env.get(name) {
         Ok(text) => Ok(Some(Text::of(alloc, text)?)),
@@ -240,7 +241,7 @@ fn token_in(
         let cause = ProviderCause::File(file.copy(alloc)?);
         return Ok(Err(CredentialsError::ProviderError(cause)));
     };
-    match utf8(bytes.as_slice()) {
+    match utf8_text(bytes.as_slice()) {
         Some(text) => Ok(Ok(Text::of(alloc, text)?)),
         None => Ok(Err(CredentialsError::Unhandled(UnhandledCause::NotUtf8))),
     }
@@ -433,17 +434,6 @@ impl Builder {
             policies,
         })
     }
-}
-
-// The strings as texts, in order. No string is copied.
-fn texts(alloc: Global, strings: Vec<String>) -> Result<Seq<Text>, OutOfMemory>
-    ensures { IfOk result (λ texts. texts ≡ map (λ s. characters (string_bytes s)) strings.items) }
-{
-    let mut texts = Vec::with_capacity(alloc, strings.len())?;
-    for string in strings {
-        texts.push(Text::from_string(string))?;
-    }
-    Ok(Seq::of(texts))
 }
 
 /// Credentials by a web identity token, for the role that the environment or a static configuration

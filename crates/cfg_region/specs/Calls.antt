@@ -13,7 +13,7 @@ use Rattle.cfg_region.specs.Environments.{Told}
 use Rattle.cfg_region.specs.Sources.{Source, ByDefault, tree}
 
 -- The journal grew by exactly the parts of these inquiries, up to the first that gave a region.
-pub record Tells {D : Type 0} (d : Ghosts D) (trees : List (Inquiry Told)) (old new : Held D) (region : Told) : Type 0 where
+pub record AsksInOrder {D : Type 0} (d : Ghosts D) (trees : List (Inquiry Told)) (old new : Held D) (region : Told) : Type 0 where
   pub part : List Pair
   pub grows : Grows d part old new
   pub parts : AreParts trees part region

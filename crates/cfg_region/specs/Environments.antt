@@ -1,8 +1,7 @@
 -- The region that the environment's variables name.
 use Rattle.std.specs.Prelude.{ℕ, List, Option, codes}
 use Rattle.std.specs.Option.{option_or}
-use Rattle.cfg_types.specs.Environment.{Variables}
-use Rattle.cfg_exchange.specs.Containers.{readable}
+use Rattle.cfg_types.specs.Environment.{Variables, readable}
 
 -- A region that is told, or none.
 abbrev pub Told : Type 0

@@ -1,4 +1,3 @@
-pub mod Clients
 pub mod Environments
 pub mod Profiles
 pub mod ProfileSetups

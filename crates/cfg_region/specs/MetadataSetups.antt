@@ -1,11 +1,10 @@
 -- What a provider of the region of instance metadata is set up with.
 use Rattle.std.specs.FinMap.{empty}
 use Rattle.cfg_exchange.specs.Classifiers.{Repeats}
-use Rattle.cfg_imds.specs.Clients.{ClientRules}
+use Rattle.cfg_imds.specs.Clients.{ClientRules, client_rules}
 use Rattle.cfg_types.specs.Environment.{Variables}
 use Rattle.cfg_region.specs.declared.imds.region.Builder.{Builder}
 use Rattle.cfg_region.specs.declared.imds.region.ImdsRegionProvider.{ImdsRegionProvider}
-use Rattle.cfg_region.specs.Clients.{client_rules}
 
 -- the variables, which may switch metadata off, and the client
 pub record MetadataRegion : Type 0 where

@@ -2,7 +2,7 @@
 ghost use Rattle.std.specs.Prelude.{◌≡◌, ◌∷◌, ◌++◌, [], IfOk, OnErr, map};
 ghost use Rattle.cfg_world.specs.Follows.{Follows};
 ghost use Rattle.cfg_imds.specs.Calls.{CallBreaks};
-ghost use Rattle.cfg_region.specs.Calls.{Tells};
+ghost use Rattle.cfg_region.specs.Calls.{AsksInOrder};
 ghost use Rattle.cfg_region.specs.Sources.{source_of};
 ghost use Rattle.cfg_region.specs.Chains.{first_given};
 ghost use Rattle.cfg_region.specs.Sources.{tree};
@@ -106,7 +106,7 @@ impl RegionProviderChain {
     /// `OutOfMemory` where memory runs out. The journal then has gained the beginning of what the call asks, or
     /// nothing.
     pub fn region<D: Devices>(&self, world: &mut World<D>) -> Result<Option<Region>, OutOfMemory>
-        ensures tells { IfOk result (λ region. Tells ⟦<D as Devices>⟧ (trees (sources_of told_region repeated self.now)) world.old world.new region) }
+        ensures tells { IfOk result (λ region. AsksInOrder ⟦<D as Devices>⟧ (trees (sources_of told_region repeated self.now)) world.old world.new region) }
         ensures breaks { OnErr result (CallBreaks ⟦<D as Devices>⟧ (chain_tree (sources_of told_region repeated self.now)) world.old world.new) }
     {
         match self.follow(world) {

@@ -14,6 +14,7 @@ pub mod load;
 pub mod profile;
 pub mod source;
 
+pub use cfg_types::OutOfMemory;
 pub use chain::RegionProviderChain;
 pub use custom::{CustomRegion, ProvideRegion};
 pub use default_provider::region::DefaultRegionChain;

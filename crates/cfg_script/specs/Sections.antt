@@ -26,9 +26,9 @@ abbrev pub variable : Form (List ℕ × EnvText)
 variable = pair_of wanted.Variable text env_text
 
 -- a property: [key, value]
-abbrev pub property : Form Property
-property = pair_of wanted.Property text text
+abbrev pub property_form : Form Property
+property_form = pair_of wanted.Property text text
 
 -- a section: [name, list of properties]
 abbrev pub section : Form Section
-section = pair_of wanted.Section text (list_of property)
+section = pair_of wanted.Section text (list_of property_form)

@@ -23,19 +23,19 @@ unfoldable pub value_fault : Data → Found
 value_fault d = when_read wanted.Object (as_object d) script_fault
 
 -- why bytes are no script: they are no JSON, or a value is of another form
-pub data Told : Type 0 where
-  NoJson : Told
-  Form : Fault → Told
+pub data Reason : Type 0 where
+  NoJson : Reason
+  Form : Fault → Reason
 
 -- what a fault tells, without the line and the column
-abbrev pub told : ScriptFault → Told
-told (fault.NoJson position) = NoJson
-told (fault.Form f) = Form f
+abbrev pub reason_of : ScriptFault → Reason
+reason_of (fault.NoJson position) = NoJson
+reason_of (fault.Form f) = Form f
 
-abbrev pub fault_of_json : Option Data → Option Told
+abbrev pub fault_of_json : Option Data → Option Reason
 fault_of_json None = Some NoJson
 fault_of_json (Some d) = option_map Form (value_fault d)
 
 -- why the bytes are no script, if they are none
-unfoldable pub fault_of : List ℕ → Option Told
+unfoldable pub fault_of : List ℕ → Option Reason
 fault_of bytes = fault_of_json (json_value bytes)

@@ -26,6 +26,7 @@ mod telling;
 mod value;
 mod values;
 
+pub use cfg_types::OutOfMemory;
 pub use fault::{Fault, Position, ScriptFault, Step, Wanted};
 pub use reading::read_script;
 pub use script::{Script, ScriptError, ScriptProfiles};

@@ -123,8 +123,12 @@ pub(crate) fn places_of<G: Placed>(members: Map<String, Value>) -> Option<G::Pla
     ensures { MatchOption result (every_name G.table.has (members_view members.entries) ≡ false) (λ p. (every_name G.table.has (members_view members.entries) ≡ true) × (G.read_on p no_members ≡ G.table.read (members_view members.entries))) }
 {
     let mut places = G::empty();
-    for entry in members {
-        let (name, value) = entry;
+    let mut entries = members.into_iter();
+    // At its end the iterator would look for one leaf more.
+    while entries.len() != 0 {
+        let Some((name, value)) = entries.next() else {
+            unreachable!()
+        };
         if !G::put(&mut places, name.as_str(), value) {
             return None;
         }

@@ -76,7 +76,7 @@ pub(crate) struct Property;
 
 impl Part for Property {
     ghost use Rattle.cfg_script.specs.Script.{Property, property_bytes};
-    ghost use Rattle.cfg_script.specs.Sections.{property};
+    ghost use Rattle.cfg_script.specs.Sections.{property_form};
 
     type Read = (String, String);
 
@@ -84,7 +84,7 @@ impl Part for Property {
 
     ghost seen = { property_bytes };
 
-    ghost form = { property };
+    ghost form = { property_form };
 
     fn read(alloc: Global, value: Value) -> Result<(String, String), ScriptError> {
         read_pair::<Named, Named>(alloc, value)

@@ -3,7 +3,7 @@ ghost use Rattle.std.specs.Prelude.{◌≡◌, IfOk, option_map};
 ghost use Rattle.serde_json.specs.View.{view, members_view};
 ghost use Rattle.cfg_script.specs.Held.{parsed_value};
 ghost use Rattle.cfg_script.specs.Reading.{json_value};
-ghost use Rattle.cfg_script.specs.Telling.{beside_fault as beside_fault_of, script_fault as script_fault_of, value_fault as value_fault_of, told, fault_of};
+ghost use Rattle.cfg_script.specs.Telling.{beside_fault as beside_fault_of, script_fault as script_fault_of, value_fault as value_fault_of, reason_of, fault_of};
 
 use crate::fault::{Fault, Position, ScriptFault, Wanted, here, under_name};
 use crate::object::other_name;
@@ -75,7 +75,7 @@ fn value_fault(alloc: Global, value: Value) -> Result<Option<Fault>, OutOfMemory
 /// `OutOfMemory` where memory runs out, in place of any answer.
 #[tactic(auto, unfolding(crate::specs::Telling::fault_of))]
 pub fn find_fault(alloc: Global, bytes: &[u8]) -> Result<Option<ScriptFault>, OutOfMemory>
-    ensures { IfOk result (λ o. option_map told o ≡ fault_of bytes.now) }
+    ensures { IfOk result (λ o. option_map reason_of o ≡ fault_of bytes.now) }
 {
     let value = match parsed(alloc, bytes)? {
         Ok(value) => value,

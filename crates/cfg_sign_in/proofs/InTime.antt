@@ -1,5 +1,5 @@
 -- Where nothing stands in the way, there are credentials.
-use Rattle.std.proofs.Common.{◌≡◌, ℕ, Bool, true, false, cond, List, [], ◌∷◌, Option, Some, None, Result, Ok, Err, refl, sym, subst, append-nil, inl, inr, arith}
+use Rattle.std.proofs.Common.{◌≡◌, ℕ, Bool, true, false, cond, List, [], ◌∷◌, Option, Some, None, Result, Ok, Err, refl, sym, ◌∙◌, subst, append-nil, inl, inr, arith}
 use Rattle.std.specs.Prelude.{◌≢◌, ◌⊎◌, ◌||◌, ℤ, pos, ◌+ℤ◌, int_lt, codes, is_ok, IsSome, IsOk, option_map}
 use Rattle.std.specs.Str.{encode_utf8_all}
 use Rattle.std.proofs.lemmas.Int.{ints}
@@ -15,7 +15,7 @@ use Rattle.cfg_world.specs.declared.ask.Answer.{Answer as Given}
 use Rattle.cfg_world.specs.declared.ask.Answer.TheVariants as answer
 use Rattle.cfg_world.specs.declared.ask.Question.TheVariants as question
 use Rattle.cfg_world.specs.Fits.{Pair}
-use Rattle.cfg_world.specs.Inquiry.{Inquiry, Done, Ask, after}
+use Rattle.cfg_world.specs.Inquiry.{Inquiry, Done, Ask, Reads, after}
 use Rattle.cfg_world.specs.Leaves.{clock, moment_of}
 use Rattle.cfg_profile.specs.Configuration.{Configuration}
 use Rattle.cfg_profile.specs.Settings.{settings_of}
@@ -27,7 +27,7 @@ use Rattle.cfg_token.specs.declared.steps.Loaded.{Loaded}
 use Rattle.cfg_token.specs.declared.token_key.TokenKey.{TokenKey}
 use Rattle.cfg_token.specs.declared.token_key.TokenKey.TheVariants.{Login}
 use Rattle.cfg_token.specs.Decisions.{decision}
-use Rattle.cfg_token.specs.Moments.{more}
+use Rattle.cfg_values.specs.Instant.{is_later_by}
 use Rattle.cfg_token.specs.Sections
 use Rattle.cfg_token.specs.Sections.{ok_of}
 use Rattle.cfg_token.specs.SsoTokens.{end_of}
@@ -41,7 +41,7 @@ use Rattle.cfg_keeping.specs.Kinds.{Value, login_in}
 use Rattle.cfg_sign_in.specs.declared.asked_by.AskedBy.{AskedBy}
 use Rattle.cfg_sign_in.specs.SignIns.{Answer, credentials_in}
 use Rattle.cfg_sign_in.specs.SignInCauses.{SignInCause}
-use Rattle.cfg_sign_in.specs.InNoWay.{held_token, Lasts, GivesToken, IsGranted, IsRefreshed, IsInTime, IsSectionInTime, last_found, NothingInTheWay}
+use Rattle.cfg_sign_in.specs.InNoWay.{HasFolder, held_token, Lasts, GivesToken, IsGranted, IsRefreshed, IsInTime, IsSectionInTime, last_found, kept_found, IsHit, NothingInTheWay}
 
 abbrev Made : Type 0
 Made = Sectioned LoginToken LoginTokenError
@@ -51,11 +51,6 @@ Outcome = Loaded LoginToken LoginTokenError
 
 never : false ≡ true → ⊥
 never h = cc
-
--- whatever a tree does, where the same holds of all that it may do
-gives_all : {R : Type 0} (p : Inquiry R) (P : List Pair → R → Type 0) → ((part : List Pair) (out : R) → P part out) → Gives p P
-gives_all (Done r) P f = f [] r
-gives_all (Ask q n) P f = λ a. gives_all (n a) (λ part out. P ((q, a) ∷ part) out) (λ part out. f ((q, a) ∷ part) out)
 
 -- ---- a refresh
 
@@ -190,11 +185,36 @@ section_fine : (key : TokenKey) (env : Variables) (settings : CallSettings) (kep
     Gives (Sections.section login_rules key env settings kept last) (IsFine last)
 unfolding Sections.section Sections.by_reading clock
 section_fine key env settings None last folder = λ a. loaded_fine key env settings last a folder
-section_fine key env settings (Some token) last folder = λ a. either_way a (more (login_rules.expiry token) (moment_of a) 300)
+section_fine key env settings (Some token) last folder = λ a. either_way a (is_later_by (login_rules.expiry token) (moment_of a) 300)
   where
     either_way : (a : Given) (fresh : Bool) → Gives (cond fresh (Done (Hit token)) (after (Sections.load login_rules key env settings last) (λ l. Done (Load l)))) (λ part made. IsFine last ((question.Now, a) ∷ part) made)
     either_way a true = λ h. refl
     either_way a false = loaded_fine key env settings last a folder
+
+-- whatever a tree does, where the same holds of all that it may do
+gives_all : {R : Type 0} (p : Inquiry R) (P : List Pair → R → Type 0) → ((part : List Pair) (out : R) → P part out) → Gives p P
+gives_all (Done r) P f = f [] r
+gives_all (Ask q n) P f = λ a. gives_all (n a) (λ part out. P ((q, a) ∷ part) out) (λ part out. f ((q, a) ∷ part) out)
+
+-- the section gave a token, where a kept one is handed out
+abbrev IfHit : Option LoginToken → List Pair → Made → Type 0
+IfHit kept part made = IsHit kept part → IsOk (Sections.answer_of made)
+
+hit_fine : (key : TokenKey) (env : Variables) (settings : CallSettings) (kept : Option LoginToken) (last : Option Moment) → Gives (Sections.section login_rules key env settings kept last) (IfHit kept)
+unfolding Sections.section Sections.by_reading clock
+hit_fine key env settings None last = λ a. gives_all (after (Sections.load login_rules key env settings last) (λ l. Done (Load l))) (λ part made. IfHit None ((question.Now, a) ∷ part) made) (λ part made h. absurd h)
+hit_fine key env settings (Some token) last = λ a. either_way a (is_later_by (login_rules.expiry token) (moment_of a) 300) refl
+  where
+    either_way : (a : Given) (fresh : Bool) → is_later_by (login_rules.expiry token) (moment_of a) 300 ≡ fresh →
+        Gives (cond fresh (Done (Hit token)) (after (Sections.load login_rules key env settings last) (λ l. Done (Load l)))) (λ part made. IfHit (Some token) ((question.Now, a) ∷ part) made)
+    either_way a true is = λ h. refl
+    either_way a false is =
+        gives_all (after (Sections.load login_rules key env settings last) (λ l. Done (Load l))) (λ part made. IfHit (Some token) ((question.Now, a) ∷ part) made) (λ part made h. absurd (never (sym is ∙ h)))
+
+made_fine : (key : TokenKey) (env : Variables) (settings : CallSettings) (kept : Option LoginToken) (last : Option Moment) (part : List Pair) (made : Made) → IsHit kept part ⊎ IsOk (login_rules.path key env) →
+    IsSectionInTime last part → Reads (Sections.section login_rules key env settings kept last) part made → IsOk (Sections.answer_of made)
+made_fine key env settings kept last part made (inl hit) t reads = gives_reads (Sections.section login_rules key env settings kept last) (IfHit kept) part made (hit_fine key env settings kept last) reads hit
+made_fine key env settings kept last part made (inr path) t reads = gives_reads (Sections.section login_rules key env settings kept last) (IsFine last) part made (section_fine key env settings kept last path) reads t
 
 -- ---- the whole
 
@@ -203,6 +223,11 @@ folder_fine session (Ok cache) home h = refl
 folder_fine session (Err e) (Ok home) h = refl
 folder_fine session (Err e) (Err f) (inl h) = absurd (never h)
 folder_fine session (Err e) (Err f) (inr h) = absurd (never h)
+
+path_fine : (session : List ℕ) (cache home : Result (List ℕ) VarError) (kept : Option LoginToken) (part : List Pair) → IsHit kept part ⊎ (IsOk cache ⊎ IsOk home) →
+    IsHit kept part ⊎ IsOk (cache_path session (cache_directory cache home))
+path_fine session cache home kept part (inl hit) = inl hit
+path_fine session cache home kept part (inr known) = inr (folder_fine session cache home known)
 
 answer_fine : (by : AskedBy) (given : GivenBy LoginToken) → IsOk given → is_ok (credentials_in by given) ≡ true
 unfolding credentials_in
@@ -215,8 +240,7 @@ nothing_in_the_way conf session by found part out c n =
     let s = c.of_section in
     let key = Login session in
     let was = login_in s.value in
-    let folder = folder_fine session (variable conf.environment (codes "AWS_LOGIN_CACHE_DIRECTORY")) (variable conf.environment (codes "HOME")) n.folder in
-    let fine = gives_reads (Sections.section login_rules key conf.environment (settings_of conf) was.token was.last) (IsFine was.last) part s.made
-    (section_fine key conf.environment (settings_of conf) was.token was.last folder) s.reads in
+    let known = subst (λ (f : List Value). IsHit (kept_found f) part ⊎ HasFolder conf.environment) s.finds n.folder in
+    let folder = path_fine session (variable conf.environment (codes "AWS_LOGIN_CACHE_DIRECTORY")) (variable conf.environment (codes "HOME")) was.token part known in
     let in_time : IsSectionInTime was.last part = subst (λ (f : List Value). IsSectionInTime (last_found f) part) s.finds n.section in
-    subst (λ (o : Answer). is_ok o ≡ true) (sym c.tells) (answer_fine by c.given (subst (λ (g : GivenBy LoginToken). IsOk g) (sym s.gives) (fine in_time)))
+    subst (λ (o : Answer). is_ok o ≡ true) (sym c.tells) (answer_fine by c.given (subst (λ (g : GivenBy LoginToken). IsOk g) (sym s.gives) (made_fine key conf.environment (settings_of conf) was.token was.last part s.made folder in_time s.reads)))

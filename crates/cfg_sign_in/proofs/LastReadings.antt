@@ -2,7 +2,7 @@
 use Rattle.std.proofs.Common.{◌≡◌, ℕ, Bool, true, false, cond, List, [], ◌∷◌, Option, Some, None, IfSome, Result, Ok, Err, refl, sym, subst, append-nil, arith}
 use Rattle.std.specs.Prelude.{ℤ, pos, ◌+ℤ◌, ◌≤ℤ◌, int_lt, IfOk, unwrap_or}
 use Rattle.std.proofs.lemmas.Int.{ints}
-use Rattle.cfg_values.specs.Instant.{number, nanos_in}
+use Rattle.cfg_values.specs.Instant.{number, nanos_in, is_later_by}
 use Rattle.cfg_values.specs.Moment.{Moment}
 use Rattle.cfg_types.specs.Environment.{Variables}
 use Rattle.cfg_types.specs.declared.settings.CallSettings.{CallSettings}
@@ -25,7 +25,7 @@ use Rattle.cfg_token.specs.declared.steps.Loaded.{Loaded}
 use Rattle.cfg_token.specs.declared.token_key.TokenKey.{TokenKey}
 use Rattle.cfg_token.specs.declared.token_key.TokenKey.TheVariants.{Login}
 use Rattle.cfg_token.specs.Decisions.{decision}
-use Rattle.cfg_token.specs.Moments.{is_before, more}
+use Rattle.cfg_token.specs.Moments.{is_before}
 use Rattle.cfg_token.specs.Rules.{Rules, Tells}
 use Rattle.cfg_token.specs.Sections
 use Rattle.cfg_token.specs.Spacing.{second_reading}
@@ -37,7 +37,8 @@ use Rattle.cfg_keeping.specs.Kinds.{Value, login_in}
 use Rattle.cfg_sign_in.specs.declared.asked_by.AskedBy.{AskedBy}
 use Rattle.cfg_sign_in.specs.SignIns.{Answer, credentials_in}
 use Rattle.cfg_sign_in.specs.SignInCauses.{SignInCause}
-use Rattle.cfg_sign_in.specs.LastReadings.{reading_or, last_reading_from, last_reading, EndsAfter}
+use Rattle.cfg_world.specs.LastReadings.{reading_or, last_reading_from, last_reading}
+use Rattle.cfg_sign_in.specs.Endings.{EndsAfter}
 
 -- There is such a reading, and this end is after it.
 abbrev EndsBy : Option Moment → Moment → Type 0
@@ -117,9 +118,9 @@ module _ {T E : Type 0} (t : Rules T E) where
   section_readings : (key : TokenKey) (env : Variables) (settings : CallSettings) (kept : Option T) (last : Option Moment) → Gives (Sections.section t key env settings kept last) LastsBy
   unfolding Sections.section Sections.by_reading clock
   section_readings key env settings None last = λ a. loaded_lasts key env settings last a
-  section_readings key env settings (Some token) last = λ a. either_way a (more (t.expiry token) (moment_of a) 300) refl
+  section_readings key env settings (Some token) last = λ a. either_way a (is_later_by (t.expiry token) (moment_of a) 300) refl
     where
-      either_way : (a : Given) (fresh : Bool) → more (t.expiry token) (moment_of a) 300 ≡ fresh →
+      either_way : (a : Given) (fresh : Bool) → is_later_by (t.expiry token) (moment_of a) 300 ≡ fresh →
           Gives (cond fresh (Done (Hit token)) (after (Sections.load t key env settings last) (λ l. Done (Load l)))) (λ part made. LastsBy ((question.Now, a) ∷ part) made)
       either_way a true is = more_later (number (moment_of a)) (number (t.expiry token)) is
       either_way a false is = loaded_lasts key env settings last a

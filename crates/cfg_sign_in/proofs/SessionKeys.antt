@@ -28,7 +28,7 @@ use Rattle.cfg_token.specs.declared.steps.Loaded.{Loaded}
 use Rattle.cfg_token.specs.declared.token_key.TokenKey.{TokenKey}
 use Rattle.cfg_token.specs.declared.token_key.TokenKey.TheVariants.{Login}
 use Rattle.cfg_token.specs.Decisions.{decision, is_expired}
-use Rattle.cfg_token.specs.Moments.{more}
+use Rattle.cfg_values.specs.Instant.{is_later_by}
 use Rattle.cfg_token.specs.Sections
 use Rattle.cfg_token.specs.SsoFile.{text_of}
 use Rattle.cfg_token.specs.SsoTokens.{end_of}
@@ -174,7 +174,7 @@ loaded_is key env settings last =
 section_is : (key : TokenKey) (env : Variables) (settings : CallSettings) (kept : Option LoginToken) (last : Option Moment) → IfSome kept IsToken → Gives (Sections.section login_rules key env settings kept last) (λ part made. GivesSession made)
 unfolding Sections.section Sections.by_reading clock
 section_is key env settings None last h = λ a. loaded_is key env settings last
-section_is key env settings (Some token) last h = λ a. either_way (more (login_rules.expiry token) (moment_of a) 300)
+section_is key env settings (Some token) last h = λ a. either_way (is_later_by (login_rules.expiry token) (moment_of a) 300)
   where
     either_way : (fresh : Bool) → Gives (cond fresh (Done (Hit token)) (after (Sections.load login_rules key env settings last) (λ l. Done (Load l)))) (λ part made. GivesSession made)
     either_way true = h

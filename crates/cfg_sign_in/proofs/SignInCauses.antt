@@ -20,7 +20,8 @@ use Rattle.cfg_keeping.specs.SectionHoldings.{section_leaves, kept_section}
 use Rattle.cfg_keeping.specs.LoginHoldings.{login_at, login_holding}
 use Rattle.cfg_keeping.proofs.Splits.{split_onwards, lowered}
 use Rattle.cfg_sign_in.specs.declared.asked_by.AskedBy.{AskedBy}
-use Rattle.cfg_sign_in.specs.SignIns.{Answer, told, section_of, credentials_in, sign_in_credentials, is_not_loaded}
+use Rattle.cfg_types.specs.Classes.{is_not_loaded_answer}
+use Rattle.cfg_sign_in.specs.SignIns.{Answer, section_error, section_of, credentials_in, sign_in_credentials}
 use Rattle.cfg_sign_in.specs.SignInCauses.{IsSectionPart, SignInCause}
 
 -- ---- trees with one step behind them
@@ -105,7 +106,7 @@ sign_in_cause conf session by found part out h =
 
 -- ---- no error says that nothing was there to be loaded
 
-told_loaded : (e : LoginTokenError) → is_not_loaded (Err (told e)) ≡ false
+told_loaded : (e : LoginTokenError) → is_not_loaded_answer (Err (section_error e)) ≡ false
 unfolding errors.out-CredentialsError carrier.out
 told_loaded login.FailedToFormatDateTime = refl
 told_loaded (login.IoError what path) = refl
@@ -117,10 +118,10 @@ told_loaded (login.RefreshFailed message) = refl
 told_loaded (login.Other text) = refl
 told_loaded login.OutOfMemory = refl
 
-answer_loaded : (by : AskedBy) (given : Given LoginToken) → is_not_loaded (credentials_in by given) ≡ false
+answer_loaded : (by : AskedBy) (given : Given LoginToken) → is_not_loaded_answer (credentials_in by given) ≡ false
 unfolding credentials_in
 answer_loaded by (Ok token) = refl
 answer_loaded by (Err e) = told_loaded e
 
-pub never_not_loaded : (conf : Configuration) (session : List ℕ) (by : AskedBy) (found : List Value) (part : List Pair) (out : Answer) → SignInCause conf session by found part out → is_not_loaded out ≡ false
-never_not_loaded conf session by found part out c = ap is_not_loaded c.tells ∙ answer_loaded by c.given
+pub never_not_loaded : (conf : Configuration) (session : List ℕ) (by : AskedBy) (found : List Value) (part : List Pair) (out : Answer) → SignInCause conf session by found part out → is_not_loaded_answer out ≡ false
+never_not_loaded conf session by found part out c = ap is_not_loaded_answer c.tells ∙ answer_loaded by c.given

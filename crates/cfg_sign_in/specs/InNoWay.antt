@@ -1,5 +1,5 @@
 -- Calls in whose way nothing stands.
-use Rattle.std.specs.Prelude.{◌≢◌, ◌⊎◌, ℤ, pos, ◌+ℤ◌, ◌≤ℤ◌, List, [], ◌∷◌, Option, Some, None, IsSome, IsOk, codes}
+use Rattle.std.specs.Prelude.{◌≡◌, ◌≢◌, ◌⊎◌, ℤ, pos, ◌+ℤ◌, ◌≤ℤ◌, List, [], ◌∷◌, true, Option, Some, None, IsSome, IsOk, codes}
 use Rattle.cfg_values.specs.Moment.{Moment}
 use Rattle.cfg_types.specs.Environment.{Variables, variable}
 use Rattle.cfg_types.specs.declared.reply.Reply.TheVariants as reply
@@ -11,6 +11,7 @@ use Rattle.cfg_world.specs.Leaves.{moment_of}
 use Rattle.cfg_profile.specs.Configuration.{Configuration}
 use Rattle.cfg_token.specs.declared.decision.Decision.TheVariants.{Refuse}
 use Rattle.cfg_token.specs.Decisions.{decision}
+use Rattle.cfg_values.specs.Instant.{is_later_by}
 use Rattle.cfg_token.specs.Sections.{ok_of}
 use Rattle.cfg_login.specs.declared.login_token.LoginToken.{LoginToken}
 use Rattle.cfg_login.specs.LoginFile.{login_file}
@@ -63,7 +64,18 @@ abbrev pub last_found : List Value → Option Moment
 last_found [] = None
 last_found (value ∷ found) = (login_in value).last
 
--- The folder is known, and the token is in time.
+-- the token that was found kept
+abbrev pub kept_found : List Value → Option LoginToken
+kept_found [] = None
+kept_found (value ∷ found) = (login_in value).token
+
+-- A kept token has more than 300 seconds left by the first reading, and is handed out: no file is looked for.
+abbrev pub IsHit : Option LoginToken → List Pair → Type 0
+IsHit (Some token) (first ∷ part) = is_later_by (login_rules.expiry token) (moment_of first.1) 300 ≡ true
+IsHit (Some token) [] = ⊥
+IsHit None part = ⊥
+
+-- A kept token is handed out, or the folder is known; and the token is in time.
 pub record NothingInTheWay (conf : Configuration) (found : List Value) (part : List Pair) : Type 0 where
-  pub folder : HasFolder conf.environment
+  pub folder : IsHit (kept_found found) part ⊎ HasFolder conf.environment
   pub section : IsSectionInTime (last_found found) part

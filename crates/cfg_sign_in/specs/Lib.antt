@@ -1,6 +1,6 @@
 pub mod SignIns
 pub mod SignInCauses
-pub mod LastReadings
+pub mod Endings
 pub mod InNoWay
 pub mod Provides
 pub mod SignInSetups

@@ -1,10 +1,8 @@
 -- Credentials of a sign-in session.
-use Rattle.std.specs.Prelude.{ℕ, List, [], ◌∷◌, ◌++◌, Bool, false, Result, Ok, Err}
-use Rattle.cfg_types.specs.Classes.{is_of_class}
+use Rattle.std.specs.Prelude.{ℕ, List, [], ◌∷◌, ◌++◌, Result, Ok, Err}
 use Rattle.cfg_types.specs.Keys.{Keys}
 use Rattle.cfg_types.specs.declared.credentials.AwsCredentialFeature.{AwsCredentialFeature}
 use Rattle.cfg_types.specs.declared.credentials.AwsCredentialFeature.TheVariants.{CredentialsProfileLogin, CredentialsProfile}
-use Rattle.cfg_types.specs.declared.errors.Class.TheVariants as class
 use Rattle.cfg_types.specs.declared.errors.ConfigCause.TheVariants as config
 use Rattle.cfg_types.specs.declared.errors.CredentialsError.{CredentialsError}
 use Rattle.cfg_types.specs.declared.errors.CredentialsError.TheVariants.{InvalidConfiguration, ProviderError, Unhandled, OutOfMemory}
@@ -38,17 +36,17 @@ marked by keys = record keys { features = keys.features ++ feature_of by ∷ [] 
 -- Why a section's error gives no credentials. A member that is not there, or a date that cannot be
 -- written, is a fault of the configuration, and a refresh that failed one of the provider. No rule
 -- allows for the others.
-abbrev pub told : LoginTokenError → CredentialsError
-told login.FailedToFormatDateTime = InvalidConfiguration (config.LoginToken login.FailedToFormatDateTime)
-told (login.MissingField f) = InvalidConfiguration (config.LoginToken (login.MissingField f))
-told (login.RefreshFailed message) = ProviderError (provider.LoginToken (login.RefreshFailed message))
-told login.OutOfMemory = OutOfMemory
-told e = Unhandled (unhandled.LoginToken e)
+abbrev pub section_error : LoginTokenError → CredentialsError
+section_error login.FailedToFormatDateTime = InvalidConfiguration (config.LoginToken login.FailedToFormatDateTime)
+section_error (login.MissingField f) = InvalidConfiguration (config.LoginToken (login.MissingField f))
+section_error (login.RefreshFailed message) = ProviderError (provider.LoginToken (login.RefreshFailed message))
+section_error login.OutOfMemory = OutOfMemory
+section_error e = Unhandled (unhandled.LoginToken e)
 
 -- the credentials of the token that a section gave, or why it gave none
 unfoldable pub credentials_in : AskedBy → Given LoginToken → Answer
 credentials_in by (Ok token) = Ok (marked by token.access_token)
-credentials_in by (Err e) = Err (told e)
+credentials_in by (Err e) = Err (section_error e)
 
 -- one section of the token of this session, on what is kept of it
 abbrev pub section_of : Configuration → List ℕ → KeptInquiry (Given LoginToken)
@@ -57,13 +55,3 @@ section_of conf session = login_holding (Login session) conf.environment (settin
 -- one section, and what it gives
 unfoldable pub sign_in_credentials : Configuration → List ℕ → AskedBy → KeptInquiry Answer
 sign_in_credentials conf session by = onwards (section_of conf session) (λ given. Gives (credentials_in by given))
-
--- whether memory ran out
-abbrev pub is_memory : Answer → Bool
-is_memory (Ok keys) = false
-is_memory (Err e) = is_of_class class.OutOfMemory e
-
--- whether there is nothing to be loaded
-abbrev pub is_not_loaded : Answer → Bool
-is_not_loaded (Ok keys) = false
-is_not_loaded (Err e) = is_of_class class.CredentialsNotLoaded e

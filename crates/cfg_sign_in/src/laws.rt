@@ -5,16 +5,18 @@ ghost use Rattle.cfg_profile.specs.Configuration.{Configuration};
 ghost use Rattle.cfg_keeping.specs.Kinds.{Value};
 ghost use Rattle.cfg_keeping.specs.KeptInquiry.{Reads};
 ghost use Rattle.cfg_sign_in.specs.declared.asked_by.AskedBy.{AskedBy as Asker};
-ghost use Rattle.cfg_sign_in.specs.SignIns.{Answer, feature_of, is_not_loaded, sign_in_credentials};
+ghost use Rattle.cfg_types.specs.Classes.{is_not_loaded_answer};
+ghost use Rattle.cfg_sign_in.specs.SignIns.{Answer, feature_of, sign_in_credentials};
 ghost use Rattle.cfg_sign_in.specs.SignInCauses.{SignInCause};
-ghost use Rattle.cfg_sign_in.specs.LastReadings.{last_reading, EndsAfter};
+ghost use Rattle.cfg_world.specs.LastReadings.{last_reading};
+ghost use Rattle.cfg_sign_in.specs.Endings.{EndsAfter};
 ghost use Rattle.cfg_sign_in.specs.SessionKeys.{IsOfSession, FindsSession};
 ghost use Rattle.cfg_sign_in.specs.InNoWay.{NothingInTheWay};
 
 /// Each answer has its cause: over any part, it is an error exactly where the section gives one, and
 /// tells of that. No error says that there was nothing to be loaded.
 pub fn answers_have_their_causes()
-    ensures loaded { (conf : Configuration) (session : List ℕ) (by : Asker) (found : List Value) (part : List Pair) (out : Answer) → Reads (sign_in_credentials conf session by) found part out → is_not_loaded out ≡ false }
+    ensures loaded { (conf : Configuration) (session : List ℕ) (by : Asker) (found : List Value) (part : List Pair) (out : Answer) → Reads (sign_in_credentials conf session by) found part out → is_not_loaded_answer out ≡ false }
     ensures cause { (conf : Configuration) (session : List ℕ) (by : Asker) (found : List Value) (part : List Pair) (out : Answer) → Reads (sign_in_credentials conf session by) found part out → SignInCause conf session by found part out }
 {}
 
@@ -29,8 +31,8 @@ pub fn credentials_are_of_a_session()
     ensures { (conf : Configuration) (session : List ℕ) (by : Asker) (found : List Value) (part : List Pair) (out : Answer) → FindsSession found → Reads (sign_in_credentials conf session by) found part out → IfOk out (IsOfSession (feature_of by ∷ [])) }
 {}
 
-/// Where a folder is known, the file holds a token that is not refused, and a refresh that is due is
-/// granted, there are credentials.
+/// Where a kept token is handed out; or a folder is known, the file holds a token that is not refused,
+/// and a refresh that is due is granted, there are credentials.
 pub fn nothing_in_the_way_gives_credentials()
     ensures { (conf : Configuration) (session : List ℕ) (by : Asker) (found : List Value) (part : List Pair) (out : Answer) → Reads (sign_in_credentials conf session by) found part out → NothingInTheWay conf found part → is_ok out ≡ true }
 {}

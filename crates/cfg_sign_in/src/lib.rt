@@ -10,4 +10,5 @@ pub mod login;
 mod section;
 
 pub use asked_by::AskedBy;
+pub use cfg_types::{CredentialsError, OutOfMemory};
 pub use login::{LoginCredentialsProvider, follow_login};

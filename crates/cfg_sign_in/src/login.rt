@@ -5,7 +5,8 @@ ghost use Rattle.cfg_values.specs.Text.{characters};
 ghost use Rattle.cfg_token.specs.declared.token_key.TokenKey.TheVariants.{Login};
 ghost use Rattle.cfg_keeping.specs.Holds.{HoldsFollows, HoldsBreaks};
 ghost use Rattle.cfg_profile.specs.Configuration.{nothing_configured};
-ghost use Rattle.cfg_sign_in.specs.SignIns.{sign_in_credentials, is_memory};
+ghost use Rattle.cfg_types.specs.Classes.{is_memory};
+ghost use Rattle.cfg_sign_in.specs.SignIns.{sign_in_credentials};
 ghost use Rattle.cfg_sign_in.specs.SignInSetups.{session_alone};
 ghost use Rattle.cfg_sign_in.specs.Provides.{ProvidesSignIn};
 

@@ -2,7 +2,7 @@
 ghost use Rattle.std.specs.Prelude.{◌≡◌, IfOk, Some};
 ghost use Rattle.cfg_token.specs.declared.token_key.TokenKey.TheVariants.{Login};
 ghost use Rattle.cfg_keeping.specs.Holds.{HoldsFollows};
-ghost use Rattle.cfg_sign_in.specs.SignIns.{credentials_in as credentials_of, feature_of, marked as marked_by, section_of, told as told_as};
+ghost use Rattle.cfg_sign_in.specs.SignIns.{credentials_in as credentials_of, feature_of, marked as marked_by, section_of, section_error as told_as};
 
 use crate::asked_by::AskedBy;
 use cfg_keeping::Keeper;

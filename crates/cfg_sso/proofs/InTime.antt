@@ -1,5 +1,5 @@
 -- Where nothing stands in the way, there are credentials.
-use Rattle.std.proofs.Common.{◌≡◌, ℕ, Bool, true, false, not, ◌&&◌, cond, List, [], ◌∷◌, Option, Some, None, Result, Ok, Err, refl, sym, ap, ◌∙◌, subst, append-nil}
+use Rattle.std.proofs.Common.{◌≡◌, ◌⊎◌, inl, inr, ℕ, Bool, true, false, not, ◌&&◌, cond, List, [], ◌∷◌, Option, Some, None, Result, Ok, Err, refl, sym, ap, ◌∙◌, subst, append-nil}
 use Rattle.std.specs.Prelude.{codes, is_ok, IsSome, IsOk, option_map}
 use Rattle.std.specs.Result.{result_err}
 use Rattle.std.specs.Str.{encode_utf8_all}
@@ -18,7 +18,7 @@ use Rattle.cfg_world.specs.declared.ask.Answer.TheVariants as answer
 use Rattle.cfg_world.specs.declared.ask.Question.TheVariants as question
 use Rattle.cfg_world.specs.declared.leaves.NotGranted.{NotGranted}
 use Rattle.cfg_world.specs.Fits.{Pair}
-use Rattle.cfg_world.specs.Inquiry.{Inquiry, Done, Ask, after}
+use Rattle.cfg_world.specs.Inquiry.{Inquiry, Done, Ask, Reads, after}
 use Rattle.cfg_world.specs.Leaves.{clock, moment_of, contents_of, granted_of}
 use Rattle.cfg_profile.specs.Configuration.{Configuration}
 use Rattle.cfg_profile.specs.Settings.{settings_of}
@@ -33,7 +33,8 @@ use Rattle.cfg_token.specs.declared.steps.Loaded.{Loaded}
 use Rattle.cfg_token.specs.declared.token_key.TokenKey.{TokenKey}
 use Rattle.cfg_token.specs.declared.token_key.TokenKey.TheVariants.{Sso}
 use Rattle.cfg_token.specs.Decisions.{decision, is_soon, is_refreshable}
-use Rattle.cfg_token.specs.Moments.{is_before, more}
+use Rattle.cfg_values.specs.Instant.{is_later_by}
+use Rattle.cfg_token.specs.Moments.{is_before}
 use Rattle.cfg_token.specs.Sections
 use Rattle.cfg_token.specs.SsoFile.{sso_file}
 use Rattle.cfg_token.specs.SsoText.{sso_text}
@@ -44,7 +45,8 @@ use Rattle.cfg_sso.specs.declared.config.SsoProviderConfig.{SsoProviderConfig}
 use Rattle.cfg_sso.specs.RoleKeys.{Answer}
 use Rattle.cfg_sso.specs.Tokens.{Token, url_path, token_in, of_file, of_section, key_by}
 use Rattle.cfg_sso.specs.SsoCauses.{IsSectionPart, IsFilePart, IsTokenPart, why_keys, why_reply, why_granted, IsBehind, SsoCause}
-use Rattle.cfg_sso.specs.InNoWay.{ok_token, held_token, IsWritten, IsRenewed, IsRefreshed, IsInTime, IsSectionInTime, IsTokenInTime, HoldsKeys, IsGranted, AreGranted, NothingInTheWay}
+use Rattle.cfg_token.specs.Sections.{ok_of}
+use Rattle.cfg_sso.specs.InNoWay.{held_token, IsWritten, IsRenewed, IsRefreshed, IsInTime, IsSectionInTime, IsTokenInTime, kept_found, IsHit, HoldsKeys, IsGranted, AreGranted, NothingInTheWay}
 
 abbrev Made : Type 0
 Made = Sectioned CachedSsoToken SsoTokenProviderError
@@ -54,11 +56,6 @@ Outcome = Loaded CachedSsoToken SsoTokenProviderError
 
 never : false ≡ true → ⊥
 never h = cc
-
--- whatever a tree does, where the same holds of all that it may do
-gives_all : {R : Type 0} (p : Inquiry R) (P : List Pair → R → Type 0) → ((part : List Pair) (out : R) → P part out) → Gives p P
-gives_all (Done r) P f = f [] r
-gives_all (Ask q n) P f = λ a. gives_all (n a) (λ part out. P ((q, a) ∷ part) out) (λ part out. f ((q, a) ∷ part) out)
 
 -- ---- a refresh
 
@@ -76,19 +73,11 @@ text_fine path now token (Some text) = λ a h. written_fine path now token a h.1
 lasting_fine : (file : CachedSsoToken) (now : Moment) → is_before now file.expires_at ≡ true → IsOk (Sections.while_it_lasts sso_rules file now)
 lasting_fine file now h = subst (λ b. IsOk (cond (not b) (Err sso_rules.expired) (Ok file))) (sym h) refl
 
-renews_fine : (path : List ℕ) (file : CachedSsoToken) (now : Moment) (r : Renewal CachedSsoToken SsoTokenProviderError) → is_before now file.expires_at ≡ true →
-    Gives (Sections.renews sso_rules path file now r) (λ part l. IfFine (IsRenewed part r) l)
+renews_fine : (path : List ℕ) (file : CachedSsoToken) (now : Moment) (r : Renewal CachedSsoToken SsoTokenProviderError) → Gives (Sections.renews sso_rules path file now r) (λ part l. IfFine (IsRenewed file now part r) l)
 unfolding Sections.saves
-renews_fine path file now (Granted token) before = text_fine path now token (sso_text token)
-renews_fine path file now Passed before = λ h. lasting_fine file now before
-renews_fine path file now (Refused e noted) before = λ h. absurd h
-
-decides_fine : (key : TokenKey) (settings : CallSettings) (path : List ℕ) (file : CachedSsoToken) (now : Moment) (d : Decision) → is_before now file.expires_at ≡ true → (d ≡ Refuse → ⊥) →
-    Gives (Sections.decides sso_rules key settings path file now d) (λ part l. IfFine (IsRefreshed key file now part) l)
-unfolding Sections.refreshes Sections.asks_renewal
-decides_fine key settings path file now Refuse before other = absurd (other refl)
-decides_fine key settings path file now Use before other = λ h. refl
-decides_fine key settings path file now Refresh before other = λ a. renews_fine path file now (sso_renewal key file now a) before
+renews_fine path file now (Granted token) = text_fine path now token (sso_text token)
+renews_fine path file now Passed = λ h. lasting_fine file now h
+renews_fine path file now (Refused e noted) = λ h. absurd h
 
 -- what has not expired is not refused
 not_refused : (soon can : Bool) → cond (not true && not can) Refuse (cond (soon && can) Refresh Use) ≡ Refuse → ⊥
@@ -102,33 +91,25 @@ decided file last now before h =
     not_refused (is_soon sso_rules file now) (is_refreshable sso_rules file last now)
     (subst (λ b. cond (not b && not (is_refreshable sso_rules file last now)) Refuse (cond (is_soon sso_rules file now && is_refreshable sso_rules file last now) Refresh Use) ≡ Refuse) before h)
 
+decides_fine : (key : TokenKey) (settings : CallSettings) (path : List ℕ) (file : CachedSsoToken) (last : Option Moment) (now : Moment) (d : Decision) → decision sso_rules file last now ≡ d →
+    Gives (Sections.decides sso_rules key settings path file now d) (λ part l. IfFine (IsRefreshed key file now part) l)
+unfolding Sections.refreshes Sections.asks_renewal
+decides_fine key settings path file last now Refuse is = λ h. absurd (decided file last now h is)
+decides_fine key settings path file last now Use is = λ h. refl
+decides_fine key settings path file last now Refresh is = λ a. renews_fine path file now (sso_renewal key file now a)
+
 -- ---- the file, and the reading behind it
 
 module _ (key : TokenKey) (settings : CallSettings) (last : Option Moment) (path : List ℕ) (first : Pair) where
-  -- a token that is in time by this reading
-  by_second : (file : CachedSsoToken) (a : Given) (before : Bool) → is_before (moment_of a) file.expires_at ≡ before →
-      Gives (Sections.decides sso_rules key settings path file (moment_of a) (decision sso_rules file last (moment_of a)))
-      (λ part l. IfFine ((is_before (moment_of a) file.expires_at ≡ true) × IsRefreshed key file (moment_of a) part) l)
-  by_second file a true is =
-      let now = moment_of a in
-      let d = decision sso_rules file last now in
-      gives_more (Sections.decides sso_rules key settings path file now d) (λ part l. IfFine (IsRefreshed key file now part) l)
-      (λ part l. IfFine ((is_before now file.expires_at ≡ true) × IsRefreshed key file now part) l) (λ part l f h. f h.1)
-      (decides_fine key settings path file now d is (decided file last now is))
-  by_second file a false is =
-      let now = moment_of a in
-      gives_all (Sections.decides sso_rules key settings path file now (decision sso_rules file last now))
-      (λ part l. IfFine ((is_before now file.expires_at ≡ true) × IsRefreshed key file now part) l) (λ part l h. absurd (never (sym is ∙ h.0)))
-
   -- what stands behind a file
   abbrev Behind : Option CachedSsoToken → List Pair → Type 0
   Behind held [] = IsSome held
   Behind held (second ∷ rest) = IsInTime key (moment_of second.1) rest held
 
-  by_file : (file : Result CachedSsoToken CachedSsoTokenError) → Gives (Sections.judges_file sso_rules key settings last path (loaded file)) (λ part l. IfFine (Behind (ok_token file) part) l)
+  by_file : (file : Result CachedSsoToken CachedSsoTokenError) → Gives (Sections.judges_file sso_rules key settings last path (loaded file)) (λ part l. IfFine (Behind (ok_of file) part) l)
   unfolding Sections.judges clock
   by_file (Err e) = λ h. absurd (never h)
-  by_file (Ok file) = λ a. by_second file a (is_before (moment_of a) file.expires_at) refl
+  by_file (Ok file) = λ a. decides_fine key settings path file last (moment_of a) (decision sso_rules file last (moment_of a)) refl
 
   unread : Gives (Sections.judges_file sso_rules key settings last path (Err (sso_rules.unread path))) (λ part l. IfFine (Behind None part) l)
   unread = λ h. absurd (never h)
@@ -176,11 +157,31 @@ section_fine : (key : TokenKey) (env : Variables) (settings : CallSettings) (kep
     Gives (Sections.section sso_rules key env settings kept last) (IsFine key)
 unfolding Sections.section Sections.by_reading clock
 section_fine key env settings None last home = λ a. loaded_fine key env settings last a home
-section_fine key env settings (Some token) last home = λ a. either_way a (more token.expires_at (moment_of a) 300)
+section_fine key env settings (Some token) last home = λ a. either_way a (is_later_by token.expires_at (moment_of a) 300)
   where
     either_way : (a : Given) (fresh : Bool) → Gives (cond fresh (Done (Hit token)) (after (Sections.load sso_rules key env settings last) (λ l. Done (Load l)))) (λ part made. IsFine key ((question.Now, a) ∷ part) made)
     either_way a true = λ h. refl
     either_way a false = loaded_fine key env settings last a home
+
+-- whatever a tree does, where the same holds of all that it may do
+gives_all : {R : Type 0} (p : Inquiry R) (P : List Pair → R → Type 0) → ((part : List Pair) (out : R) → P part out) → Gives p P
+gives_all (Done r) P f = f [] r
+gives_all (Ask q n) P f = λ a. gives_all (n a) (λ part out. P ((q, a) ∷ part) out) (λ part out. f ((q, a) ∷ part) out)
+
+-- the section gave a token, where a kept one is handed out
+abbrev IfHit : Option CachedSsoToken → List Pair → Made → Type 0
+IfHit kept part made = IsHit kept part → IsOk (Sections.answer_of made)
+
+hit_fine : (key : TokenKey) (env : Variables) (settings : CallSettings) (kept : Option CachedSsoToken) (last : Option Moment) → Gives (Sections.section sso_rules key env settings kept last) (IfHit kept)
+unfolding Sections.section Sections.by_reading clock
+hit_fine key env settings None last = λ a. gives_all (after (Sections.load sso_rules key env settings last) (λ l. Done (Load l))) (λ part made. IfHit None ((question.Now, a) ∷ part) made) (λ part made h. absurd h)
+hit_fine key env settings (Some token) last = λ a. either_way a (is_later_by token.expires_at (moment_of a) 300) refl
+  where
+    either_way : (a : Given) (fresh : Bool) → is_later_by token.expires_at (moment_of a) 300 ≡ fresh →
+        Gives (cond fresh (Done (Hit token)) (after (Sections.load sso_rules key env settings last) (λ l. Done (Load l)))) (λ part made. IfHit (Some token) ((question.Now, a) ∷ part) made)
+    either_way a true is = λ h. refl
+    either_way a false is =
+        gives_all (after (Sections.load sso_rules key env settings last) (λ l. Done (Load l))) (λ part made. IfHit (Some token) ((question.Now, a) ∷ part) made) (λ part made h. absurd (never (sym is ∙ h)))
 
 -- ---- the token
 
@@ -193,7 +194,7 @@ unfolding of_section
 told_fine (Ok token) h = refl
 told_fine (Err e) h = absurd (never h)
 
-held_fine : (path : List ℕ) (file : Result CachedSsoToken CachedSsoTokenError) → IsSome (ok_token file) → IsOk (of_file file)
+held_fine : (path : List ℕ) (file : Result CachedSsoToken CachedSsoTokenError) → IsSome (ok_of file) → IsOk (of_file file)
 unfolding of_file
 held_fine path (Ok token) h = refl
 held_fine path (Err e) h = absurd (never h)
@@ -209,22 +210,35 @@ read_token path (answer.Addresses addresses) h = absurd (never h)
 read_token path (answer.Replied reply) h = absurd (never h)
 read_token path (answer.Failed kind) h = absurd (never h)
 
-file_fine : (url : List ℕ) (home : Result (List ℕ) VarError) (part : List Pair) (token : Token) → IsOk home → IsTokenInTime None part → IsFilePart (url_path url home) part token → IsOk token
-file_fine url (Err e) part token h t p = absurd (never h)
-file_fine url (Ok home) part token h t p = subst (λ (x : Token). IsOk x) (sym p.2) (read_token _ p.0 (subst (IsTokenInTime None) p.1 t))
+file_fine : (url : List ℕ) (home : Result (List ℕ) VarError) (part : List Pair) (token : Token) → IsHit None part ⊎ IsOk home → IsTokenInTime None part → IsFilePart (url_path url home) part token → IsOk token
+file_fine url home part token (inl h) t p = absurd h
+file_fine url (Err e) part token (inr h) t p = absurd (never h)
+file_fine url (Ok home) part token (inr h) t p = subst (λ (x : Token). IsOk x) (sym p.2) (read_token _ p.0 (subst (IsTokenInTime None) p.1 t))
 
-session_fine : (conf : Configuration) (session region url : List ℕ) (found : List Value) (part : List Pair) (token : Token) → IsOk (variable conf.environment (codes "HOME")) → IsSectionInTime (Sso session region url) part →
-    (given : GivenBy CachedSsoToken) → IsSectionPart conf (Sso session region url) found part given → token ≡ of_section given → IsOk token
+made_fine : (key : TokenKey) (env : Variables) (settings : CallSettings) (kept : Option CachedSsoToken) (last : Option Moment) (part : List Pair) (made : Made) → IsHit kept part ⊎ IsOk (sso_rules.path key env) →
+    IsSectionInTime key part → Reads (Sections.section sso_rules key env settings kept last) part made → IsOk (Sections.answer_of made)
+made_fine key env settings kept last part made (inl hit) t reads = gives_reads (Sections.section sso_rules key env settings kept last) (IfHit kept) part made (hit_fine key env settings kept last) reads hit
+made_fine key env settings kept last part made (inr path) t reads = gives_reads (Sections.section sso_rules key env settings kept last) (IsFine key) part made (section_fine key env settings kept last path) reads t
+
+path_fine : (session : List ℕ) (home : Result (List ℕ) VarError) (kept : Option CachedSsoToken) (part : List Pair) → IsHit kept part ⊎ IsOk home → IsHit kept part ⊎ IsOk (home_path session home)
+path_fine session home kept part (inl hit) = inl hit
+path_fine session home kept part (inr known) = inr (home_fine session home known)
+
+session_fine : (conf : Configuration) (session region url : List ℕ) (found : List Value) (part : List Pair) (token : Token) → IsHit (kept_found found) part ⊎ IsOk (variable conf.environment (codes "HOME")) →
+    IsSectionInTime (Sso session region url) part → (given : GivenBy CachedSsoToken) → IsSectionPart conf (Sso session region url) found part given → token ≡ of_section given → IsOk token
 session_fine conf session region url found part token home t given s told =
     let key = Sso session region url in
     let was = sso_in s.value in
-    let fine = gives_reads (Sections.section sso_rules key conf.environment (settings_of conf) was.token was.last) (IsFine key) part s.made
-    (section_fine key conf.environment (settings_of conf) was.token was.last (home_fine session (variable conf.environment (codes "HOME")) home)) s.reads in
-    subst (λ (x : Token). IsOk x) (sym told) (told_fine given (subst (λ (x : GivenBy CachedSsoToken). IsOk x) (sym s.gives) (fine t)))
+    let known = path_fine session (variable conf.environment (codes "HOME")) was.token part
+    (subst (λ (f : List Value). IsHit (kept_found f) part ⊎ IsOk (variable conf.environment (codes "HOME"))) s.finds home) in
+    let fine = made_fine key conf.environment (settings_of conf) was.token was.last part s.made known t s.reads in
+    subst (λ (x : Token). IsOk x) (sym told) (told_fine given (subst (λ (x : GivenBy CachedSsoToken). IsOk x) (sym s.gives) fine))
 
-token_fine : (conf : Configuration) (name : Option (List ℕ)) (region url : List ℕ) (found : List Value) (part : List Pair) (token : Token) → IsOk (variable conf.environment (codes "HOME")) →
-    IsTokenInTime (key_by name region url) part → IsTokenPart conf url (key_by name region url) found part token → IsOk token
-token_fine conf None region url found part token home t p = file_fine url (variable conf.environment (codes "HOME")) part token home t p.1
+token_fine : (conf : Configuration) (name : Option (List ℕ)) (region url : List ℕ) (found : List Value) (part : List Pair) (token : Token) →
+    IsHit (kept_found found) part ⊎ IsOk (variable conf.environment (codes "HOME")) → IsTokenInTime (key_by name region url) part → IsTokenPart conf url (key_by name region url) found part token → IsOk token
+token_fine conf None region url found part token home t p =
+    file_fine url (variable conf.environment (codes "HOME")) part token
+    (subst (λ (f : List Value). IsHit (kept_found f) part ⊎ IsOk (variable conf.environment (codes "HOME"))) p.0 home) t p.1
 token_fine conf (Some session) region url found part token home t p = session_fine conf session region url found part token home t p.0 p.1 p.2
 
 -- ---- the request
@@ -253,7 +267,7 @@ behind_fine conf sso (Ok token) part out h g b = no_error out (b.2 ∙ granted_f
 -- ---- the whole
 
 pub nothing_in_the_way : (conf : Configuration) (sso : SsoProviderConfig) (found : List Value) (part : List Pair) (out : Answer) (c : SsoCause conf sso found part out) →
-    NothingInTheWay conf sso c.token_part c.role_part → is_ok out ≡ true
+    NothingInTheWay conf sso found c.token_part c.role_part → is_ok out ≡ true
 nothing_in_the_way conf sso found part out c n =
     behind_fine conf sso c.token c.role_part out
     (token_fine conf sso.session_name sso.region sso.start_url found c.token_part c.token n.home n.token c.of_token) n.role c.behind

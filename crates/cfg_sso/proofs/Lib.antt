@@ -4,3 +4,5 @@ pub mod SsoCauses
 pub mod SectionWalks
 pub mod RoleRequests
 pub mod InTime
+pub mod NoRoleAsked
+pub mod BegunRequests

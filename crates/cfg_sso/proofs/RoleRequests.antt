@@ -16,7 +16,8 @@ use Rattle.cfg_sso.specs.declared.config.SsoProviderConfig.{SsoProviderConfig}
 use Rattle.cfg_sso.specs.RoleKeys.{Answer}
 use Rattle.cfg_sso.specs.Tokens.{Token, url_path, of_section, sso_key}
 use Rattle.cfg_sso.specs.SsoCauses.{IsFilePart, IsTokenPart, IsBehind, SsoCause}
-use Rattle.cfg_sso.specs.RoleRequests.{AsksNoRole, last_reading, EndsAfter, SendsOnce, SendsNothing}
+use Rattle.cfg_world.specs.LastReadings.{last_reading}
+use Rattle.cfg_sso.specs.RoleRequests.{AsksNoRole, EndsAfter, SendsOnce, SendsNothing}
 use Rattle.cfg_sso.proofs.SectionWalks.{section_asks_no_role, section_lasts}
 
 file_asks_no_role : (path : Result (List ℕ) CachedSsoTokenError) (part : List Pair) (token : Token) → IsFilePart path part token → AsksNoRole part
@@ -38,7 +39,7 @@ given_token (Err e) token h = cc
 lasting : (part : List Pair) (answer given : Given CachedSsoToken) (token : CachedSsoToken) → given ≡ answer → given ≡ Ok token → IfOk answer (λ t. EndsAfter (last_reading part) t) → EndsAfter (last_reading part) token
 lasting part answer given token is ok h = subst (λ r. IfOk r (λ t. EndsAfter (last_reading part) t)) (sym is ∙ ok) h
 
-token_lasts : (conf : Configuration) (url : List ℕ) (key : Option TokenKey) (found : List Value) (part : List Pair) (token : CachedSsoToken) → IsTokenPart conf url key found part (Ok token) →
+pub token_lasts : (conf : Configuration) (url : List ℕ) (key : Option TokenKey) (found : List Value) (part : List Pair) (token : CachedSsoToken) → IsTokenPart conf url key found part (Ok token) →
     IfSome key (λ k. EndsAfter (last_reading part) token)
 token_lasts conf url None found part token h = tt
 token_lasts conf url (Some key) found part token h =

@@ -2,7 +2,7 @@
 use Rattle.std.proofs.Common.{◌≡◌, ℕ, Bool, true, false, cond, List, [], ◌∷◌, Option, Some, None, Result, Ok, Err, refl, sym, subst, append-nil, arith}
 use Rattle.std.specs.Prelude.{ℤ, ◌+ℤ◌, int_lt, IfOk}
 use Rattle.std.proofs.lemmas.Int.{ints}
-use Rattle.cfg_values.specs.Instant.{number, nanos_in}
+use Rattle.cfg_values.specs.Instant.{number, nanos_in, is_later_by}
 use Rattle.cfg_values.specs.Moment.{Moment}
 use Rattle.cfg_types.specs.Environment.{Variables}
 use Rattle.cfg_types.specs.declared.errors.sso.SsoTokenProviderError.{SsoTokenProviderError}
@@ -22,15 +22,16 @@ use Rattle.cfg_token.specs.declared.sso_token.CachedSsoToken.{CachedSsoToken}
 use Rattle.cfg_token.specs.declared.steps.Loaded.{Loaded}
 use Rattle.cfg_token.specs.declared.token_key.TokenKey.{TokenKey}
 use Rattle.cfg_token.specs.Decisions.{decision}
-use Rattle.cfg_token.specs.Moments.{is_before, more}
+use Rattle.cfg_token.specs.Moments.{is_before}
 use Rattle.cfg_token.specs.Sections
 use Rattle.cfg_token.specs.Spacing.{second_reading}
 use Rattle.cfg_token.specs.SsoTells.{sso_tells}
 use Rattle.cfg_token.specs.SsoTokens.{sso_rules}
 use Rattle.cfg_token.proofs.Outcomes.{Gives, gives_reads, gives_after, gives_more, FairSection, section_fair}
-use Rattle.cfg_sso.specs.RoleRequests.{AsksNoRole, last_reading_from, last_reading, EndsAfter}
+use Rattle.cfg_world.specs.LastReadings.{last_reading_from, last_reading}
+use Rattle.cfg_sso.specs.RoleRequests.{AsksNoRole, EndsAfter}
 
-abbrev Made : Type 0
+abbrev pub Made : Type 0
 Made = Sectioned CachedSsoToken SsoTokenProviderError
 
 abbrev Outcome : Type 0
@@ -88,11 +89,11 @@ unfolding Sections.load
 load_part key env settings last = loads_part key settings last (sso_rules.path key env)
 
 -- The same of a section. A kept token that is handed out ends after its only reading.
-abbrev LastsBy : List Pair → Made → Type 0
+abbrev pub LastsBy : List Pair → Made → Type 0
 LastsBy part (Hit token) = EndsAfter (last_reading part) token
 LastsBy part (Load l) = IfOk l.outcome (λ token. last_reading part ≡ Some (second_reading part))
 
-abbrev IsWalked : List Pair → Made → Type 0
+abbrev pub IsWalked : List Pair → Made → Type 0
 IsWalked part made = AsksNoRole part × LastsBy part made
 
 loaded_walked : (key : TokenKey) (env : Variables) (settings : CallSettings) (last : Option Moment) (a : Given) →
@@ -110,12 +111,12 @@ more_later now end h = by (int_lt (now +ℤ nanos_in 300) end) (int_lt now end) 
     by true false e f k = absurd (omega (arith, ints, e, f))
     by false b e f k = cc
 
-section_walked : (key : TokenKey) (env : Variables) (settings : CallSettings) (kept : Option CachedSsoToken) (last : Option Moment) → Gives (Sections.section sso_rules key env settings kept last) IsWalked
+pub section_walked : (key : TokenKey) (env : Variables) (settings : CallSettings) (kept : Option CachedSsoToken) (last : Option Moment) → Gives (Sections.section sso_rules key env settings kept last) IsWalked
 unfolding Sections.section Sections.by_reading clock
 section_walked key env settings None last = λ a. loaded_walked key env settings last a
-section_walked key env settings (Some token) last = λ a. either_way a (more token.expires_at (moment_of a) 300) refl
+section_walked key env settings (Some token) last = λ a. either_way a (is_later_by token.expires_at (moment_of a) 300) refl
   where
-    either_way : (a : Given) (fresh : Bool) → more token.expires_at (moment_of a) 300 ≡ fresh →
+    either_way : (a : Given) (fresh : Bool) → is_later_by token.expires_at (moment_of a) 300 ≡ fresh →
         Gives (cond fresh (Done (Hit token)) (after (Sections.load sso_rules key env settings last) (λ l. Done (Load l)))) (λ part made. IsWalked ((question.Now, a) ∷ part) made)
     either_way a true is = ((refl, tt), more_later (number (moment_of a)) (number token.expires_at) is)
     either_way a false is = loaded_walked key env settings last a

@@ -115,7 +115,7 @@ file_part (Ok path) [] token h = absurd h
 file_part (Ok path) (e ∷ []) token h = (e.1, ap (λ q. (q, e.1) ∷ []) h.0, sym h.1)
 file_part (Ok path) (e ∷ f ∷ part) token h = absurd h.1
 
-token_part : (conf : Configuration) (url : List ℕ) (key : Option TokenKey) (found : List Value) (part : List Pair) (token : Token) → Reads (token_by conf url key) found part token → IsTokenPart conf url key found part token
+pub token_part : (conf : Configuration) (url : List ℕ) (key : Option TokenKey) (found : List Value) (part : List Pair) (token : Token) → Reads (token_by conf url key) found part token → IsTokenPart conf url key found part token
 unfolding session_token url_token
 token_part conf url None found part token h =
     let l = lowered (url_token conf.environment url) found part token h in

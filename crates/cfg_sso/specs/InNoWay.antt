@@ -1,5 +1,5 @@
 -- Calls in whose way nothing stands.
-use Rattle.std.specs.Prelude.{◌≡◌, List, [], ◌∷◌, true, Option, Some, None, IsSome, IsOk, Result, Ok, Err, codes}
+use Rattle.std.specs.Prelude.{◌≡◌, ◌⊎◌, List, [], ◌∷◌, true, Option, Some, None, IsSome, IsOk, Result, Ok, Err, codes}
 use Rattle.cfg_values.specs.Moment.{Moment}
 use Rattle.cfg_types.specs.Environment.{variable}
 use Rattle.cfg_types.specs.Replies.{role_in}
@@ -16,20 +16,19 @@ use Rattle.cfg_token.specs.declared.file_token.Renewal.{Renewal}
 use Rattle.cfg_token.specs.declared.file_token.Renewal.TheVariants.{Granted, Passed, Refused}
 use Rattle.cfg_token.specs.declared.sso_token.CachedSsoToken.{CachedSsoToken}
 use Rattle.cfg_token.specs.declared.token_key.TokenKey.{TokenKey}
+use Rattle.cfg_values.specs.Instant.{is_later_by}
 use Rattle.cfg_token.specs.Moments.{is_before}
+use Rattle.cfg_token.specs.Sections.{ok_of}
 use Rattle.cfg_token.specs.SsoFile.{sso_file}
 use Rattle.cfg_token.specs.SsoText.{sso_text}
 use Rattle.cfg_token.specs.SsoTokens.{sso_renewal}
+use Rattle.cfg_keeping.specs.Kinds.{Value, sso_in}
 use Rattle.cfg_sso.specs.declared.config.SsoProviderConfig.{SsoProviderConfig}
 use Rattle.cfg_sso.specs.Tokens.{sso_key}
 
-abbrev pub ok_token : {E : Type 0} → Result CachedSsoToken E → Option CachedSsoToken
-ok_token (Ok token) = Some token
-ok_token (Err e) = None
-
 -- the token that a file holds, where it was read and holds one
 abbrev pub held_token : Given → Option CachedSsoToken
-held_token (answer.Contents bytes) = ok_token (sso_file bytes)
+held_token (answer.Contents bytes) = ok_of (sso_file bytes)
 held_token _ = None
 
 -- A new token was written.
@@ -37,22 +36,22 @@ abbrev pub IsWritten : List Pair → Type 0
 IsWritten [] = Unit {0}
 IsWritten (e ∷ rest) = e.1 ≡ answer.Written
 
--- A refresh gave no token, and the file's is used; or one whose dates can be written, and it was. It did
--- not give a lifetime that is none.
-abbrev pub IsRenewed : List Pair → Renewal CachedSsoToken SsoTokenProviderError → Type 0
-IsRenewed rest (Granted new) = IsSome (sso_text new) × IsWritten rest
-IsRenewed rest Passed = Unit {0}
-IsRenewed rest (Refused e noted) = ⊥
+-- A refresh gave no token, and the file's is used, which ends after the reading; or one whose dates can be
+-- written, and it was. It did not give a lifetime that is none.
+abbrev pub IsRenewed : CachedSsoToken → Moment → List Pair → Renewal CachedSsoToken SsoTokenProviderError → Type 0
+IsRenewed token now rest (Granted new) = IsSome (sso_text new) × IsWritten rest
+IsRenewed token now rest Passed = is_before now token.expires_at ≡ true
+IsRenewed token now rest (Refused e noted) = ⊥
 
+-- The file's token ends after the reading; or a refresh was asked for, and what came of it stands in no way.
 abbrev pub IsRefreshed : TokenKey → CachedSsoToken → Moment → List Pair → Type 0
-IsRefreshed key token now [] = Unit {0}
-IsRefreshed key token now (e ∷ rest) = IsRenewed rest (sso_renewal key token now e.1)
+IsRefreshed key token now [] = is_before now token.expires_at ≡ true
+IsRefreshed key token now (e ∷ rest) = IsRenewed token now rest (sso_renewal key token now e.1)
 
--- The file holds a token that ends after the reading behind it, and what came of its refresh, where one
--- was asked for, stands in no way.
+-- The file holds a token that ends after the reading behind it, or that a refresh renews.
 abbrev pub IsInTime : TokenKey → Moment → List Pair → Option CachedSsoToken → Type 0
 IsInTime key now rest None = ⊥
-IsInTime key now rest (Some token) = (is_before now token.expires_at ≡ true) × IsRefreshed key token now rest
+IsInTime key now rest (Some token) = IsRefreshed key token now rest
 
 -- the same over the part of a section: a reading, a file, a second reading, and what follows
 abbrev pub IsSectionInTime : TokenKey → List Pair → Type 0
@@ -66,6 +65,17 @@ abbrev pub IsTokenInTime : Option TokenKey → List Pair → Type 0
 IsTokenInTime (Some key) part = IsSectionInTime key part
 IsTokenInTime None [] = Unit {0}
 IsTokenInTime None (file ∷ part) = IsSome (held_token file.1)
+
+-- the token that was found kept
+abbrev pub kept_found : List Value → Option CachedSsoToken
+kept_found [] = None
+kept_found (value ∷ found) = (sso_in value).token
+
+-- A kept token has more than 300 seconds left by the first reading, and is handed out: no file is looked for.
+abbrev pub IsHit : Option CachedSsoToken → List Pair → Type 0
+IsHit (Some token) (first ∷ part) = is_later_by token.expires_at (moment_of first.1) 300 ≡ true
+IsHit (Some token) [] = ⊥
+IsHit None part = ⊥
 
 -- The reply holds credentials with an id and a secret of their access key.
 pub record HasKeys (given : RoleCredentials) : Type 0 where
@@ -84,8 +94,9 @@ abbrev pub AreGranted : List Pair → Type 0
 AreGranted [] = Unit {0}
 AreGranted (e ∷ rest) = IsGranted (granted_of role_in e.1)
 
--- The home directory is known, the token is in time, and the request is granted.
-pub record NothingInTheWay (conf : Configuration) (sso : SsoProviderConfig) (token_part role_part : List Pair) : Type 0 where
-  pub home : IsOk (variable conf.environment (codes "HOME"))
+-- A kept token is handed out, or the home directory is known; the token is in time or renewed, and the
+-- request is granted.
+pub record NothingInTheWay (conf : Configuration) (sso : SsoProviderConfig) (found : List Value) (token_part role_part : List Pair) : Type 0 where
+  pub home : IsHit (kept_found found) token_part ⊎ IsOk (variable conf.environment (codes "HOME"))
   pub token : IsTokenInTime (sso_key sso) token_part
   pub role : AreGranted role_part

@@ -1,7 +1,4 @@
 -- What a provider's call leaves of a journal and of what is kept.
-use Rattle.std.specs.Prelude.{Bool, false, Ok, Err}
-use Rattle.cfg_types.specs.Classes.{is_of_class}
-use Rattle.cfg_types.specs.declared.errors.Class.TheVariants as class
 use Rattle.cfg_world.specs.declared.asking.Asking.{Ghosts}
 use Rattle.cfg_profile.specs.Configuration.{Configuration}
 use Rattle.cfg_token.specs.declared.token_key.TokenKey.{TokenKey}
@@ -11,11 +8,6 @@ use Rattle.cfg_sso.specs.RoleKeys.{Answer}
 use Rattle.cfg_sso.specs.SsoCredentials.{sso_credentials}
 use Rattle.cfg_sso.specs.SsoCauses.{SsoCause}
 use Rattle.cfg_sso.specs.BearerTokens.{Bearer, bearer_token, BearerCause}
-
--- whether memory ran out
-abbrev pub is_memory : Answer → Bool
-is_memory (Ok keys) = false
-is_memory (Err e) = is_of_class class.OutOfMemory e
 
 -- The journal and the found values grew by a part over which the provider's tree came to this answer.
 -- The answer has its cause.

@@ -6,7 +6,7 @@ use Rattle.cfg_world.specs.declared.ask.Question.{Question}
 use Rattle.cfg_world.specs.declared.ask.Question.TheVariants as question
 use Rattle.cfg_world.specs.declared.ask.Answer.{Answer as Given}
 use Rattle.cfg_world.specs.Fits.{Pair}
-use Rattle.cfg_world.specs.Leaves.{moment_of}
+use Rattle.cfg_world.specs.LastReadings.{last_reading}
 use Rattle.cfg_profile.specs.Configuration.{Configuration}
 use Rattle.cfg_token.specs.declared.sso_token.CachedSsoToken.{CachedSsoToken}
 use Rattle.cfg_token.specs.Moments.{is_before}
@@ -25,18 +25,6 @@ is_role_request _ = false
 abbrev pub AsksNoRole : List Pair → Type 0
 AsksNoRole [] = Unit {0}
 AsksNoRole (e ∷ part) = (is_role_request e.0 ≡ false) × AsksNoRole part
-
--- the last reading of the clock in a part, or else the one before it
-abbrev pub reading_or : Option Moment → Question → Given → Option Moment
-reading_or before question.Now given = Some (moment_of given)
-reading_or before _ given = before
-
-abbrev pub last_reading_from : Option Moment → List Pair → Option Moment
-last_reading_from before [] = before
-last_reading_from before (e ∷ part) = last_reading_from (reading_or before e.0 e.1) part
-
-abbrev pub last_reading : List Pair → Option Moment
-last_reading part = last_reading_from None part
 
 -- There is such a reading, and the token ends after it.
 abbrev pub EndsAfter : Option Moment → CachedSsoToken → Type 0

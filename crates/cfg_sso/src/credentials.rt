@@ -8,7 +8,8 @@ ghost use Rattle.cfg_profile.specs.Configuration.{nothing_configured};
 ghost use Rattle.cfg_sso.specs.Tokens.{sso_key, key_by, HasKey, sso_token as sso_token_of};
 ghost use Rattle.cfg_sso.specs.SsoCredentials.{behind_token as behind_token_of, sso_credentials};
 ghost use Rattle.cfg_sso.specs.SsoSetups.{nothing_set, is_complete as is_complete_of, build_of};
-ghost use Rattle.cfg_sso.specs.Provides.{is_memory, ProvidesSso};
+ghost use Rattle.cfg_types.specs.Classes.{is_memory};
+ghost use Rattle.cfg_sso.specs.Provides.{ProvidesSso};
 
 use crate::config::SsoProviderConfig;
 use crate::role::exchange;

@@ -13,6 +13,7 @@ mod section;
 mod start_url;
 pub mod token;
 
+pub use cfg_types::{CredentialsError, OutOfMemory, TokenError};
 pub use config::SsoProviderConfig;
 pub use credentials::{SsoCredentialsProvider, follow_sso};
 pub use token::{SsoTokenProvider, follow_bearer};

@@ -11,24 +11,24 @@ use Rattle.cfg_token.specs.declared.steps.Loaded.{Loaded}
 use Rattle.cfg_token.specs.declared.sections.Sectioned.{Sectioned}
 use Rattle.cfg_token.specs.declared.sections.Sectioned.TheVariants.{Hit, Load}
 use Rattle.cfg_token.specs.Rules.{Rules}
-use Rattle.cfg_token.specs.Moments.{more}
+use Rattle.cfg_values.specs.Instant.{is_later_by}
 use Rattle.cfg_token.specs.Sections
 use Rattle.cfg_token.specs.Sections.{section, load, ok_of, noted_or}
 use Rattle.cfg_world.specs.Leaves.{clock, moment_of}
-use Rattle.cfg_token.specs.Histories.{Told, TokenLoad, History, trimmed, load_in, Machine, IsLoad, kept_by, noted_by, load_made, load_by, token_in, last_in}
+use Rattle.cfg_token.specs.Histories.{FinishedLoad, TokenLoad, History, trimmed, load_in, Machine, IsLoad, kept_by, noted_by, load_made, load_by, token_in, last_in}
 
-pub machine_more : {T E : Type 0} {t : Rules T E} (kept : Option T) (last : Option Moment) (records : List (Told T E)) (r : Told T E) →
+pub machine_more : {T E : Type 0} {t : Rules T E} (kept : Option T) (last : Option Moment) (records : List (FinishedLoad T E)) (r : FinishedLoad T E) →
     Machine t kept last records → IsLoad t (kept_by kept records) (noted_by last records) r → Machine t kept last (records ++ r ∷ [])
 machine_more kept last [] r m l = (l, tt)
 machine_more kept last (x ∷ records) r m l = (m.0, machine_more (ok_of x.outcome) (noted_or x.noted last) records r m.1 l)
 
 -- the last of the records is a load from what the others leave
-pub machine_last : {T E : Type 0} (t : Rules T E) (kept : Option T) (last : Option Moment) (records : List (Told T E)) (r : Told T E) →
+pub machine_last : {T E : Type 0} (t : Rules T E) (kept : Option T) (last : Option Moment) (records : List (FinishedLoad T E)) (r : FinishedLoad T E) →
     Machine t kept last (records ++ r ∷ []) → IsLoad t (kept_by kept records) (noted_by last records) r
 machine_last t kept last [] r m = m.0
 machine_last t kept last (x ∷ records) r m = machine_last t (ok_of x.outcome) (noted_or x.noted last) records r m.1
 
-pub machine_front : {T E : Type 0} (t : Rules T E) (kept : Option T) (last : Option Moment) (records : List (Told T E)) (r : Told T E) →
+pub machine_front : {T E : Type 0} (t : Rules T E) (kept : Option T) (last : Option Moment) (records : List (FinishedLoad T E)) (r : FinishedLoad T E) →
     Machine t kept last (records ++ r ∷ []) → Machine t kept last records
 machine_front t kept last [] r m = tt
 machine_front t kept last (x ∷ records) r m = (m.0, machine_front t (ok_of x.outcome) (noted_or x.noted last) records r m.1)
@@ -39,7 +39,7 @@ load_from_nothing : {T E : Type 0} (t : Rules T E) (key : TokenKey) (env : Varia
 unfolding section clock Sections.by_reading
 load_from_nothing t key env settings None last journal l h = h
 load_from_nothing t key env settings (Some token) last [] l h = h
-load_from_nothing {T} {E} t key env settings (Some token) last (e ∷ journal) l h = (h.0, either_way (more (t.expiry token) (moment_of e.1) 300) h.1)
+load_from_nothing {T} {E} t key env settings (Some token) last (e ∷ journal) l h = (h.0, either_way (is_later_by (t.expiry token) (moment_of e.1) 300) h.1)
   where
     either_way : (fresh : Bool) → Reads (cond fresh (Done (Hit token)) (after (load t key env settings last) (λ l. Done (Load l)))) journal (Load l) →
         Reads (after (load t key env settings last) (λ l. Done (Load l))) journal (Load l)
@@ -50,21 +50,21 @@ load_from_nothing {T} {E} t key env settings (Some token) last (e ∷ journal) l
         no_load (e ∷ J) k = absurd k
     either_way false k = k
 
-pub is_load_from_nothing : {T E : Type 0} (t : Rules T E) (kept : Option T) (last : Option Moment) (r : Told T E) → IsLoad t kept last r → IsLoad t None last r
+pub is_load_from_nothing : {T E : Type 0} (t : Rules T E) (kept : Option T) (last : Option Moment) (r : FinishedLoad T E) → IsLoad t kept last r → IsLoad t None last r
 is_load_from_nothing t kept last r i = record { key = i.key; env = i.env; settings = i.settings; of_kind = i.of_kind; reads = load_from_nothing t i.key i.env i.settings kept last r.receipts _ i.reads }
 
 -- the load of the last record
-pub load_by-more : {T E : Type 0} (load : Option (TokenLoad T E)) (last : Option Moment) (records : List (Told T E)) (r : Told T E) →
+pub load_by-more : {T E : Type 0} (load : Option (TokenLoad T E)) (last : Option Moment) (records : List (FinishedLoad T E)) (r : FinishedLoad T E) →
     load_by load last (records ++ r ∷ []) ≡ load_made (noted_by last records) r r.outcome
 load_by-more load last [] r = refl
 load_by-more load last (x ∷ records) r = load_by-more (load_made last x x.outcome) (noted_or x.noted last) records r
 
-pub noted_by-more : {T E : Type 0} (last : Option Moment) (records : List (Told T E)) (r : Told T E) → noted_by last (records ++ r ∷ []) ≡ noted_or r.noted (noted_by last records)
+pub noted_by-more : {T E : Type 0} (last : Option Moment) (records : List (FinishedLoad T E)) (r : FinishedLoad T E) → noted_by last (records ++ r ∷ []) ≡ noted_or r.noted (noted_by last records)
 noted_by-more last [] r = refl
 noted_by-more last (x ∷ records) r = noted_by-more (noted_or x.noted last) records r
 
 -- A kept token always has its load.
-pub token_of_load : {T E : Type 0} (load : Option (TokenLoad T E)) (last : Option Moment) (records : List (Told T E)) → token_in (load_by load last records) ≡ kept_by (token_in load) records
+pub token_of_load : {T E : Type 0} (load : Option (TokenLoad T E)) (last : Option Moment) (records : List (FinishedLoad T E)) → token_in (load_by load last records) ≡ kept_by (token_in load) records
 token_of_load load last [] = refl
 token_of_load {T} {E} load last (r ∷ records) = token_of_load (load_made last r r.outcome) (noted_or r.noted last) records ∙ ap (λ k. kept_by k records) (made r.outcome refl)
   where
@@ -73,22 +73,22 @@ token_of_load {T} {E} load last (r ∷ records) = token_of_load (load_made last 
     made (Err e) is = refl
 
 -- The last record as a load of its own, and what it leaves.
-pub last_is_load : {T E : Type 0} (t : Rules T E) (kept : Option T) (last : Option Moment) (all records : List (Told T E)) (r : Told T E) →
+pub last_is_load : {T E : Type 0} (t : Rules T E) (kept : Option T) (last : Option Moment) (all records : List (FinishedLoad T E)) (r : FinishedLoad T E) →
     all ≡ records ++ r ∷ [] → Machine t kept last all → IsLoad t None (noted_by last records) r
 last_is_load t kept last all records r is m = is_load_from_nothing t (kept_by kept records) (noted_by last records) r (machine_last t kept last records r (rw is at m))
 
-pub last_load : {T E : Type 0} (load : Option (TokenLoad T E)) (last : Option Moment) (all records : List (Told T E)) (r : Told T E) →
+pub last_load : {T E : Type 0} (load : Option (TokenLoad T E)) (last : Option Moment) (all records : List (FinishedLoad T E)) (r : FinishedLoad T E) →
     all ≡ records ++ r ∷ [] → load_by load last all ≡ load_made (noted_by last records) r r.outcome
 last_load load last all records r is = rw is (load_by-more load last records r)
 
-pub last_noted : {T E : Type 0} (last : Option Moment) (all records : List (Told T E)) (r : Told T E) → all ≡ records ++ r ∷ [] → noted_by last all ≡ noted_or r.noted (noted_by last records)
+pub last_noted : {T E : Type 0} (last : Option Moment) (all records : List (FinishedLoad T E)) (r : FinishedLoad T E) → all ≡ records ++ r ∷ [] → noted_by last all ≡ noted_or r.noted (noted_by last records)
 last_noted last all records r is = rw is (noted_by-more last records r)
 
-pub is_trimmed : {T E : Type 0} (h : History T E) (records left : List (Told T E)) (r : Told T E) (load : Option (TokenLoad T E)) (before last : Option Moment) →
+pub is_trimmed : {T E : Type 0} (h : History T E) (records left : List (FinishedLoad T E)) (r : FinishedLoad T E) (load : Option (TokenLoad T E)) (before last : Option Moment) →
     h.records ≡ records ++ r ∷ [] → before ≡ noted_by h.last records → load ≡ load_made before r r.outcome → last ≡ last_in h → left ≡ [] →
     (let now : History T E = record { load = load; last = last; records = left } in now) ≡ trimmed h
 is_trimmed h records left r load before last is b l n e = rw (e, n, l, b, last_load h.load h.last h.records records r is) refl
 
-pub is_loaded : {T E : Type 0} (h : History T E) (records : List (Told T E)) (r copy : Told T E) (before : Option Moment) (load : Option (TokenLoad T E)) →
+pub is_loaded : {T E : Type 0} (h : History T E) (records : List (FinishedLoad T E)) (r copy : FinishedLoad T E) (before : Option Moment) (load : Option (TokenLoad T E)) →
     h.records ≡ records ++ r ∷ [] → before ≡ noted_by h.last records → copy ≡ r → load ≡ load_made before copy copy.outcome → load ≡ load_in h
 is_loaded h records r copy before load is b e l = rw (l, e, b, last_load h.load h.last h.records records r is) refl

@@ -18,17 +18,17 @@ use Rattle.cfg_token.specs.declared.steps.Loaded.{Loaded}
 use Rattle.cfg_token.specs.declared.sections.Sectioned.{Sectioned}
 use Rattle.cfg_token.specs.declared.sections.Sectioned.TheVariants.{Hit, Load}
 use Rattle.cfg_token.specs.Rules.{Rules, Tells}
-use Rattle.cfg_token.specs.Moments.{is_before, more, has_passed}
+use Rattle.cfg_token.specs.Moments.{is_before, has_passed}
 use Rattle.cfg_token.specs.Decisions.{is_expired, is_soon, decision}
 use Rattle.cfg_token.specs.Sections
 use Rattle.cfg_token.specs.Sections.{ok_of}
 use Rattle.cfg_world.specs.Leaves.{clock, moment_of}
 use Rattle.cfg_token.specs.Spacing.{EndsAfterReading, second_reading, attempts, Spaced, NotedAtReading}
-use Rattle.cfg_token.specs.Histories.{Told, IsLoad, Machine}
+use Rattle.cfg_token.specs.Histories.{FinishedLoad, IsLoad, Machine}
 use Rattle.cfg_token.specs.SectionCalls.{is_memory}
 use Rattle.std.specs.Option.{option_to_list, option_or}
 use Rattle.std.specs.Prelude.{ℤ, ◌+ℤ◌, ◌≤ℤ◌, int_lt, IfOk}
-use Rattle.cfg_values.specs.Instant.{number, nanos_in}
+use Rattle.cfg_values.specs.Instant.{number, nanos_in, is_later_by}
 use Rattle.std.proofs.lemmas.Int.{ints}
 use Rattle.cfg_world.specs.declared.ask.Question.TheVariants as question
 
@@ -270,14 +270,14 @@ module _ {T E : Type 0} (t : Rules T E) (tells : Tells t) where
   pub section_fair : (key : TokenKey) (env : Variables) (settings : CallSettings) (kept : Option T) (last : Option Moment) → Gives (Sections.section t key env settings kept last) (λ J s. FairSection t last J s)
   unfolding Sections.section clock Sections.by_reading
   section_fair key env settings None last = λ a. loaded_fair key env settings last (question.Now, a)
-  section_fair key env settings (Some token) last = λ a. either_way (question.Now, a) (more (t.expiry token) (moment_of a) 300)
+  section_fair key env settings (Some token) last = λ a. either_way (question.Now, a) (is_later_by (t.expiry token) (moment_of a) 300)
     where
       either_way : (first : Pair) (fresh : Bool) → Gives (cond fresh (Done (Hit token)) (after (Sections.load t key env settings last) (λ l. Done (Load l)))) (λ J s. FairSection t last (first ∷ J) s)
       either_way first true = tt
       either_way first false = loaded_fair key env settings last first
 
   -- a record that is a load
-  record_fair : (kept : Option T) (last : Option Moment) (r : Told T E) → IsLoad t kept last r → FairSection t last r.receipts (Load (Sections.gives r.outcome r.noted))
+  record_fair : (kept : Option T) (last : Option Moment) (r : FinishedLoad T E) → IsLoad t kept last r → FairSection t last r.receipts (Load (Sections.gives r.outcome r.noted))
   record_fair kept last r i =
       gives_reads (Sections.section t i.key i.env i.settings kept last) (λ J s. FairSection t last J s) r.receipts _ (section_fair i.key i.env i.settings kept last) i.reads
 
@@ -293,14 +293,14 @@ module _ {T E : Type 0} (t : Rules T E) (tells : Tells t) where
   record_lasts last [] l h = absurd h
   record_lasts last (e ∷ receipts) l h = h.lasts e
 
-  chain_of : (kept : Option T) (last : Option Moment) (records : List (Told T E)) → Machine t kept last records → Chain last (attempts records)
+  chain_of : (kept : Option T) (last : Option Moment) (records : List (FinishedLoad T E)) → Machine t kept last records → Chain last (attempts records)
   chain_of kept last [] m = tt
   chain_of kept last (r ∷ records) m = chain_note last r.noted (attempts records) (record_passed last r.receipts _ (record_fair kept last r m.0)) (chain_of (ok_of r.outcome) (option_or r.noted last) records m.1)
 
-  pub spaced : (kept : Option T) (last : Option Moment) (records : List (Told T E)) → Machine t kept last records → Spaced (option_to_list last ++ attempts records)
+  pub spaced : (kept : Option T) (last : Option Moment) (records : List (FinishedLoad T E)) → Machine t kept last records → Spaced (option_to_list last ++ attempts records)
   spaced kept last records m = all_spaced last (attempts records) (chain_of kept last records m)
 
-  pub noted_at_reading : (kept : Option T) (last : Option Moment) (records : List (Told T E)) → Machine t kept last records → (i : ℕ) (r : Told T E) → slice_get records i ≡ Some r → NotedAtReading r
+  pub noted_at_reading : (kept : Option T) (last : Option Moment) (records : List (FinishedLoad T E)) → Machine t kept last records → (i : ℕ) (r : FinishedLoad T E) → slice_get records i ≡ Some r → NotedAtReading r
   noted_at_reading kept last [] m i r at = cc
   noted_at_reading kept last (x ∷ records) m zero r at = subst NotedAtReading (first_is at) (record_reading last x.receipts _ (record_fair kept last x m.0))
     where
@@ -308,9 +308,9 @@ module _ {T E : Type 0} (t : Rules T E) (tells : Tells t) where
       first_is e = cc
   noted_at_reading kept last (x ∷ records) m (suc i) r at = noted_at_reading (ok_of x.outcome) (option_or x.noted last) records m.1 i r at
 
-  pub ends_after_reading : (kept : Option T) (last : Option Moment) (records : List (Told T E)) → Machine t kept last records → (i : ℕ) (r : Told T E) → slice_get records i ≡ Some r → EndsAfterReading t r
+  pub ends_after_reading : (kept : Option T) (last : Option Moment) (records : List (FinishedLoad T E)) → Machine t kept last records → (i : ℕ) (r : FinishedLoad T E) → slice_get records i ≡ Some r → EndsAfterReading t r
   ends_after_reading kept last [] m i r at = cc
-  ends_after_reading kept last (x ∷ records) m zero r at = subst (λ (x : Told T E). EndsAfterReading t x) (first_is at) (record_lasts last x.receipts _ (record_fair kept last x m.0))
+  ends_after_reading kept last (x ∷ records) m zero r at = subst (λ (x : FinishedLoad T E). EndsAfterReading t x) (first_is at) (record_lasts last x.receipts _ (record_fair kept last x m.0))
     where
       first_is : Some x ≡ Some r → x ≡ r
       first_is e = cc

@@ -16,7 +16,7 @@ use Rattle.cfg_json.specs.declared.member.MemberValue.{MemberValue}
 use Rattle.cfg_json.specs.declared.member.MemberValue.TheVariants as value
 use Rattle.cfg_json.specs.Writing.{braced}
 use Rattle.cfg_json.specs.WhiteSpace.{IsWhiteSpace}
-use Rattle.cfg_json.specs.WrittenObjects.{WrittenObject, Told, Tale, members_text, HasScalars, Nests, told_value, told_member, told}
+use Rattle.cfg_json.specs.WrittenObjects.{WrittenObject, ToldMember, Tale, members_text, HasScalars, Nests, told_value, told_member, told}
 use Rattle.cfg_json.specs.Objects.{HasObject}
 use Rattle.cfg_json.specs.Lookups.{text_in}
 use Rattle.cfg_json.specs.Dates.{IsWrittenDate}
@@ -33,10 +33,10 @@ use Rattle.cfg_token.proofs.Files.{itself, same_answer, has_memory}
 
 -- ---- what is told of members, under the name of a field
 
-abbrev told_in : Told → Option (List ℕ)
-told_in (Told.a_text text) = Some text
-told_in Told.an_object = None
-told_in Told.another = None
+abbrev told_in : ToldMember → Option (List ℕ)
+told_in (ToldMember.a_text text) = Some text
+told_in ToldMember.an_object = None
+told_in ToldMember.another = None
 
 abbrev has_name : Field → List ℕ → Bool
 has_name f key = str_eq_ignore_ascii_case (encode_utf8_all key) (field_name f)
@@ -88,7 +88,7 @@ told_with f g None w = nothing (has_name f (characters (field_name g)))
     nothing : (b : Bool) → last_told f (told w) ≡ option_or (let none : Option (List ℕ) = None in cond b none None) (last_told f (told w))
     nothing true = refl
     nothing false = refl
-told_with f g (Some text) w = told_push f (told w) (characters (field_name g), Told.a_text text)
+told_with f g (Some text) w = told_push f (told w) (characters (field_name g), ToldMember.a_text text)
 
 text_with : (g : Field) (o : Option (List ℕ)) (w : WrittenObject) → members_text (with_field g o w) ≡ with_text_if_there g o (members_text w)
 text_with g None w = refl

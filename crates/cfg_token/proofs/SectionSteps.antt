@@ -15,7 +15,7 @@ use Rattle.cfg_world.specs.Inquiry.{Inquiry, Done, Ask, Reads, Begun}
 use Rattle.cfg_token.proofs.HistorySteps.{machine_more}
 use Rattle.cfg_token.specs.Rules.{Rules}
 use Rattle.cfg_token.specs.Notes.{NotedEnds}
-use Rattle.cfg_token.specs.Histories.{Told, History, IsHistory, Machine, token_in, kept_in, last_in, record_of, with_section}
+use Rattle.cfg_token.specs.Histories.{FinishedLoad, History, IsHistory, Machine, token_in, kept_in, last_in, record_of, with_section}
 use Rattle.cfg_token.specs.SectionCalls.{section_on, SectionEnds}
 
 module _ {T E : Type 0} {t : Rules T E} {W : Type 0} {w : Ghosts W} where
@@ -57,7 +57,7 @@ pub ruleset section_steps = (section_ended, breaks_here, breaks_ended)
 
 -- The same, from what the steps of a section say one by one.
 pub history_next : {T E : Type 0} (t : Rules T E) (h : History T E) (key : TokenKey) (env : Variables) (settings : CallSettings)
-    {kept : Option T} {last : Option Moment} (receipts : List Pair) (made : Sectioned T E) (added records : List (Told T E)) →
+    {kept : Option T} {last : Option Moment} (receipts : List Pair) (made : Sectioned T E) (added records : List (FinishedLoad T E)) →
     IsHistory t h → t.is_kind key ≡ true → kept ≡ kept_in h → last ≡ last_in h → Reads (section t key env settings kept last) receipts made →
     added ≡ record_of receipts made → records ≡ h.records ++ added → Machine t (token_in h.load) h.last records
 history_next t h key env settings receipts made added records is k kept last a add all =

@@ -13,21 +13,21 @@ use Rattle.cfg_token.specs.Rules.{Rules}
 use Rattle.cfg_token.specs.Sections.{gives, section, ok_of, noted_or}
 
 -- a finished load: what it was told, what it gave, and the reading at which it noted an attempt
-pub record Told (T E : Type 0) : Type 0 where
+pub record FinishedLoad (T E : Type 0) : Type 0 where
   pub receipts : List Pair
   pub outcome : Result T E
   pub noted : Option Moment
 
 -- a load that gave a token, and the last attempt before it
 pub record TokenLoad (T E : Type 0) : Type 0 where
-  pub loaded_by : Told T E
+  pub loaded_by : FinishedLoad T E
   pub before : Option Moment
 
 -- the loads of one token: what was kept first, and the loads since then
 pub record History (T E : Type 0) : Type 0 where
   pub load : Option (TokenLoad T E)
   pub last : Option Moment
-  pub records : List (Told T E)
+  pub records : List (FinishedLoad T E)
 
 -- the token that a load gave
 abbrev pub token_of : {T E : Type 0} → TokenLoad T E → Option T
@@ -38,10 +38,10 @@ token_in None = None
 token_in (Some load) = token_of load
 
 -- what is kept after these records, and the last attempt after them
-abbrev pub kept_by : {T E : Type 0} → Option T → List (Told T E) → Option T
+abbrev pub kept_by : {T E : Type 0} → Option T → List (FinishedLoad T E) → Option T
 kept_by kept records = fold (λ k r. ok_of r.outcome) kept records
 
-abbrev pub noted_by : {T E : Type 0} → Option Moment → List (Told T E) → Option Moment
+abbrev pub noted_by : {T E : Type 0} → Option Moment → List (FinishedLoad T E) → Option Moment
 noted_by last records = fold (λ l r. noted_or r.noted l) last records
 
 -- what is kept now, and the last attempt
@@ -52,11 +52,11 @@ abbrev pub last_in : {T E : Type 0} → History T E → Option Moment
 last_in h = noted_by h.last h.records
 
 -- the load that gave the kept token
-abbrev pub load_made : {T E : Type 0} → Option Moment → Told T E → Result T E → Option (TokenLoad T E)
+abbrev pub load_made : {T E : Type 0} → Option Moment → FinishedLoad T E → Result T E → Option (TokenLoad T E)
 load_made last r (Ok token) = Some (record { loaded_by = r; before = last })
 load_made last r (Err e) = None
 
-abbrev pub load_by : {T E : Type 0} → Option (TokenLoad T E) → Option Moment → List (Told T E) → Option (TokenLoad T E)
+abbrev pub load_by : {T E : Type 0} → Option (TokenLoad T E) → Option Moment → List (FinishedLoad T E) → Option (TokenLoad T E)
 load_by load last [] = load
 load_by load last (r ∷ records) = load_by (load_made last r r.outcome) (noted_or r.noted last) records
 
@@ -68,7 +68,7 @@ abbrev pub trimmed : {T E : Type 0} → History T E → History T E
 trimmed h = record { load = load_in h; last = last_in h; records = [] }
 
 -- The record is a whole load of some call for a key of this kind, with this kept and this last attempt.
-pub record IsLoad {T E : Type 0} (t : Rules T E) (kept : Option T) (last : Option Moment) (told : Told T E) : Type 0 where
+pub record IsLoad {T E : Type 0} (t : Rules T E) (kept : Option T) (last : Option Moment) (told : FinishedLoad T E) : Type 0 where
   pub key : TokenKey
   pub env : Variables
   pub settings : CallSettings
@@ -76,7 +76,7 @@ pub record IsLoad {T E : Type 0} (t : Rules T E) (kept : Option T) (last : Optio
   pub reads : Reads (section t key env settings kept last) told.receipts (Load (gives told.outcome told.noted))
 
 -- Each record is a load, from what the records before it leave.
-abbrev pub Machine : {T E : Type 0} → Rules T E → Option T → Option Moment → List (Told T E) → Type 0
+abbrev pub Machine : {T E : Type 0} → Rules T E → Option T → Option Moment → List (FinishedLoad T E) → Type 0
 Machine t kept last [] = Unit {0}
 Machine t kept last (r ∷ records) = IsLoad t kept last r × Machine t (ok_of r.outcome) (noted_or r.noted last) records
 
@@ -90,7 +90,7 @@ abbrev pub IsHistory : {T E : Type 0} → Rules T E → History T E → Type 0
 IsHistory t h = Machine t (token_in h.load) h.last h.records
 
 -- a section's record, where it finished a load
-abbrev pub record_of : {T E : Type 0} → List Pair → Sectioned T E → List (Told T E)
+abbrev pub record_of : {T E : Type 0} → List Pair → Sectioned T E → List (FinishedLoad T E)
 record_of receipts (Hit token) = []
 record_of receipts (Load l) = record { receipts = receipts; outcome = l.outcome; noted = l.noted } ∷ []
 

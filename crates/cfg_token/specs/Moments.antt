@@ -1,15 +1,11 @@
 -- Moments some seconds apart, over numbers without bound.
-use Rattle.std.specs.Prelude.{ℕ, ◌+ℤ◌, Bool, true, not, int_lt, Option, Some, None}
+use Rattle.std.specs.Prelude.{◌+ℤ◌, Bool, true, not, int_lt, Option, Some, None}
 use Rattle.cfg_values.specs.Moment.{Moment}
 use Rattle.cfg_values.specs.Instant.{number, nanos_in}
 
 -- the first is before the second
 abbrev pub is_before : Moment → Moment → Bool
 is_before a b = int_lt (number a) (number b)
-
--- the first is more than so many seconds after the second
-abbrev pub more : Moment → Moment → ℕ → Bool
-more e t s = int_lt (number t +ℤ nanos_in s) (number e)
 
 -- there was no attempt, or it is at least 30 seconds ago
 abbrev pub has_passed : Option Moment → Moment → Bool

@@ -20,7 +20,7 @@ use Rattle.cfg_token.specs.declared.steps.Loaded.{Loaded}
 use Rattle.cfg_token.specs.declared.sections.Sectioned.{Sectioned}
 use Rattle.cfg_token.specs.declared.sections.Sectioned.TheVariants.{Hit, Load}
 use Rattle.cfg_token.specs.Rules.{Rules}
-use Rattle.cfg_token.specs.Moments.{more}
+use Rattle.cfg_values.specs.Instant.{is_later_by}
 use Rattle.cfg_token.specs.Decisions.{is_expired, decision}
 
 -- how a load ends: with this token or error, and an attempt noted at this reading or none
@@ -93,7 +93,7 @@ module _ {T E : Type 0} (t : Rules T E) where
   -- a kept token with more than 300 seconds left is handed out; else it is dropped and a load begins
   unfoldable pub by_reading : TokenKey → Variables → CallSettings → Option T → Option Moment → Moment → Inquiry (Sectioned T E)
   by_reading key env settings None last r = after (load key env settings last) (λ l. Done (Load l))
-  by_reading key env settings (Some token) last r = cond (more (t.expiry token) r 300) (Done (Hit token)) (after (load key env settings last) (λ l. Done (Load l)))
+  by_reading key env settings (Some token) last r = cond (is_later_by (t.expiry token) r 300) (Done (Hit token)) (after (load key env settings last) (λ l. Done (Load l)))
 
   unfoldable pub section : TokenKey → Variables → CallSettings → Option T → Option Moment → Inquiry (Sectioned T E)
   section key env settings kept last = after clock (by_reading key env settings kept last)

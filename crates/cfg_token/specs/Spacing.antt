@@ -7,7 +7,7 @@ use Rattle.cfg_world.specs.Fits.{Pair}
 use Rattle.cfg_world.specs.Leaves.{moment_of}
 use Rattle.cfg_token.specs.Rules.{Rules}
 use Rattle.cfg_token.specs.Moments.{is_before}
-use Rattle.cfg_token.specs.Histories.{Told, History}
+use Rattle.cfg_token.specs.Histories.{FinishedLoad, History}
 
 -- the second reading of a load, which stands behind the first one and the file
 abbrev pub second_reading : List Pair → Moment
@@ -17,7 +17,7 @@ second_reading (a ∷ b ∷ []) = record { seconds = pos 0; nanos = 0 }
 second_reading (a ∷ b ∷ c ∷ rest) = moment_of c.1
 
 -- the noted attempts, in order
-abbrev pub attempts : {T E : Type 0} → List (Told T E) → List Moment
+abbrev pub attempts : {T E : Type 0} → List (FinishedLoad T E) → List Moment
 attempts [] = []
 attempts (r ∷ records) = option_to_list r.noted ++ attempts records
 
@@ -26,11 +26,11 @@ abbrev pub attempts_in : {T E : Type 0} → History T E → List Moment
 attempts_in h = option_to_list h.last ++ attempts h.records
 
 -- a noted attempt is at its load's second reading
-abbrev pub NotedAtReading : {T E : Type 0} → Told T E → Type 0
+abbrev pub NotedAtReading : {T E : Type 0} → FinishedLoad T E → Type 0
 NotedAtReading r = IfSome r.noted (λ now. second_reading r.receipts ≡ now)
 
 -- a token that the load gave ends after that reading
-abbrev pub EndsAfterReading : {T E : Type 0} → Rules T E → Told T E → Type 0
+abbrev pub EndsAfterReading : {T E : Type 0} → Rules T E → FinishedLoad T E → Type 0
 EndsAfterReading t r = IfOk r.outcome (λ token. is_before (second_reading r.receipts) (t.expiry token) ≡ true)
 
 -- of two attempts the later one is at least 30 seconds after the earlier one

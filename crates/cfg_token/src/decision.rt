@@ -1,11 +1,11 @@
 //! What is done with the token of a file, by a reading of the clock.
 ghost use Rattle.std.specs.Prelude.{◌≡◌};
-ghost use Rattle.cfg_values.specs.Instant.{number as number_of_moment, nanos_in};
-ghost use Rattle.cfg_token.specs.Moments.{is_before as before, more, has_passed};
+ghost use Rattle.cfg_token.specs.Moments.{is_before as before, has_passed};
 ghost use Rattle.cfg_token.specs.Decisions.{decision, is_expired};
 
 use crate::file_token::FileToken;
 use cfg_types::Instant;
+use cfg_values::instant::nanos_of;
 
 /// What is done with the token of a file.
 #[derive(Clone, Copy, Debug, PartialEq, Eq)]
@@ -18,31 +18,11 @@ pub enum Decision {
     Refuse,
 }
 
-// No sum of seconds passes the end of 128 bits.
-fn number_of(moment: Instant) -> i128
-    ensures { result ≡ number_of_moment moment }
-{
-    i128::from(moment.seconds()) * 1_000_000_000 + i128::from(moment.nanos())
-}
-
-fn nanos_of(seconds: u64) -> i128
-    ensures { result ≡ nanos_in seconds }
-{
-    i128::from(seconds) * 1_000_000_000
-}
-
 /// Whether the first moment is before the other one.
 pub fn is_before(moment: Instant, other: Instant) -> bool
     ensures { result ≡ before moment other }
 {
-    number_of(moment) < number_of(other)
-}
-
-/// Whether the first moment is more than so many seconds after the other one.
-pub fn is_more(moment: Instant, other: Instant, seconds: u64) -> bool
-    ensures { result ≡ more moment other seconds }
-{
-    number_of(other) + nanos_of(seconds) < number_of(moment)
+    moment.number() < other.number()
 }
 
 // There was no attempt, or it is at least 30 seconds ago.
@@ -50,7 +30,7 @@ fn passed(last: Option<Instant>, now: Instant) -> bool
     ensures { result ≡ has_passed last now }
 {
     match last {
-        Some(last) => number_of(last) + nanos_of(30) <= number_of(now),
+        Some(last) => last.number() + nanos_of(30) <= now.number(),
         None => true,
     }
 }
@@ -70,7 +50,7 @@ pub fn decide<T: FileToken>(token: &T, last: Option<Instant>, now: Instant) -> D
     ensures { result ≡ decision T.rules token.now last now }
 {
     let refreshable = token.can_refresh(now) && passed(last, now);
-    let soon = !is_more(token.expires_at(), now, 300);
+    let soon = !token.expires_at().is_later_by(300, now);
     if has_expired(token, now) && !refreshable {
         Decision::Refuse
     } else if soon && refreshable {

@@ -20,9 +20,9 @@ pub struct Record<T: FileToken> {
 }
 
 impl<T: FileToken> Model for Record<T> {
-    ghost use Rattle.cfg_token.specs.Histories.{Told};
+    ghost use Rattle.cfg_token.specs.Histories.{FinishedLoad};
 
-    ghost Value = { Told T T.Error };
+    ghost Value = { FinishedLoad T T.Error };
 
     ghost view = { λ r. record { receipts = r.receipts.items; outcome = r.outcome; noted = r.noted } };
 }

@@ -3,7 +3,6 @@ ghost use Rattle.std.specs.Option.{option_copied};
 ghost use Rattle.cfg_token.specs.Notes.{Notes};
 ghost use Rattle.cfg_token.specs.Sections.{section as section_of, by_reading};
 
-use crate::decision::is_more;
 use crate::file_token::FileToken;
 use crate::leaves::read_clock;
 use crate::steps::{Loaded, load};
@@ -61,7 +60,7 @@ fn follow_reading<T: FileToken, A: Asking>(
     ensures { Notes ⟦<A as Asking>⟧ (by_reading T.rules key.now env.now settings.now (option_copied kept.entry) last reading) asking.old receipts.old.items asking.new receipts.new.items result }
 {
     if let Some(token) = kept {
-        if is_more(token.expires_at(), reading, 300) {
+        if token.expires_at().is_later_by(300, reading) {
             let token = token.copy(alloc)?;
             return Ok(Sectioned::Hit(token));
         }

@@ -6,6 +6,8 @@ use Rattle.cfg_types.specs.DocumentText.{invalid_credentials_text}
 use Rattle.cfg_types.specs.ErrorTexts.{full_uri_text, login_token_text, profile_text}
 use Rattle.cfg_types.specs.declared.reply.FailKind.{FailKind}
 use Rattle.cfg_types.specs.declared.reply.FailKind.TheVariants as kind
+use Rattle.cfg_types.specs.declared.reply.Fault.{Fault}
+use Rattle.cfg_types.specs.declared.reply.Fault.TheVariants as fault
 use Rattle.cfg_types.specs.declared.errors.process.ProcessCause.{ProcessCause}
 use Rattle.cfg_types.specs.declared.errors.process.ProcessCause.TheVariants as process
 use Rattle.cfg_types.specs.declared.errors.ConfigCause.{ConfigCause}
@@ -19,6 +21,11 @@ fail_text kind.Dispatch = codes "the request could not be sent"
 fail_text kind.Timeout = codes "no reply came in time"
 fail_text kind.Broken = codes "the reply was broken"
 fail_text kind.Io = codes "an I/O error"
+
+-- why a device gave nothing
+abbrev pub fault_text : Fault → List ℕ
+fault_text (fault.Failed kind) = fail_text kind
+fault_text fault.OutOfMemory = codes "out of memory"
 
 -- how a command ended
 abbrev pub ended_text : ℤ → List ℕ

@@ -1,5 +1,6 @@
 -- What kind of error a `CredentialsError` is, and the cause that it holds.
-use Rattle.std.specs.Prelude.{ℕ, List, Bool, true, false, Option, Some, None, codes}
+use Rattle.std.specs.Prelude.{ℕ, List, Bool, true, false, Option, Some, None, Result, Ok, Err, codes}
+use Rattle.cfg_types.specs.Keys.{Keys}
 use Rattle.cfg_types.specs.declared.errors.Class.{Class}
 use Rattle.cfg_types.specs.declared.errors.Class.TheVariants as class
 use Rattle.cfg_types.specs.declared.errors.ConfigCause.{ConfigCause}
@@ -42,6 +43,16 @@ same_class _ _ = false
 -- whether an error is of this class
 abbrev pub is_of_class : Class → CredentialsError → Bool
 is_of_class c e = same_class c (class_of e)
+
+-- whether an answer says that nothing was loaded
+abbrev pub is_not_loaded_answer : Result Keys CredentialsError → Bool
+is_not_loaded_answer (Ok keys) = false
+is_not_loaded_answer (Err e) = is_of_class class.CredentialsNotLoaded e
+
+-- whether an answer says that memory ran out
+abbrev pub is_memory : Result Keys CredentialsError → Bool
+is_memory (Ok keys) = false
+is_memory (Err e) = is_of_class class.OutOfMemory e
 
 abbrev pub configuration_cause_level : CredentialsError-F CredentialsError NotLoadedCause ProviderCause → Option ConfigCause
 configuration_cause_level (CredentialsError-F.InvalidConfiguration cause) = Some cause

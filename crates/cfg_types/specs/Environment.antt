@@ -20,3 +20,12 @@ read_value (Some (value.Text text)) = Ok text
 -- what reading the variable of this name gives
 abbrev pub variable : Variables → List ℕ → Result (List ℕ) VarError
 variable env name = read_value (get env name)
+
+-- the text that was read, where one was
+abbrev pub text_read : Result (List ℕ) VarError → Option (List ℕ)
+text_read (Ok text) = Some text
+text_read (Err e) = None
+
+-- the text of a variable, where it can be read
+abbrev pub readable : Variables → List ℕ → Option (List ℕ)
+readable env name = text_read (variable env name)

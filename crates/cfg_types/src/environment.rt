@@ -1,10 +1,10 @@
 //! Environment variables that are handed in, and how they are read.
-ghost use Rattle.std.specs.Prelude.{◌≡◌, IfOk, MatchResult, Ok, Err, map};
+ghost use Rattle.std.specs.Prelude.{◌≡◌, IfOk, MatchResult, Ok, Err, map, option_map};
 ghost use Rattle.std.specs.Str.{encode_utf8_all};
 ghost use Rattle.cfg_values.specs.Text.{characters};
 ghost use Rattle.cfg_values.specs.TextMap.{named};
 ghost use Rattle.cfg_values.specs.Entries.{each_set};
-ghost use Rattle.cfg_types.specs.Environment.{variable};
+ghost use Rattle.cfg_types.specs.Environment.{variable, readable as readable_of};
 
 use cfg_values::{OutOfMemory, Text, TextMap, TryCopy};
 use std::alloc::Global;
@@ -82,6 +82,17 @@ impl Env {
             None => Err(VarError::NotPresent),
             Some(EnvText::NotUnicode) => Err(VarError::NotUnicode),
             Some(EnvText::Text(text)) => Ok(text.as_str()),
+        }
+    }
+
+    /// The text of a variable, where it is set and its value is a text.
+    pub fn readable(&self, name: &str) -> Option<&str>
+        ensures chars { option_map (λ t. characters t.now) result ≡ readable_of self.now name.now }
+        ensures bytes { option_map (λ t. t.now) result ≡ option_map encode_utf8_all (readable_of self.now name.now) }
+    {
+        match self.get(name) {
+            Ok(text) => Some(text),
+            Err(_) => None,
         }
     }
 }

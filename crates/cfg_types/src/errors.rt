@@ -2,7 +2,7 @@
 ghost use Rattle.std.specs.Prelude.{◌≡◌, IfOk};
 ghost use Rattle.std.specs.Str.{encode_utf8_all};
 ghost use Rattle.cfg_values.specs.Text.{characters};
-ghost use Rattle.cfg_types.specs.Classes.{class_of, class_name};
+ghost use Rattle.cfg_types.specs.Classes.{class_of, class_name, is_memory as is_memory_of};
 ghost use Rattle.cfg_types.specs.declared.errors.CredentialsError.TheVariants as error;
 
 use cfg_values::{Boxed, OutOfMemory, Seq, Text};
@@ -19,6 +19,7 @@ mod sso;
 mod token;
 mod token_shown;
 
+use crate::credentials::Credentials;
 use crate::document::InvalidJsonCredentials;
 use crate::errors::imds::ImdsError;
 use crate::reply::{FailKind, Refusal, RefusalKind};
@@ -299,4 +300,11 @@ impl From<OutOfMemory> for CredentialsError {
     fn from(_: OutOfMemory) -> CredentialsError {
         CredentialsError::OutOfMemory
     }
+}
+
+/// Whether an answer says that memory ran out.
+pub fn is_memory(answer: &Result<Credentials, CredentialsError>) -> bool
+    ensures { result ≡ is_memory_of answer.now }
+{
+    matches!(answer, Err(CredentialsError::OutOfMemory))
 }

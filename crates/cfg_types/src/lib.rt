@@ -18,7 +18,7 @@ pub mod token;
 
 pub use cfg_values::{
     Address, Boxed, Bytes, Instant, OutOfMemory, Seq, Text, TextMap, TryCopy, copy_option,
-    is_blank, trimmed,
+    is_blank, texts, trimmed,
 };
 pub use command::{CommandWithSensitiveArgs, Finished};
 pub use credentials::{
@@ -30,11 +30,11 @@ pub use errors::{
     CachedSsoTokenError, Class, ConfigCause, CredentialsError, InvalidFullUriError, IoStep,
     LoginJsonFault, LoginTokenError, NotLoadedCause, ProcessCause, ProfileFileError,
     ProviderAttempt, ProviderCause, ProviderChainError, SsoTokenProviderError, TokenCause,
-    TokenClass, TokenError, UnhandledCause, imds,
+    TokenClass, TokenError, UnhandledCause, imds, is_memory,
 };
 pub use region::Region;
 pub use reply::{
-    FailKind, Header, HttpReply, Refusal, RefusalKind, Reply, RoleCredentials, RoleReply,
+    FailKind, Fault, Header, HttpReply, Refusal, RefusalKind, Reply, RoleCredentials, RoleReply,
     SignInReply, SignInToken, StsCredentials, StsReply, TokenReply,
 };
 pub use request::{

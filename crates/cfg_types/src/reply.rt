@@ -27,6 +27,15 @@ pub enum FailKind {
     Io,
 }
 
+/// Why a device gave nothing.
+#[derive(Clone, Copy, Debug, PartialEq, Eq)]
+pub enum Fault {
+    /// The device failed, and the count of its kind rose.
+    Failed(FailKind),
+    /// Memory ran out.
+    OutOfMemory,
+}
+
 /// What a service refused a call for, as far as the resolver tells refusals apart.
 #[derive(Clone, Copy, Debug, PartialEq, Eq)]
 pub enum RefusalKind {

@@ -1,5 +1,5 @@
 -- The whole number that a moment stands for.
-use Rattle.std.specs.Prelude.{ℕ, ℤ, pos, negsuc, ◌+ℤ◌, ◌*ℤ◌}
+use Rattle.std.specs.Prelude.{ℕ, ℤ, pos, negsuc, ◌+ℤ◌, ◌*ℤ◌, Bool, int_lt}
 use Rattle.cfg_values.specs.Moment.{Moment}
 
 -- so many seconds, in nanoseconds
@@ -17,3 +17,7 @@ first_number = negsuc 9223372036854775807 *ℤ pos 1000000000
 -- the last moment of all
 abbrev pub last_number : ℤ
 last_number = pos 9223372036854775807 *ℤ pos 1000000000 +ℤ pos 999999999
+
+-- the first is more than so many seconds after the second
+abbrev pub is_later_by : Moment → Moment → ℕ → Bool
+is_later_by m other seconds = int_lt (number other +ℤ nanos_in seconds) (number m)

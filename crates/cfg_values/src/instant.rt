@@ -1,7 +1,7 @@
 //! Moments, whose sums and differences stop at the ends of 64 bits.
 ghost use Rattle.std.specs.Prelude.{◌≡◌, ◌<◌, ◌≤◌, ◌/◌, ◌↔◌, pos, ◌≤ℤ◌, ◌<ℤ◌, ◌+ℤ◌, ◌-ℤ◌, ◌*ℤ◌, IsSome, IfSome};
 ghost use Rattle.std.specs.Int.{int_min, int_max};
-ghost use Rattle.cfg_values.specs.Instant.{number, first_number, last_number, nanos_in};
+ghost use Rattle.cfg_values.specs.Instant.{number, first_number, last_number, nanos_in, is_later_by as is_later_by_of};
 
 use std::marker::Model;
 
@@ -27,6 +27,13 @@ impl Model for Instant {
 }
 
 const NANOS_PER_SECOND: u32 = 1_000_000_000;
+
+/// So many seconds, in nanoseconds.
+pub fn nanos_of(seconds: u64) -> i128
+    ensures { result ≡ nanos_in seconds }
+{
+    i128::from(seconds) * 1_000_000_000
+}
 
 impl Instant {
     /// 1970-01-01T00:00:00Z.
@@ -112,6 +119,20 @@ impl Instant {
             seconds,
             nanos: self.nanos,
         })
+    }
+
+    /// The nanoseconds since the epoch that it stands for.
+    pub fn number(self) -> i128
+        ensures { result ≡ number self }
+    {
+        i128::from(self.seconds) * 1_000_000_000 + i128::from(self.nanos)
+    }
+
+    /// Whether it is more than so many seconds after the other one.
+    pub fn is_later_by(self, seconds: u64, other: Instant) -> bool
+        ensures { result ≡ is_later_by_of self other seconds }
+    {
+        other.number() + nanos_of(seconds) < self.number()
     }
 
     /// Its milliseconds since the epoch, cut downwards.

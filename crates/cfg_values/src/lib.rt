@@ -23,6 +23,6 @@ pub use copies::{TryCopy, copy_option};
 pub use instant::Instant;
 pub use memory::OutOfMemory;
 pub use seq::Seq;
-pub use text::Text;
+pub use text::{Text, texts};
 pub use text_map::TextMap;
 pub use white_space::{is_blank, trimmed};

@@ -1,5 +1,5 @@
 //! Texts that own their memory.
-ghost use Rattle.std.specs.Prelude.{◌≡◌, IfOk, nat_eq};
+ghost use Rattle.std.specs.Prelude.{◌≡◌, IfOk, map, nat_eq};
 ghost use Rattle.std.specs.Str.{encode_utf8_all, bytes_eq};
 ghost use Rattle.std.specs.String.{string_bytes};
 ghost use Rattle.std.specs.Cmp.{partial_equiv_from_equiv};
@@ -8,6 +8,7 @@ ghost use Rattle.cfg_values.specs.Text.{characters};
 
 use crate::copies::TryCopy;
 use crate::memory::OutOfMemory;
+use crate::seq::Seq;
 use std::alloc::Global;
 use std::fmt;
 use std::marker::Model;
@@ -99,4 +100,16 @@ impl PartialEq for Text {
 
 impl Eq for Text {
     ghost laws = { nat_list_eq_equiv };
+}
+
+/// The strings as texts, in order. No string is copied. `OutOfMemory` where memory runs out; the strings
+/// are given up then.
+pub fn texts(alloc: Global, strings: Vec<String>) -> Result<Seq<Text>, OutOfMemory>
+    ensures { IfOk result (λ texts. texts ≡ map (λ s. characters (string_bytes s)) strings.items) }
+{
+    let mut texts = Vec::with_capacity(alloc, strings.len())?;
+    for string in strings {
+        texts.push(Text::from_string(string))?;
+    }
+    Ok(Seq::of(texts))
 }

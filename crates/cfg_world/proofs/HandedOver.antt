@@ -9,7 +9,7 @@ use Rattle.cfg_types.specs.declared.reply.FailKind.{FailKind}
 use Rattle.cfg_world.specs.Fits.{Fits, Pair}
 use Rattle.cfg_world.specs.Faults.{Faults, Counted, Device, Files, Transport, Commands, LookUps, failed, failures}
 use Rattle.cfg_world.specs.Asked.{Asked}
-use Rattle.cfg_world.specs.Tallies.{faults_after, raised, Small}
+use Rattle.cfg_world.specs.Tallies.{faults_after, raised, one_more, Small}
 use Rattle.cfg_world.specs.Handed.{Handed, IsGiven, GivenFrom, used_by, Allows, Stands, Answered, next_answer}
 use Rattle.cfg_world.proofs.Tallied.{counted_after}
 
@@ -34,15 +34,15 @@ past_the_end (a ∷ answers) zero (suc m) e = let wrong : ⊥ = omega (arith, e)
 past_the_end (a ∷ answers) (suc n) zero e = let wrong : ⊥ = omega (arith, e) in absurd wrong
 past_the_end (a ∷ answers) (suc n) (suc m) e = past_the_end answers n m (omega (arith, e))
 
-stands_more : (answers : List Answer) (used next : ℕ) (q : Question) (a : Answer) (entries : List Pair)
-    → IsGiven (slice_get answers used) q a → next ≡ used_by answers (used + 1)
-    → GivenFrom answers 0 entries × (used ≡ used_by answers (length entries))
-    → GivenFrom answers 0 (entries ++ (q, a) ∷ []) × (next ≡ used_by answers (length (entries ++ (q, a) ∷ [])))
-stands_more answers used next q a entries is moved s =
-    let there : IsGiven (slice_get answers (length entries)) q a = subst (λ o. IsGiven o q a) (past_the_end answers (length entries) used s.1) is in (
-      given_more answers q a 0 entries s.0 (subst (λ n. IsGiven (slice_get answers n) q a) (omega arith) there),
-      omega (arith, moved, s.1, length_more entries (q, a)),
-    )
+stands_more : (old : Handed) (used questions : ℕ) (faults : Faults) (q : Question) (a : Answer) (entries : List Pair)
+    → IsGiven (slice_get old.answers old.used) q a → used ≡ used_by old.answers (old.used + 1) → questions ≡ one_more old.questions
+    → Stands old entries → Stands (record { answers = old.answers; used = used; questions = questions; faults = faults }) (entries ++ (q, a) ∷ [])
+stands_more old used questions faults q a entries is moved counted s =
+    let there : IsGiven (slice_get old.answers (length entries)) q a = subst (λ o. IsGiven o q a) (past_the_end old.answers (length entries) old.used s.used) is in record {
+      given = given_more old.answers q a 0 entries s.given (subst (λ n. IsGiven (slice_get old.answers n) q a) (omega arith) there);
+      used = omega (arith, moved, s.used, length_more entries (q, a));
+      questions = omega (arith, counted, s.questions, length_more entries (q, a));
+    }
 
 -- an answer that is no failure counts nothing
 zero_of : (d : Device) (q : Question) (a : Answer) → failed a ≡ 0 → failures d q a ≡ 0
@@ -69,25 +69,28 @@ asked_of old new q a h counted = record {
   counted = counted;
   fits = h.fits;
   stands = λ entries s.
-      let more = stands_more old.answers old.used new.used q a entries h.is h.used s in
-      (subst (λ x. GivenFrom x 0 (entries ++ (q, a) ∷ [])) (sym h.answers) more.0, more.1 ∙ ap (λ x. used_by x (length (entries ++ (q, a) ∷ []))) (sym h.answers));
+      let more = stands_more old new.used new.questions new.faults q a entries h.is h.used h.questions s in record {
+        given = subst (λ x. GivenFrom x 0 (entries ++ (q, a) ∷ [])) (sym h.answers) more.given;
+        used = more.used ∙ ap (λ x. used_by x (length (entries ++ (q, a) ∷ []))) (sym h.answers);
+        questions = more.questions;
+      };
 }
 
 -- An answer that is no failure.
-module _ (old new : Handed) (q : Question) (a : Answer) (moved : new ≡ record old { used = used_by old.answers (old.used + 1) })
+module _ (old new : Handed) (q : Question) (a : Answer) (moved : new ≡ record old { used = used_by old.answers (old.used + 1); questions = one_more old.questions })
     (is : IsGiven (next_answer old) q a) (fits : Fits q a) (none : failed a ≡ 0) (kept : faults_after q a old.faults ≡ old.faults) where
   pub handed_kept : Answered old new q a
-  handed_kept = subst (λ w. Answered old w q a) (sym moved) (record { is = is; fits = fits; answers = refl; used = refl; faults = sym kept })
+  handed_kept = subst (λ w. Answered old w q a) (sym moved) (record { is = is; fits = fits; answers = refl; used = refl; questions = refl; faults = sym kept })
 
   pub asked_kept : Asked old.faults new.faults (Allows old) (Allows new) (Stands old) (Stands new) q (Some a)
   asked_kept = asked_of old new q a handed_kept (subst (λ w. Counted ((q, a) ∷ []) old.faults w.faults) (sym moved) (kept_counted q a old.faults none))
 
 -- An answer that is a failure, which is counted.
-module _ (old mid : Handed) (answers : List Answer) (used : ℕ) (faults new : Faults) (q : Question) (kind : FailKind)
-    (moved : mid ≡ record old { used = used_by old.answers (old.used + 1) }) (view : record { answers = answers; used = used; faults = faults } ≡ mid)
+module _ (old mid : Handed) (answers : List Answer) (used questions : ℕ) (faults new : Faults) (q : Question) (kind : FailKind)
+    (moved : mid ≡ record old { used = used_by old.answers (old.used + 1); questions = one_more old.questions }) (view : record { answers = answers; used = used; questions = questions; faults = faults } ≡ mid)
     (rose : new ≡ raised q faults) (small : Small faults) (is : IsGiven (next_answer old) q (answer.Failed kind)) (fits : Fits q (answer.Failed kind)) where
   abbrev After : Handed
-  After = record { answers = answers; used = used; faults = new }
+  After = record { answers = answers; used = used; questions = questions; faults = new }
 
   same_faults : faults ≡ old.faults
   same_faults = ap (λ h. h.faults) (view ∙ moved)
@@ -98,6 +101,7 @@ module _ (old mid : Handed) (answers : List Answer) (used : ℕ) (faults new : F
     fits = fits;
     answers = ap (λ h. h.answers) (view ∙ moved);
     used = ap (λ h. h.used) (view ∙ moved);
+    questions = ap (λ h. h.questions) (view ∙ moved);
     faults = rose ∙ ap (raised q) same_faults;
   }
 

@@ -3,8 +3,8 @@ use Rattle.std.specs.Prelude.{List, [], ◌∷◌, ◌++◌, Option, Some, None,
 use Rattle.cfg_world.specs.declared.ask.Question.{Question}
 use Rattle.cfg_world.specs.declared.ask.Answer.{Answer}
 use Rattle.cfg_world.specs.declared.ask.Answer.TheVariants as answer
-use Rattle.cfg_world.specs.declared.devices.Fault.{Fault}
-use Rattle.cfg_world.specs.declared.devices.Fault.TheVariants.{Failed, OutOfMemory}
+use Rattle.cfg_types.specs.declared.reply.Fault.{Fault}
+use Rattle.cfg_types.specs.declared.reply.Fault.TheVariants.{Failed, OutOfMemory}
 use Rattle.cfg_world.specs.Fits.{Fits, Pair}
 use Rattle.cfg_world.specs.Faults.{Faults, Counted}
 

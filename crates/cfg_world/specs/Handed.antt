@@ -1,6 +1,5 @@
 -- What devices answer that answers are handed to.
-use Rattle.std.specs.Prelude.{◌≡◌, ℕ, ◌+◌, min, pos, List, [], ◌∷◌, length, Option, Some, None, Result, Ok, Err, slice_get}
-use Rattle.cfg_values.specs.Moment.{Moment}
+use Rattle.std.specs.Prelude.{◌≡◌, ℕ, ◌+◌, min, List, [], ◌∷◌, length, Option, Some, None, Result, Ok, Err, slice_get}
 use Rattle.cfg_types.specs.declared.reply.Reply.{Reply}
 use Rattle.cfg_types.specs.declared.reply.FailKind.{FailKind}
 use Rattle.cfg_types.specs.declared.reply.FailKind.TheVariants.{Dispatch, Io}
@@ -8,19 +7,18 @@ use Rattle.cfg_world.specs.declared.ask.Question.{Question}
 use Rattle.cfg_world.specs.declared.ask.Question.TheVariants as question
 use Rattle.cfg_world.specs.declared.ask.Answer.{Answer}
 use Rattle.cfg_world.specs.declared.ask.Answer.TheVariants as answer
+use Rattle.cfg_world.specs.Epoch.{epoch}
 use Rattle.cfg_world.specs.Fits.{Fits, Pair}
-use Rattle.cfg_world.specs.Faults.{Faults}
-use Rattle.cfg_world.specs.Tallies.{faults_after}
+use Rattle.cfg_world.specs.Faults.{Faults, full_count}
+use Rattle.cfg_world.specs.Tallies.{faults_after, one_more}
 
--- the answers, how many of them were used up, and how often each kind of device has failed
+-- the answers, how many of them were used up, how many questions were put (a count that is full stands still),
+-- and how often each kind of device has failed
 pub record Handed : Type 0 where
   pub answers : List Answer
   pub used : ℕ
+  pub questions : ℕ
   pub faults : Faults
-
--- the epoch
-abbrev pub epoch : Moment
-epoch = record { seconds = pos 0; nanos = 0 }
 
 -- the answer where none that fits was handed in
 abbrev pub otherwise : Question → Answer
@@ -47,9 +45,11 @@ used_by answers count = min count (length answers)
 abbrev pub Allows : Handed → List Pair → Type 0
 Allows h entries = GivenFrom h.answers 0 entries
 
--- those of them that also use up as many answers as are used up
-abbrev pub Stands : Handed → List Pair → Type 0
-Stands h entries = GivenFrom h.answers 0 entries × (h.used ≡ used_by h.answers (length entries))
+-- those of them that have as many entries as questions were put
+pub record Stands (h : Handed) (entries : List Pair) : Type 0 where
+  pub given : GivenFrom h.answers 0 entries
+  pub used : h.used ≡ used_by h.answers (length entries)
+  pub questions : h.questions ≡ min (length entries) full_count
 
 -- One question was answered by the answer of its place.
 pub record Answered (old new : Handed) (asked : Question) (given : Answer) : Type 0 where
@@ -57,6 +57,7 @@ pub record Answered (old new : Handed) (asked : Question) (given : Answer) : Typ
   pub fits : Fits asked given
   pub answers : new.answers ≡ old.answers
   pub used : new.used ≡ used_by old.answers (old.used + 1)
+  pub questions : new.questions ≡ one_more old.questions
   pub faults : new.faults ≡ faults_after asked given old.faults
 
 -- One question was put. Without an answer memory ran out, and nothing changed.

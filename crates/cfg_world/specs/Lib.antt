@@ -1,4 +1,5 @@
 pub mod Fits
+pub mod Epoch
 pub mod Faults
 pub mod Asked
 pub mod Tallies
@@ -9,6 +10,8 @@ pub mod Put
 pub mod Inquiry
 pub mod Follows
 pub mod Leaves
+pub mod LastReadings
+pub mod Repeats
 pub mod Script
 pub mod Paths
 pub mod Scripted
@@ -19,3 +22,4 @@ pub mod Memory
 pub mod Adapters
 pub mod Handed
 pub mod Replayed
+pub mod Streams

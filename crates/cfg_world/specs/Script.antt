@@ -14,6 +14,7 @@ use Rattle.cfg_world.specs.declared.ask.Question.TheVariants as question
 use Rattle.cfg_world.specs.declared.ask.Answer.{Answer}
 use Rattle.cfg_world.specs.declared.ask.Answer.TheVariants as answer
 use Rattle.cfg_world.specs.declared.script.DeviceLists.{DeviceLists}
+use Rattle.cfg_world.specs.Epoch.{epoch}
 use Rattle.cfg_world.specs.Faults.{Faults}
 use Rattle.cfg_world.specs.Fits.{Pair, IsTransport, IsIo}
 
@@ -93,19 +94,11 @@ with_place place RoleCredentials n = record place { role_credentials = n }
 with_place place CreateToken n = record place { create_token = n }
 with_place place SignIn n = record place { sign_in = n }
 
--- no device has failed
-abbrev pub no_faults : Faults
-no_faults = record { files = 0; transport = 0; commands = 0; lookups = 0 }
-
 -- scripted devices as contracts see them
 pub record Script : Type 0 where
   pub lists : DeviceLists
   pub place : Place
   pub faults : Faults
-
--- where a clock without readings stands
-abbrev pub epoch : Moment
-epoch = record { seconds = pos 0; nanos = 0 }
 
 -- what a device that may fail answers
 abbrev pub answered : {T : Type 0} → (T → Answer) → Result T FailKind → Answer

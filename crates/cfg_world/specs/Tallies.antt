@@ -4,8 +4,8 @@ use Rattle.cfg_world.specs.declared.ask.Question.{Question}
 use Rattle.cfg_world.specs.declared.ask.Question.TheVariants as question
 use Rattle.cfg_types.specs.declared.reply.FailKind.{FailKind}
 use Rattle.cfg_types.specs.declared.reply.FailKind.TheVariants.{Dispatch, Io}
-use Rattle.cfg_world.specs.declared.devices.Fault.{Fault}
-use Rattle.cfg_world.specs.declared.devices.Fault.TheVariants.{Failed, OutOfMemory}
+use Rattle.cfg_types.specs.declared.reply.Fault.{Fault}
+use Rattle.cfg_types.specs.declared.reply.Fault.TheVariants.{Failed, OutOfMemory}
 use Rattle.cfg_world.specs.declared.ask.Answer.{Answer}
 use Rattle.cfg_world.specs.declared.ask.Answer.TheVariants as answer
 use Rattle.cfg_world.specs.Fits.{Pair}

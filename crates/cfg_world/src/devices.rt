@@ -6,16 +6,7 @@ ghost use Rattle.cfg_world.specs.Faults.{Faults};
 ghost use Rattle.cfg_world.specs.Asked.{Asked, answer_of, written_answer};
 
 use crate::ask::{Answer, Question};
-use cfg_types::{Address, Bytes, FailKind, Finished, Instant, Reply, Request, Seq};
-
-/// Why a device gave nothing.
-#[derive(Clone, Copy, Debug, PartialEq, Eq)]
-pub enum Fault {
-    /// The device failed, and the count of its kind rose.
-    Failed(FailKind),
-    /// Memory ran out.
-    OutOfMemory,
-}
+use cfg_types::{Address, Bytes, Fault, Finished, Instant, Reply, Request, Seq};
 
 /// The clock, files, commands, name look-up and the transport. Each call is one question. A call that
 /// may fail answers `OutOfMemory` where memory runs out. Devices may answer as they like within what

@@ -1,10 +1,11 @@
 //! Questions with their answers: what a journal holds.
 ghost use Rattle.std.specs.Prelude.{◌≡◌, IfOk, IfSome, IsSome, ◌↔◌};
 ghost use Rattle.cfg_world.specs.Fits.{Fits};
+ghost use Rattle.cfg_world.specs.Leaves.{moment_of};
 
 use crate::ask::{Answer, Question};
 use crate::fitting::fits;
-use cfg_types::{OutOfMemory, TryCopy};
+use cfg_types::{Instant, OutOfMemory, TryCopy};
 use std::alloc::Global;
 use std::marker::Model;
 use std::sync::Arc;
@@ -165,6 +166,17 @@ impl Receipt {
         ensures { result.now ≡ self.now }
     {
         &self.entry
+    }
+
+    /// The moment that it tells, as a receipt of a reading of the clock; the epoch, where it is of
+    /// another question.
+    pub fn moment(&self) -> Instant
+        ensures { result ≡ moment_of self.now.1 }
+    {
+        match self.entry().answer() {
+            Answer::Moment(moment) => *moment,
+            _ => Instant::epoch(),
+        }
     }
 
     /// The entry's answer: itself, where neither a journal nor a copy keeps it, and else a copy of it,

@@ -4,9 +4,9 @@ ghost use Rattle.cfg_world.specs.Tallies.{no_faults};
 ghost use Rattle.cfg_world.specs.Faulty.{next_call, counted_on};
 
 use crate::ask::{Answer, Question};
-use crate::devices::{Devices, Fault};
+use crate::devices::Devices;
 use crate::tally::Tally;
-use cfg_types::{Address, Bytes, FailKind, Finished, Instant, Reply, Request, Seq};
+use cfg_types::{Address, Bytes, FailKind, Fault, Finished, Instant, Reply, Request, Seq};
 use std::marker::Model;
 
 /// Other devices, of which one call fails. Of the calls `read`, `write`, `run`, `look_up` and `send`,

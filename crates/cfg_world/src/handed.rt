@@ -1,15 +1,15 @@
 //! Devices that give the answers that they were handed.
 ghost use Rattle.std.specs.Prelude.{◌≡◌, ◌+◌, pos, ◌≤ℤ◌, IfOk, option_map, if◌then◌else◌};
 ghost use Rattle.cfg_world.specs.Fits.{Fits};
-ghost use Rattle.cfg_world.specs.Tallies.{no_faults};
+ghost use Rattle.cfg_world.specs.Tallies.{no_faults, one_more};
 ghost use Rattle.cfg_world.specs.Handed.{Handed, used_by, IsGiven, or_io, sent, next_answer};
 
 use crate::ask::{Answer, Question};
-use crate::devices::{Devices, Fault};
+use crate::devices::Devices;
 use crate::fitting::{fits_request, is_transport};
 use crate::tally::Tally;
 use cfg_types::{
-    Address, Bytes, FailKind, Finished, Instant, OutOfMemory, Reply, Request, Seq, TryCopy,
+    Address, Bytes, FailKind, Fault, Finished, Instant, OutOfMemory, Reply, Request, Seq, TryCopy,
 };
 use std::alloc::Global;
 use std::marker::Model;
@@ -21,6 +21,7 @@ use std::marker::Model;
 pub struct HandedDevices {
     answers: Vec<Answer>,
     used: usize,
+    questions: u64,
     faults: Tally,
 }
 
@@ -29,7 +30,7 @@ impl Model for HandedDevices {
 
     ghost Value = { Handed };
 
-    ghost view = { λ h. record { answers = h.answers.items; used = h.used; faults = h.faults } };
+    ghost view = { λ h. record { answers = h.answers.items; used = h.used; questions = h.questions; faults = h.faults } };
 }
 
 impl Drop for HandedDevices {
@@ -37,19 +38,21 @@ impl Drop for HandedDevices {
         let HandedDevices {
             answers: _,
             used: _,
+            questions: _,
             faults: _,
         } = self;
     }
 }
 
 impl HandedDevices {
-    /// Devices with these answers, of which none is used up.
+    /// Devices with these answers, of which none is used up, and that were asked nothing.
     pub fn new(answers: Vec<Answer>) -> HandedDevices
-        ensures { result ≡ record { answers = answers.items; used = 0; faults = no_faults } }
+        ensures { result ≡ record { answers = answers.items; used = 0; questions = 0; faults = no_faults } }
     {
         HandedDevices {
             answers,
             used: 0,
+            questions: 0,
             faults: Tally::none(),
         }
     }
@@ -61,10 +64,11 @@ impl HandedDevices {
         self.answers.as_slice().get(self.used)
     }
 
-    // The next answer is used up, if there is one.
+    // One more question was put, and the next answer is used up, if there is one.
     fn use_up(&mut self)
-        ensures { self.new ≡ record self.old { used = used_by self.old.answers (self.old.used + 1) } }
+        ensures { self.new ≡ record self.old { used = used_by self.old.answers (self.old.used + 1); questions = one_more self.old.questions } }
     {
+        self.questions = self.questions.saturating_add(1);
         if self.used < self.answers.len() {
             self.used += 1;
         } else {
@@ -73,8 +77,8 @@ impl HandedDevices {
     }
 }
 
-/// They allow exactly the lists that their rule gives, and stand for those of them that use up as many
-/// answers as they have used up.
+/// They allow exactly the lists that their rule gives, and stand for those of them that have as many
+/// entries as they have answered questions, which they count up to the end of 64 bits.
 impl Devices for HandedDevices {
     ghost use Rattle.std.specs.Prelude.{Some};
     ghost use Rattle.cfg_values.specs.Text.{characters};
@@ -87,7 +91,7 @@ impl Devices for HandedDevices {
 
     ghost stands = { Stands };
 
-    ghost stands_allowed = { λ h entries s. s.0 };
+    ghost stands_allowed = { λ h entries s. s.given };
 
     #[tactic(auto, using(crate::proofs::HandedOver::handing))]
     fn now(&mut self) -> Instant

@@ -26,11 +26,11 @@ pub use ask::{Answer, Question};
 pub use asking::{Asking, Halt, Stop};
 pub use cfg_types::{
     Address, AssumeRole, AssumeRoleWithWebIdentity, CallSettings, CreateOAuth2Token, CreateToken,
-    FailKind, Finished, GetRoleCredentials, Header, Http, HttpReply, MetadataGet, MetadataToken,
-    OutOfMemory, Refusal, RefusalKind, Reply, Request, RoleCredentials, RoleReply, SignInReply,
-    SignInToken, StsCredentials, StsReply, Tag, Timeouts, TokenReply,
+    FailKind, Fault, Finished, GetRoleCredentials, Header, Http, HttpReply, MetadataGet,
+    MetadataToken, OutOfMemory, Refusal, RefusalKind, Reply, Request, RoleCredentials, RoleReply,
+    SignInReply, SignInToken, StsCredentials, StsReply, Tag, Timeouts, TokenReply,
 };
-pub use devices::{Devices, Fault};
+pub use devices::Devices;
 pub use entry::{Entry, Receipt};
 pub use faulty::FaultDevices;
 pub use handed::HandedDevices;

@@ -3,9 +3,9 @@ ghost use Rattle.std.specs.Prelude.{◌≡◌, pos, ◌≤ℤ◌};
 ghost use Rattle.cfg_world.specs.Tallies.{no_faults};
 
 use crate::ask::{Answer, Question};
-use crate::devices::{Devices, Fault};
+use crate::devices::Devices;
 use crate::tally::Tally;
-use cfg_types::{Address, Bytes, FailKind, Finished, Instant, Reply, Request, Seq};
+use cfg_types::{Address, Bytes, FailKind, Fault, Finished, Instant, Reply, Request, Seq};
 use std::alloc::Global;
 use std::fs::File;
 use std::io;

@@ -3,7 +3,8 @@ ghost use Rattle.std.specs.Prelude.{◌≡◌, ℕ, ◌+◌, ◌≤◌, List, []
 ghost use Rattle.std.specs.Option.{option_copied};
 ghost use Rattle.cfg_values.specs.Text.{characters};
 ghost use Rattle.cfg_world.specs.Faults.{full_count};
-ghost use Rattle.cfg_world.specs.Script.{AllFit, start, no_faults, queue_of, next_answer, one_further, sent, step, contents_at};
+ghost use Rattle.cfg_world.specs.Tallies.{no_faults};
+ghost use Rattle.cfg_world.specs.Script.{AllFit, start, queue_of, next_answer, one_further, sent, step, contents_at};
 ghost use Rattle.cfg_world.specs.Scripted.{place_of};
 
 mod paths;
@@ -11,10 +12,10 @@ mod queues;
 mod writes;
 
 use crate::ask::{Answer, Question};
-use crate::devices::{Devices, Fault};
+use crate::devices::Devices;
 use cfg_types::{
-    Address, Bytes, FailKind, Finished, Instant, OutOfMemory, Reply, Request, Seq, Text, TextMap,
-    TryCopy,
+    Address, Bytes, FailKind, Fault, Finished, Instant, OutOfMemory, Reply, Request, Seq, Text,
+    TextMap, TryCopy,
 };
 use std::alloc::Global;
 use std::marker::Model;

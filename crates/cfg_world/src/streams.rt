@@ -8,6 +8,8 @@ mod memory;
 
 pub use adapters::{ReaderSource, WriterSink};
 pub use memory::{MemorySink, MemorySource};
+use std::error::Error;
+use std::fmt;
 
 /// Why a source gave nothing, or a sink took nothing.
 #[derive(Clone, Copy, Debug, PartialEq, Eq)]
@@ -17,6 +19,24 @@ pub enum StreamFault {
     /// Memory ran out.
     OutOfMemory,
 }
+
+impl fmt::Display for StreamFault {
+    ghost use Rattle.std.specs.Prelude.{Some};
+    ghost use Rattle.cfg_world.specs.Streams.{stream_fault_text};
+
+    ghost output = { λ e. Some (stream_fault_text e) };
+
+    ghost styled_output = { λ e _. Some (stream_fault_text e) };
+
+    fn fmt<W: fmt::Write>(&self, f: &mut fmt::Formatter<W>) -> fmt::Result {
+        match self {
+            StreamFault::Failed => f.write_str("the stream failed"),
+            StreamFault::OutOfMemory => f.write_str("out of memory"),
+        }
+    }
+}
+
+impl Error for StreamFault {}
 
 /// Where bytes come from.
 pub trait Source {

@@ -7,9 +7,9 @@ ghost use Rattle.cfg_world.specs.Held.{Held};
 ghost use Rattle.cfg_world.specs.Grows.{Grows, Stays};
 
 use crate::ask::{Answer, Question};
-use crate::devices::{Devices, Fault};
+use crate::devices::Devices;
 use crate::entry::{Entry, Receipt};
-use cfg_types::{OutOfMemory, TryCopy};
+use cfg_types::{Fault, OutOfMemory, TryCopy};
 use std::alloc::Global;
 use std::marker::Model;
 

@@ -12,7 +12,7 @@ ghost use Rattle.cfg_bearer.specs.ChainSetups.{configuration_alone, setup_of};
 ghost use Rattle.cfg_bearer.specs.Provides.{ProvidesToken, InterruptedToken};
 ghost use Rattle.cfg_bearer.specs.ProfileTokens.{default_token, DefaultTokenCause};
 ghost use Rattle.cfg_bearer.specs.Sessions.{session_key};
-ghost use Rattle.cfg_bearer.specs.Told.{none_loaded_by, told as told_by_chain, told_of_profile};
+ghost use Rattle.cfg_bearer.specs.Told.{none_loaded_by, chain_answer as told_by_chain, told_of_profile};
 
 use crate::profile::token::ProfileFileTokenProvider;
 use crate::session::token_key_of;
@@ -160,7 +160,7 @@ impl DefaultTokenChain {
 }
 
 // What the chain answers where its member answers so.
-#[tactic(auto, unfolding(crate::specs::Told::told))]
+#[tactic(auto, unfolding(crate::specs::Told::chain_answer))]
 fn told(
     alloc: Global,
     given: Result<Token, TokenError>,

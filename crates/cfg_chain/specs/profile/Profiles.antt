@@ -22,12 +22,12 @@ marked (Ok keys) = Ok (by_profile keys)
 marked (Err e) = Err e
 
 -- the credentials of the last of these roles, the first of them assumed with these credentials
-unfoldable pub derived : Configuration → List RoleArn → Keys → Inquiry Answer
-derived conf roles keys = after (assumes_roles conf roles keys) (λ last. Done (marked last))
+unfoldable pub assumed : Configuration → List RoleArn → Keys → Inquiry Answer
+assumed conf roles keys = after (assumes_roles conf roles keys) (λ last. Done (marked last))
 
 -- the first credentials, and then the roles
 unfoldable pub follows_planned : Setting → ProfileChain → KeptInquiry Answer
-follows_planned s p = based s p.base >>= λ keys. lift (derived s.configuration p.roles keys)
+follows_planned s p = based s p.base >>= λ keys. lift (assumed s.configuration p.roles keys)
 
 abbrev pub follows_plan : Setting → Planned → KeptInquiry Answer
 follows_plan s (Err e) = Gives (Err (refusal e))

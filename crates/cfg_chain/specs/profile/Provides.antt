@@ -13,7 +13,7 @@ use Rattle.cfg_keeping.specs.Holds.{Holdings, HoldsFollows}
 use Rattle.cfg_profile.specs.Configuration.{Configuration}
 use Rattle.cfg_providers.specs.CustomSources.{Answer}
 use Rattle.cfg_chain.specs.Settings.{Setting, Lent, Services, AreServices, setting, names_of}
-use Rattle.cfg_chain.specs.Valid.{AreOfUse, IsBase}
+use Rattle.cfg_chain.specs.Valid.{AreOfUse, IsBase, IsFile}
 use Rattle.cfg_chain.specs.profile.Causes.{ProfileCause}
 use Rattle.cfg_chain.specs.profile.Plans.{Planned, plan}
 use Rattle.cfg_chain.specs.profile.Profiles.{profile}
@@ -27,7 +27,7 @@ PlanGives s (Err e) found part = ⊥
 -- and each answer in the part is of use.
 pub record IsUsable (s : Setting) (found : List Value) (part : List Pair) : Type 0 where
   pub given : PlanGives s (plan s.configuration (names_of s.sources)) found part
-  pub answers : AreOfUse s.configuration.environment part
+  pub answers : AreOfUse (IsFile s.configuration.environment (plan s.configuration (names_of s.sources))) part
 
 -- A call of a profile's provider, with what the caller lent, found these values, has this part, and came to
 -- this outcome, which has its cause, over the services that the configuration names: there is one answer

@@ -2,13 +2,12 @@
 ghost use Rattle.std.specs.Prelude.{◌≡◌, IfOk, None};
 ghost use Rattle.cfg_world.specs.Follows.{Follows};
 ghost use Rattle.cfg_imds.specs.Regions.{is_disabled as is_disabled_by};
-ghost use Rattle.cfg_keeping.specs.Clients.{client_rules};
+ghost use Rattle.cfg_imds.specs.Clients.{client_rules};
 ghost use Rattle.cfg_keeping.specs.Holds.{HoldsFollows};
 ghost use Rattle.cfg_metadata.specs.Metadata.{metadata};
 ghost use Rattle.cfg_metadata.specs.Settings.{setting as metadata_setting};
 ghost use Rattle.cfg_providers.specs.CustomSources.{last_named};
 ghost use Rattle.cfg_providers.specs.Processes.{credential_process as credential_process_of};
-ghost use Rattle.cfg_providers.specs.Provides.{is_memory as is_memory_of};
 ghost use Rattle.cfg_providers.specs.WebIdentities.{no_policies, assumes_by_web_identity};
 ghost use Rattle.cfg_sign_in.specs.SignIns.{sign_in_credentials};
 ghost use Rattle.cfg_sso.specs.Tokens.{HasKey, key_by};
@@ -33,7 +32,7 @@ use cfg_sign_in::{AskedBy, follow_login};
 use cfg_sso::{SsoProviderConfig, follow_sso};
 use cfg_types::{
     AccountId, Boxed, CommandWithSensitiveArgs, Credentials, CredentialsError, OutOfMemory,
-    ProfileFileError, ProviderCause, Region, Text, TryCopy, copy_option,
+    ProfileFileError, ProviderCause, Region, Text, TryCopy, copy_option, is_memory,
 };
 use cfg_world::{Asking, Stop};
 use std::alloc::Global;
@@ -253,12 +252,6 @@ fn own_source(
             Ok(Some(answer))
         }
     }
-}
-
-fn is_memory(answer: &Result<Credentials, CredentialsError>) -> bool
-    ensures { result ≡ is_memory_of answer.now }
-{
-    matches!(answer, Err(CredentialsError::OutOfMemory))
 }
 
 #[tactic(auto, using(cfg_keeping::proofs::HoldingSteps::holding_steps), unfolding(crate::specs::profile::Bases::built_in_source))]

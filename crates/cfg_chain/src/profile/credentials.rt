@@ -1,11 +1,11 @@
 //! The provider of a profile's credentials.
 ghost use Rattle.std.specs.Option.{option_copied};
 ghost use Rattle.std.specs.Prelude.{◌≡◌, IfOk, Some, true, false, option_map};
-ghost use Rattle.cfg_keeping.specs.Clients.{client_rules};
+ghost use Rattle.cfg_imds.specs.Clients.{client_rules};
 ghost use Rattle.cfg_keeping.specs.Holds.{HoldsFollows};
 ghost use Rattle.cfg_keeping.specs.KeptStates.{kept_holdings, kept_key, states_of};
 ghost use Rattle.cfg_keeping.specs.Kinds.{no_states};
-ghost use Rattle.cfg_providers.specs.Provides.{is_memory};
+ghost use Rattle.cfg_types.specs.Classes.{is_memory};
 ghost use Rattle.cfg_sso.specs.Tokens.{HasKey};
 ghost use Rattle.cfg_chain.specs.Settings.{setting, lends};
 ghost use Rattle.cfg_chain.specs.Sources.{named_sources, services_in};
@@ -18,10 +18,11 @@ use crate::profile::provider::follow_profile;
 use crate::services::{Services, lent_or};
 use cfg_exchange::container_uri;
 use cfg_imds::Client;
-use cfg_keeping::{Keeper, Kept, TokenKey};
+use cfg_keeping::{Keeper, Kept};
 use cfg_profile::{ProfileSource, ProviderConfig};
 use cfg_providers::CustomSource;
 use cfg_region::profile::settings::configured_by;
+use cfg_token::TokenKey;
 use cfg_types::{Credentials, CredentialsError, OutOfMemory, TryCopy, copy_option};
 use cfg_world::{Asking, Devices, Stop, World};
 use std::alloc::Global;

@@ -3,11 +3,11 @@ ghost use Rattle.std.specs.Prelude.{◌≡◌, IfOk};
 ghost use Rattle.cfg_providers.specs.Gives.{GivesAnswer};
 ghost use Rattle.cfg_chain.specs.profile.Plans.{profile_plan, plan, refusal as refusal_of, key_of_base as key_of_base_of, key_of_plan, key_of};
 
-use cfg_keeping::TokenKey;
 use cfg_profile::{
     BaseProvider, ProfileChain, ProfileSet, ProfileSource, ProviderConfig, plan_of_profile,
     selected_name,
 };
+use cfg_token::TokenKey;
 use cfg_types::{
     ConfigCause, CredentialsError, NotLoadedCause, OutOfMemory, ProfileFileError, Region, Text,
     TryCopy,

@@ -5,7 +5,7 @@ ghost use Rattle.cfg_sso.specs.Tokens.{HasKey};
 ghost use Rattle.cfg_chain.specs.Settings.{setting};
 ghost use Rattle.cfg_chain.specs.Sources.{named_sources, services_in};
 ghost use Rattle.cfg_chain.specs.profile.Plans.{key_of_base, key_of};
-ghost use Rattle.cfg_chain.specs.profile.Profiles.{by_profile, marked as marked_of, derived, follows_planned, profile};
+ghost use Rattle.cfg_chain.specs.profile.Profiles.{by_profile, marked as marked_of, assumed, follows_planned, profile};
 
 use crate::profile::base::follow_based;
 use crate::profile::plan::{plan_of, refusal};
@@ -59,20 +59,20 @@ fn follow_plan<P: Keeper, A: Asking>(
         Ok(keys) => keys,
         Err(error) => return Ok(Err(error)),
     };
-    let outcome = derive(alloc, config, plan.roles.as_slice(), keys, asking)?;
+    let outcome = follow_roles(alloc, config, plan.roles.as_slice(), keys, asking)?;
     Ok(outcome)
 }
 
 // The credentials of the last of these roles, marked.
-#[tactic(auto, using(cfg_world::proofs::Inquiries::asking_steps, cfg_providers::proofs::QuietSteps::quiet_steps), unfolding(crate::specs::profile::Profiles::derived))]
-fn derive<A: Asking>(
+#[tactic(auto, using(cfg_world::proofs::Inquiries::asking_steps, cfg_providers::proofs::QuietSteps::quiet_steps), unfolding(crate::specs::profile::Profiles::assumed))]
+fn follow_roles<A: Asking>(
     alloc: Global,
     config: &ProviderConfig,
     roles: &[RoleArn],
     keys: Credentials,
     asking: &mut A,
 ) -> Result<Result<Credentials, CredentialsError>, Stop>
-    ensures { Follows ⟦<A as Asking>⟧ (derived config.now roles.now keys) asking.old asking.new result }
+    ensures { Follows ⟦<A as Asking>⟧ (assumed config.now roles.now keys) asking.old asking.new result }
 {
     let last = assume_roles(alloc, config, roles, keys, asking)?;
     let outcome = marked(last)?;

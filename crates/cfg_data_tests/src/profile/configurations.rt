@@ -1,7 +1,7 @@
 // What no clause says: that settings are taken over, in an example.
 use crate::profile::sets::set_of;
-use cfg_profile::{OutOfMemory, ProfileSource, ProviderConfig, call_settings, selected_name};
-use cfg_types::{BehaviorVersion, Region, RetryConfig, Timeouts, TryCopy};
+use cfg_profile::{ProfileSource, ProviderConfig, call_settings, selected_name};
+use cfg_types::{BehaviorVersion, OutOfMemory, Region, RetryConfig, Timeouts, TryCopy};
 use std::alloc::Global;
 use std::test::Fail;
 

@@ -1,5 +1,6 @@
 // Sets of profiles, written shortly: `NAME:KEY=VALUE,KEY=VALUE;NAME:..`, where `~NAME` is a session.
-use cfg_profile::{OutOfMemory, ProfileSet, Section};
+use cfg_profile::{ProfileSet, Section};
+use cfg_types::OutOfMemory;
 use std::alloc::Global;
 
 fn property(alloc: Global, key: &str, value: &str) -> Result<(String, String), OutOfMemory> {

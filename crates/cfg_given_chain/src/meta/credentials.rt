@@ -1,14 +1,13 @@
 //! Chains of credentials providers over members that the caller gives.
 ghost use Rattle.std.specs.Prelude.{◌≡◌, ◌++◌, ◌∷◌, [], IfOk, OnErr, None, true, false, map, option_map};
 ghost use Rattle.cfg_values.specs.Text.{characters};
-ghost use Rattle.cfg_imds.specs.Clients.{rules_of};
-ghost use Rattle.cfg_keeping.specs.Clients.{client_rules};
+ghost use Rattle.cfg_imds.specs.Clients.{rules_of, client_rules};
 ghost use Rattle.cfg_keeping.specs.KeptStates.{kept_key, states_of};
 ghost use Rattle.cfg_keeping.specs.Kinds.{no_states};
 ghost use Rattle.cfg_members.specs.Fallbacks.{first_there};
 ghost use Rattle.cfg_members.specs.MemberParts.{keeping_of};
 ghost use Rattle.cfg_providers.specs.CustomSources.{named};
-ghost use Rattle.cfg_providers.specs.Provides.{is_memory};
+ghost use Rattle.cfg_types.specs.Classes.{is_memory};
 ghost use Rattle.cfg_region.specs.Calls.{RegionSet, RegionBreaks};
 ghost use Rattle.cfg_chain.specs.Settings.{lends};
 ghost use Rattle.cfg_given_chain.specs.Builds.{EndsByDefault};

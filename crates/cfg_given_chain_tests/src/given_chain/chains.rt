@@ -2,12 +2,13 @@
 use crate::given_chain::own::{Failing, Sparing};
 use crate::given_chain::setup::{Outcome, Setup, kinds, set_up, words_of};
 use cfg_assume_role::{AssumeRoleProvider, RoleBase};
-use cfg_chain::{DefaultCredentialsChain, RegionSource};
+use cfg_chain::DefaultCredentialsChain;
 use cfg_given_chain::{CredentialsProviderChain, Member};
 use cfg_imds::Client;
 use cfg_metadata::ImdsCredentialsProvider;
 use cfg_profile::ProviderConfig;
 use cfg_providers::EnvironmentVariableCredentialsProvider;
+use cfg_region::RegionSource;
 use cfg_sign_in::LoginCredentialsProvider;
 use cfg_sso::SsoCredentialsProvider;
 use cfg_types::{Credentials, CredentialsBuilder, OutOfMemory, Region, TryCopy};
@@ -140,7 +141,7 @@ fn metadata_words(
 ) -> Result<String, OutOfMemory> {
     let client = Client::builder(alloc)?.configure(&config)?.build()?;
     let builder = ImdsCredentialsProvider::builder(alloc, client)?;
-    let provider = builder.configure(&config)?.build();
+    let provider = builder.configure(&config)?.build()?;
     two_words(alloc, first, Member::Imds(provider), &mut world)
 }
 

@@ -1,19 +1,20 @@
 // Holdings of each kind over scripts, two on one keeper: what they answer, how much they ask, and how
 // much was found.
 ghost use Rattle.std.specs.Prelude.{◌≡◌, true, IfOk, None as none};
-ghost use Rattle.cfg_imds.specs.Clients.{endpoint_fault};
-ghost use Rattle.cfg_keeping.specs.Clients.{client_rules};
+ghost use Rattle.cfg_imds.specs.Clients.{endpoint_fault, client_rules};
 ghost use Rattle.cfg_keeping.specs.KeptStates.{kept_key};
 ghost use Rattle.cfg_keeping.specs.KeyedStates.{is_sso_key, is_login_key};
 ghost use Rattle.cfg_script.specs.Devices.{lists_of};
 ghost use Rattle.cfg_script.specs.Script.{plain};
 ghost use Rattle.cfg_world.specs.Script.{AllFit};
 
+use crate::sections::settings;
 use cfg_exchange::ClassifyRetry;
 use cfg_imds::Client;
-use cfg_keeping::{Keeper, Kept, Place, TokenKey, imds_token, login_section, sso_section};
+use cfg_keeping::{Keeper, Kept, Place, imds_token, login_section, sso_section};
 use cfg_script::{Script, read_script};
-use cfg_types::{CallSettings, Env, OutOfMemory, Region, Text, Timeouts};
+use cfg_token::TokenKey;
+use cfg_types::{Env, OutOfMemory, Region, Text};
 use cfg_world::{DeviceLists, ScriptDevices, World};
 use std::alloc::Global;
 use std::test::Fail;
@@ -37,21 +38,6 @@ fn login_kept(alloc: Global) -> Result<Kept, OutOfMemory>
 {
     let session = Text::of(alloc, "abc")?;
     Ok(Kept::new(alloc, Some(TokenKey::Login { session })))
-}
-
-fn settings() -> CallSettings {
-    CallSettings {
-        region: None,
-        use_fips: None,
-        use_dual_stack: None,
-        max_attempts: 3,
-        timeouts: Timeouts {
-            connect_ms: None,
-            read_ms: None,
-            operation_ms: None,
-            attempt_ms: None,
-        },
-    }
 }
 
 // How much was asked since the last look, and what was found by now.

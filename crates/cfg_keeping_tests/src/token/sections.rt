@@ -1,14 +1,10 @@
 // Sections over scripts: what they answer, note and keep.
 ghost use Rattle.std.specs.Prelude.{◌≡◌, true, IfOk};
-ghost use Rattle.cfg_script.specs.Devices.{lists_of};
-ghost use Rattle.cfg_script.specs.Script.{plain};
 ghost use Rattle.cfg_token.specs.SsoTokens.{is_sso};
-ghost use Rattle.cfg_world.specs.Script.{AllFit};
 
-use cfg_script::{Script, read_script};
-use cfg_token::{CachedSsoToken, Region, TokenKey, TokenState, section};
-use cfg_types::{CallSettings, Env, OutOfMemory, Text, Timeouts};
-use cfg_world::{DeviceLists, ScriptDevices, World};
+use crate::sections::sections;
+use cfg_token::{CachedSsoToken, TokenKey, TokenState};
+use cfg_types::{OutOfMemory, Region, Text};
 use std::alloc::Global;
 use std::test::Fail;
 
@@ -24,68 +20,6 @@ fn state(alloc: Global) -> Result<TokenState<CachedSsoToken>, OutOfMemory>
         start_url,
     };
     Ok(TokenState::new(alloc, key))
-}
-
-fn settings() -> CallSettings {
-    CallSettings {
-        region: None,
-        use_fips: None,
-        use_dual_stack: None,
-        max_attempts: 3,
-        timeouts: Timeouts {
-            connect_ms: None,
-            read_ms: None,
-            operation_ms: None,
-            attempt_ms: None,
-        },
-    }
-}
-
-// What a section answers; the questions and the records so far, the last attempt, and whether a token is
-// kept then.
-fn section_words(
-    alloc: Global,
-    state: &mut TokenState<CachedSsoToken>,
-    env: &Env,
-    world: &mut World<ScriptDevices>,
-) -> Result<String, OutOfMemory>
-    requires { is_sso state.old.key ≡ true }
-    ensures { state.new.key ≡ state.old.key }
-{
-    let answer = section(state, env, &settings(), world);
-    let asked = world.journal().len();
-    let records = state.records().len();
-    let last = state.last_attempt();
-    let kept = state.kept().is_some();
-    Ok(format!(in alloc; "{answer:?} {asked} {records} {last:?} {kept}")?)
-}
-
-// A section, and one more on the state that was trimmed.
-fn sections(alloc: Global, env: &Env, lists: DeviceLists) -> Result<String, OutOfMemory>
-    requires { AllFit lists }
-{
-    let mut world = World::new(alloc, ScriptDevices::new(alloc, lists)?);
-    let mut state = state(alloc)?;
-    let first = section_words(alloc, &mut state, env, &mut world)?;
-    state.trim();
-    let second = section_words(alloc, &mut state, env, &mut world)?;
-    Ok(format!(in alloc; "{first}; {second}")?)
-}
-
-fn sections_by(alloc: Global, script: Script) -> Result<String, OutOfMemory>
-    requires { AllFit (lists_of (plain script)) }
-{
-    let Script {
-        variables,
-        profiles: _,
-        selected: _,
-        region: _,
-        sleep: _,
-        calls: _,
-        devices,
-    } = script;
-    let env = Env::new(alloc, variables)?;
-    sections(alloc, &env, devices)
 }
 
 const SCRIPTS: &[(&str, &str)] = &[
@@ -106,8 +40,8 @@ const SCRIPTS: &[(&str, &str)] = &[
 #[test]
 fn sections_of_one_state(rt: HostRuntime) -> Result<(), Fail> {
     for (script, want) in SCRIPTS {
-        let script = read_script(rt.alloc(), script.as_bytes())?;
-        let words = sections_by(rt.alloc(), script)?;
+        let mut state = state(rt.alloc())?;
+        let words = sections(rt.alloc(), &mut state, script)?;
         assert_eq!(rt; words.as_str(), *want);
     }
     Ok(())

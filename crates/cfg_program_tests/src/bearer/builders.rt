@@ -37,7 +37,7 @@ fn built_by(alloc: Global, setup: Setup, call: u8) -> Result<String, OutOfMemory
         }
         7 => {
             let client = Client::configured(alloc, &config)?;
-            let provider = ImdsRegionProvider::builder(alloc, client)?.build();
+            let provider = ImdsRegionProvider::builder(alloc, client)?.build()?;
             builder
                 .configure(config)
                 .region(RegionSource::Imds(provider))

@@ -1,8 +1,9 @@
 // Chains over given members.
 use crate::bearer::own::{Having, Lacking, Late};
 use crate::bearer::setup::{FILES, Handed, SESSIONS, Setup, asked, set_up, token_words};
-use cfg_bearer::{ProfileFileTokenProvider, SsoTokenProvider, TokenMember, TokenProviderChain};
+use cfg_bearer::{ProfileFileTokenProvider, TokenMember, TokenProviderChain};
 use cfg_profile::ProviderConfig;
+use cfg_sso::SsoTokenProvider;
 use cfg_types::{OutOfMemory, Region, Text, Token, TryCopy};
 use cfg_world::{ScriptDevices, World};
 use std::alloc::Global;

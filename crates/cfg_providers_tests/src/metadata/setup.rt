@@ -42,10 +42,10 @@ fn outcome_of(
     let client = Client::builder(alloc)?.configure(&config)?.build()?;
     let builder = ImdsCredentialsProvider::builder(alloc, client)?.configure(&config)?;
     let provider = match call {
-        "chain" => builder.build(),
-        "named" => builder.place(Place::Named).build(),
-        "off" => builder.configure(&switched_off(alloc)?)?.build(),
-        role => builder.profile(role)?.build(),
+        "chain" => builder.build()?,
+        "named" => builder.place(Place::Named).build()?,
+        "off" => builder.configure(&switched_off(alloc)?)?.build()?,
+        role => builder.profile(role)?.build()?,
     };
     Ok(Outcome {
         answer: provider.provide_credentials(kept, world),

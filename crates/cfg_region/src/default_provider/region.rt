@@ -3,7 +3,7 @@ ghost use Rattle.std.specs.Prelude.{◌≡◌, ◌∷◌, [], IfOk, OnErr, Some}
 ghost use Rattle.cfg_world.specs.Follows.{Follows};
 ghost use Rattle.cfg_imds.specs.Calls.{CallBreaks};
 ghost use Rattle.cfg_world.specs.Inquiry.{Done};
-ghost use Rattle.cfg_region.specs.Calls.{Tells};
+ghost use Rattle.cfg_region.specs.Calls.{AsksInOrder};
 ghost use Rattle.cfg_region.specs.Chains.{first_given};
 ghost use Rattle.cfg_region.specs.Defaults.{client_at, default_trees, default_tree, IsDefault};
 ghost use Rattle.cfg_region.specs.Metadata.{metadata_region};
@@ -146,7 +146,7 @@ impl DefaultRegionChain {
     /// `OutOfMemory` where memory runs out. The journal then has gained the beginning of what the call asks, or
     /// nothing.
     pub fn region<D: Devices>(&self, world: &mut World<D>) -> Result<Option<Region>, OutOfMemory>
-        ensures tells { IfOk result (λ region. Tells ⟦<D as Devices>⟧ (default_trees self.now) world.old world.new region) }
+        ensures tells { IfOk result (λ region. AsksInOrder ⟦<D as Devices>⟧ (default_trees self.now) world.old world.new region) }
         ensures breaks { OnErr result (CallBreaks ⟦<D as Devices>⟧ (default_tree self.now) world.old world.new) }
     {
         match self.follow(world) {

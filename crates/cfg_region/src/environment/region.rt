@@ -1,31 +1,20 @@
 //! The region that the environment's variables name.
 ghost use Rattle.std.specs.Prelude.{◌≡◌, IfOk, option_map};
 ghost use Rattle.cfg_values.specs.Text.{characters};
-ghost use Rattle.cfg_exchange.specs.Containers.{readable as readable_of};
 ghost use Rattle.cfg_region.specs.Environments.{environment_region};
 
 use cfg_types::{Env, OutOfMemory, Region};
 use std::alloc::Global;
 use std::marker::Model;
 
-// The text of a variable, where it can be read.
-fn readable<'a>(env: &'a Env, name: &str) -> Option<&'a str>
-    ensures { option_map (λ t. characters t.now) result ≡ readable_of env.now name.now }
-{
-    match env.get(name) {
-        Ok(text) => Some(text),
-        Err(_) => None,
-    }
-}
-
 // The text of the first of the two variables that can be read.
 #[tactic(auto, unfolding(crate::specs::Environments::environment_region))]
 fn named(env: &Env) -> Option<&str>
     ensures { option_map (λ t. characters t.now) result ≡ environment_region env.now }
 {
-    match readable(env, "AWS_REGION") {
+    match env.readable("AWS_REGION") {
         Some(name) => Some(name),
-        None => readable(env, "AWS_DEFAULT_REGION"),
+        None => env.readable("AWS_DEFAULT_REGION"),
     }
 }
 

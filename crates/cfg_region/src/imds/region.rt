@@ -6,7 +6,7 @@ ghost use Rattle.cfg_imds.specs.Regions.{is_disabled as is_disabled_of, region a
 ghost use Rattle.cfg_imds.specs.Settles.{with_kept};
 ghost use Rattle.cfg_imds.specs.Tokens.{bare_token};
 ghost use Rattle.cfg_region.specs.Calls.{Asks};
-ghost use Rattle.cfg_region.specs.Clients.{client_rules};
+ghost use Rattle.cfg_imds.specs.Clients.{client_rules};
 ghost use Rattle.cfg_region.specs.Metadata.{metadata_region, IsGot};
 
 use cfg_imds::{Client, ImdsTokenState, MetadataToken, follow_region, is_disabled};
@@ -151,11 +151,11 @@ impl Builder {
         self
     }
 
-    /// The provider.
-    pub fn build(self) -> ImdsRegionProvider
-        ensures { provider_of repeated result ≡ builder_of repeated self }
+    /// The provider. `OutOfMemory` where memory runs out.
+    pub fn build(self) -> Result<ImdsRegionProvider, OutOfMemory>
+        ensures { IfOk result (λ p. provider_of repeated p ≡ builder_of repeated self) }
     {
         let Builder { alloc, env, client } = self;
-        ImdsRegionProvider { alloc, env, client }
+        Ok(ImdsRegionProvider { alloc, env, client })
     }
 }

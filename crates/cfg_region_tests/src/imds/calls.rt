@@ -25,6 +25,19 @@ pub(crate) fn get_words(
     Ok(format!(in alloc; "{got:?} {asked} {kept:?}")?)
 }
 
+// The token that a get of this path leaves, spread over lines.
+fn spread_words(
+    alloc: Global,
+    client: &Client,
+    world: &mut World<ScriptDevices>,
+    path: &str,
+) -> Result<String, OutOfMemory> {
+    let mut state = ImdsTokenState::new();
+    let got = client.get(&mut state, world, path);
+    let kept = state.kept();
+    Ok(format!(in alloc; "{} {kept:#?}", got.is_ok())?)
+}
+
 // What a session token is settled to, and what stands at a path with it, where the path is usable.
 fn settled_words(
     alloc: Global,
@@ -73,6 +86,7 @@ fn called(
     match path {
         "region" => region_words(alloc, &client, world, config.env()),
         "/settled" => settled_words(alloc, &client, world, path),
+        "/spread" => spread_words(alloc, &client, world, path),
         _ => get_words(alloc, &client, world, path),
     }
 }
@@ -126,6 +140,11 @@ const TABLE: &[(&str, &str, &str)] = &[
         "/settled",
         r#"{"replies":{"imds-token":[[200,[["x-aws-ec2-metadata-token-ttl-seconds","9"]],"t"]],"imds-get":[[200,[],"role"]]}}"#,
         "[116] true",
+    ),
+    (
+        "/spread",
+        r#"{"replies":{"imds-token":[[200,[["x-aws-ec2-metadata-token-ttl-seconds","9"]],"t"]],"imds-get":[[200,[],"role"]]}}"#,
+        "true Some(\n    MetadataToken { value: \"** redacted **\", expiry: 9 s 0 ns },\n)",
     ),
     (
         "region",

@@ -44,7 +44,7 @@ fn of_sources(
     let region = None;
     let none = RegionSource::Custom(Box::new(alloc, Own { alloc, region })?);
     let client = Client::configured(alloc, config)?;
-    let metadata = ImdsRegionProvider::builder(alloc, client)?.build();
+    let metadata = ImdsRegionProvider::builder(alloc, client)?.build()?;
     let region = Some(Region::new(alloc, "own")?);
     let own = RegionSource::Custom(Box::new(alloc, Own { alloc, region })?);
     let last = RegionSource::Fixed(Some(Region::new(alloc, "last")?));
@@ -61,7 +61,10 @@ fn of_metadata(
     let client = Client::configured(alloc, config)?;
     let builder = ImdsRegionProvider::builder(alloc, client)?;
     let mut state = ImdsTokenState::new();
-    builder.configure(config)?.build().region(&mut state, world)
+    builder
+        .configure(config)?
+        .build()?
+        .region(&mut state, world)
 }
 
 // Of the default chain, by this profile.

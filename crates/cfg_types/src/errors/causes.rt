@@ -6,7 +6,7 @@ ghost use Rattle.cfg_types.specs.CauseTexts.{ended_text};
 
 use crate::errors::pieces::{around, around_before, labelled};
 use crate::errors::{ConfigCause, ProcessCause, ProviderCause, UnhandledCause};
-use crate::reply::FailKind;
+use crate::reply::{FailKind, Fault};
 use cfg_values::Text;
 use std::error::Error;
 use std::fmt;
@@ -30,6 +30,24 @@ impl fmt::Display for FailKind {
 }
 
 impl Error for FailKind {}
+
+impl fmt::Display for Fault {
+    ghost use Rattle.std.specs.Prelude.{Some};
+    ghost use Rattle.cfg_types.specs.CauseTexts.{fault_text};
+
+    ghost output = { λ e. Some (fault_text e) };
+
+    ghost styled_output = { λ e _. Some (fault_text e) };
+
+    fn fmt<W: fmt::Write>(&self, f: &mut fmt::Formatter<W>) -> fmt::Result {
+        match self {
+            Fault::Failed(kind) => kind.fmt(f),
+            Fault::OutOfMemory => f.write_str("out of memory"),
+        }
+    }
+}
+
+impl Error for Fault {}
 
 impl fmt::Display for ProcessCause {
     ghost use Rattle.std.specs.Prelude.{Some};

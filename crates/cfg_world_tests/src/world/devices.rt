@@ -5,8 +5,10 @@ ghost use Rattle.cfg_script.specs.Devices.{lists_of};
 
 use crate::world::questions::question;
 use cfg_script::{Script, ScriptError, read_script};
-use cfg_types::{Instant, OutOfMemory};
-use cfg_world::{Answer, DeviceLists, Devices, FaultDevices, HandedDevices, ScriptDevices, World};
+use cfg_types::{FailKind, Fault, Instant, OutOfMemory};
+use cfg_world::{
+    Answer, DeviceLists, Devices, FaultDevices, HandedDevices, ScriptDevices, StreamFault, World,
+};
 use std::alloc::{AllocError, Global};
 use std::str;
 use std::test::Fail;
@@ -140,6 +142,22 @@ fn each_question_gets_the_next_answer_if_it_fits(rt: HostRuntime) -> Result<(), 
     assert_eq!(rt;
         words.as_str(),
         "5; 0; Io; written; Io; Io; Io; Io; Dispatch; Io; Io; Dispatch; "
+    );
+    Ok(())
+}
+
+#[test]
+fn faults_are_shown(rt: HostRuntime) -> Result<(), Fail> {
+    let device = Fault::Failed(FailKind::Io);
+    let stream = StreamFault::Failed;
+    let shown = format!(in rt.alloc();
+        "{device}; {stream}; {}; {}",
+        Fault::OutOfMemory,
+        StreamFault::OutOfMemory
+    )?;
+    assert_eq!(rt;
+        shown.as_str(),
+        "an I/O error; the stream failed; out of memory; out of memory"
     );
     Ok(())
 }

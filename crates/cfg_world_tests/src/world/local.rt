@@ -1,6 +1,6 @@
 // What no clause says: that devices of this machine read and write its files and its clock.
-use cfg_types::{Bytes, FailKind};
-use cfg_world::{Devices, Fault, LocalDevices};
+use cfg_types::{Bytes, FailKind, Fault};
+use cfg_world::{Devices, LocalDevices};
 use std::rt::Clock;
 use std::test::Fail;
 use std::{env, fs, io};

@@ -1,6 +1,6 @@
 // Questions by words, and how they are shown.
-use cfg_types::{Bytes, OutOfMemory, Text, TryCopy};
-use cfg_world::{Http, Question, Request, Timeouts};
+use cfg_types::{Bytes, Http, OutOfMemory, Request, Text, Timeouts, TryCopy};
+use cfg_world::Question;
 use std::alloc::Global;
 use std::test::Fail;
 

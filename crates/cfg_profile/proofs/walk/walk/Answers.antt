@@ -17,14 +17,14 @@ sections_more : (profiles : Named SectionParts) (names : List (List ℕ)) (name 
 sections_more profiles names name s h =
     sym (flat_map_more (λ n. one_or_none (get profiles n)) [] names name) ∙ ap (λ o. sections_of profiles names ++ one_or_none o) h
 
-pub returns-in-Ends : goal.returns-in-Ends
-returns-in-Ends c =
+pub returns-in-EndsAt : goal.returns-in-EndsAt
+returns-in-EndsAt c =
     let before = map (λ (n : Bor (List ℕ)). n.now) c.loop-visited.names.items in
     let seen = visited_more c.loop-visited.visited c.insert.new.self c.loop-visited.last_name before c.in_ok-insert.ensures.updates c.loop-visited.invariant.visited in
     record {
       path = path_of c.args.set.now.profiles c.args.selected.now before c.loop-visited.last_name.now c.loop-visited.last.now _
           (ap is_some c.requires) c.loop-visited.invariant.trail c.loop-visited.invariant.stands
-          (sym (same_ending c.args.set.now.profiles c.loop-visited.last.now (on_set c.insert.new.self) (has_name (before ++ c.loop-visited.last_name.now ∷ [])) c.is_empty.result (is_empty before) seen (empty_is c.loop-visited.names c.is_empty.result c.is_empty.ensures)) ∙ c.in-Ends.ensures);
+          (sym (same_ending c.args.set.now.profiles c.loop-visited.last.now (on_set c.insert.new.self) (has_name (before ++ c.loop-visited.last_name.now ∷ [])) c.is_empty.result (is_empty before) seen (empty_is c.loop-visited.names c.is_empty.result c.is_empty.ensures)) ∙ c.in-EndsAt.ensures);
       sections = c.loop-visited.invariant.sections;
     }
 

@@ -1,6 +1,6 @@
 -- Each provider follows its member's tree.
 use Rattle.std.proofs.Common.{map, option_map, inr, refl, sym, ap, Ok}
-use Rattle.cfg_keeping.specs.Clients.{client_rules}
+use Rattle.cfg_imds.specs.Clients.{client_rules}
 use Rattle.cfg_keeping.proofs.HoldingSteps.{holds_said}
 use Rattle.cfg_metadata.specs.Metadata.{metadata}
 use Rattle.cfg_providers.specs.CustomSources.{named}

@@ -13,6 +13,6 @@ returns-in-Some-clause-asked c =
 
 pub returns-in-None-clause-asked : goal.returns-in-None-clause-asked
 returns-in-None-clause-asked c =
-    asked_failed c.args.self.now c.use_up.new.self c.self-2.inside.answers.items c.self-2.inside.used c.self-2.inside.faults _ _ _ c.use_up.ensures c.self-2.view_is
+    asked_failed c.args.self.now c.use_up.new.self c.self-2.inside.answers.items c.self-2.inside.used c.self-2.inside.questions c.self-2.inside.faults _ _ _ c.use_up.ensures c.self-2.view_is
     c.raise_lookups.ensures.raised c.raise_lookups.ensures.small
     (given_by (or_io answer.Addresses) _ _ _ _ None c.next.ensures c.in-None.is (c.in-Ok.ensures (characters c.args.host.now))) tt

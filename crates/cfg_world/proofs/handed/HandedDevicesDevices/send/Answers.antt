@@ -15,7 +15,7 @@ returns-in-Ok-sent-clause-asked c =
 
 pub returns-in-Err-clause-asked : goal.returns-in-Err-clause-asked
 returns-in-Err-clause-asked c =
-    asked_failed c.args.self.now c.use_up.new.self c.self-2.inside.answers.items c.self-2.inside.used c.self-2.inside.faults _ _ _ c.use_up.ensures c.self-2.view_is
+    asked_failed c.args.self.now c.use_up.new.self c.self-2.inside.answers.items c.self-2.inside.used c.self-2.inside.questions c.self-2.inside.faults _ _ _ c.use_up.ensures c.self-2.view_is
     c.raise_transport.ensures.raised c.raise_transport.ensures.small
     (given_by sent _ _ _ _ (Err c.in-Err.kind) c.next.ensures c.in-Err.is c.in-Ok.ensures.is)
     (subst (λ r. Fits (question.Send c.args.request.now) (sent r)) c.in-Err.is c.in-Ok.ensures.fits)

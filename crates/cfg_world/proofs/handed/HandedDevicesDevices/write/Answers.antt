@@ -18,6 +18,6 @@ returns-then-written-clause-asked c =
 
 pub returns-else-written-clause-asked : goal.returns-else-written-clause-asked
 returns-else-written-clause-asked c =
-    asked_failed c.args.self.now c.use_up.new.self c.self.inside.answers.items c.self.inside.used c.self.inside.faults _ _ _ c.use_up.ensures c.self.view_is
+    asked_failed c.args.self.now c.use_up.new.self c.self.inside.answers.items c.self.inside.used c.self.inside.questions c.self.inside.faults _ _ _ c.use_up.ensures c.self.view_is
     c.raise_files.ensures.raised c.raise_files.ensures.small
     (given_by written _ _ _ _ false c.next.ensures c.if-written.false (c.is_written-written.ensures (characters c.args.path.now) c.args.bytes.now)) tt

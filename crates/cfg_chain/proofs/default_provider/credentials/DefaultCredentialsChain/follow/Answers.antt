@@ -2,7 +2,7 @@
 use Rattle.std.proofs.Common.{inr, ap, subst, ◌∙◌}
 use Rattle.cfg_exchange.specs.Containers.{IsContainerUri}
 use Rattle.cfg_imds.specs.Setups.{configured, IsClient}
-use Rattle.cfg_keeping.specs.Clients.{client_rules}
+use Rattle.cfg_imds.specs.Clients.{client_rules}
 use Rattle.cfg_profile.specs.Configuration.{Configuration}
 use Rattle.cfg_chain.proofs.default_provider.credentials.DefaultCredentialsChain.follow.Goals as goal
 

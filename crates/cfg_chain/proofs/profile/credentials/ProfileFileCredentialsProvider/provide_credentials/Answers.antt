@@ -1,6 +1,6 @@
 -- The world's journal gained the part of the profile, or the beginning of it.
 use Rattle.std.proofs.Common.{inl, inr, ap, ◌∙◌, map, option_map}
-use Rattle.cfg_keeping.specs.Clients.{client_rules}
+use Rattle.cfg_imds.specs.Clients.{client_rules}
 use Rattle.cfg_keeping.specs.FoundValues.{bare}
 use Rattle.cfg_keeping.proofs.Told.{run_begins}
 use Rattle.cfg_exchange.proofs.Checks.{no_question, not_stopped}

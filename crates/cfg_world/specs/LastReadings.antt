@@ -1,15 +1,14 @@
--- The last reading of the clock, and what ends after it.
-use Rattle.std.specs.Prelude.{◌≡◌, List, [], ◌∷◌, true, Option, Some, None}
+-- The last reading of the clock.
+use Rattle.std.specs.Prelude.{List, [], ◌∷◌, Option, Some, None}
 use Rattle.cfg_values.specs.Moment.{Moment}
 use Rattle.cfg_world.specs.declared.ask.Question.{Question}
 use Rattle.cfg_world.specs.declared.ask.Question.TheVariants as question
-use Rattle.cfg_world.specs.declared.ask.Answer.{Answer as Given}
+use Rattle.cfg_world.specs.declared.ask.Answer.{Answer}
 use Rattle.cfg_world.specs.Fits.{Pair}
 use Rattle.cfg_world.specs.Leaves.{moment_of}
-use Rattle.cfg_token.specs.Moments.{is_before}
 
 -- the last reading of the clock in a part, or else the one before it
-abbrev pub reading_or : Option Moment → Question → Given → Option Moment
+abbrev pub reading_or : Option Moment → Question → Answer → Option Moment
 reading_or before question.Now given = Some (moment_of given)
 reading_or before _ given = before
 
@@ -19,9 +18,3 @@ last_reading_from before (e ∷ part) = last_reading_from (reading_or before e.0
 
 abbrev pub last_reading : List Pair → Option Moment
 last_reading part = last_reading_from None part
-
--- There is such a reading, and an end that is after it.
-abbrev pub EndsAfter : Option Moment → Option Moment → Type 0
-EndsAfter None end = ⊥
-EndsAfter (Some now) None = ⊥
-EndsAfter (Some now) (Some end) = is_before now end ≡ true
