@@ -1,7 +1,6 @@
 //! The calls of the program.
 ghost use Rattle.std.specs.Prelude.{◌≡◌, IfOk, OnOk, string_bytes};
 ghost use Rattle.cfg_keeping.specs.KeptStates.{states_of, kept_key};
-ghost use Rattle.cfg_types.specs.Classes.{is_memory};
 ghost use Rattle.cfg_chain.specs.profile.Plans.{key_of};
 ghost use Rattle.audit.specs.Audits.{IsAudit, TellsCall};
 
@@ -57,21 +56,12 @@ fn call<D: Devices>(
     let outcome = Outcome {
         answer: chain.provide_credentials(&[], None, kept, world),
     };
-    if is_out_of_memory(&outcome.answer) {
+    if cfg_types::is_memory(&outcome.answer) {
         return Err(OutOfMemory);
     }
     let line = line(alloc, &outcome.answer, world.journal())?;
     lines.push_str(line.as_str())?;
     Ok(())
-}
-
-fn is_out_of_memory(answer: &Result<Credentials, CredentialsError>) -> bool
-    ensures { result ≡ is_memory answer.now }
-{
-    match answer {
-        Err(CredentialsError::OutOfMemory) => true,
-        _ => false,
-    }
 }
 
 // What a call answered, which is let go by one call.

@@ -3,7 +3,6 @@ ghost use Rattle.std.specs.Prelude.{◌≡◌, true};
 ghost use Rattle.std.specs.Option.{option_copied};
 ghost use Rattle.cfg_keeping.specs.Holds.{HoldsFollows};
 ghost use Rattle.cfg_keeping.specs.KeptStates.{kept_holdings, kept_key};
-ghost use Rattle.cfg_sso.specs.BearerTokens.{is_memory as is_memory_of};
 ghost use Rattle.cfg_bearer.specs.Members.{asked_of, member_tree, needed_key};
 ghost use Rattle.cfg_bearer.specs.TokenAnswers.{is_not_loaded as is_not_loaded_error, none_loaded as none_loaded_of, is_memory_error};
 
@@ -12,7 +11,7 @@ use crate::default_provider::token::DefaultTokenChain;
 use crate::profile::token::ProfileFileTokenProvider;
 use cfg_keeping::Kept;
 use cfg_members::ChainMember;
-use cfg_sso::SsoTokenProvider;
+use cfg_sso::{SsoTokenProvider, is_memory};
 use cfg_token::TokenKey;
 use cfg_types::{ProviderChainError, Text, Token, TokenCause, TokenError, TryCopy};
 use cfg_world::{Asking, Stop};
@@ -78,12 +77,6 @@ impl TokenMember {
             }
         }
     }
-}
-
-fn is_memory(answer: &Result<Token, TokenError>) -> bool
-    ensures { result ≡ is_memory_of answer.now }
-{
-    matches!(answer, Err(TokenError::OutOfMemory))
 }
 
 /// A member with the name under which the chain tells of it.

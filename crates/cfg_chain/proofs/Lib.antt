@@ -24,3 +24,4 @@ pub mod SetRegions
 pub mod WhoAnswered
 pub mod WithoutRoles
 pub mod SignOns
+pub mod Sessions

@@ -1,5 +1,5 @@
 -- Who answered a call of the default chain, in its caller's words.
-use Rattle.std.specs.Prelude.{◌≡◌, List, [], ◌∷◌, ◌++◌, map, true, false, Err}
+use Rattle.std.specs.Prelude.{◌≡◌, List, ◌∷◌, ◌++◌, map, true, false, Err}
 use Rattle.std.specs.List.{AllByRecursion, flat_map}
 use Rattle.cfg_types.specs.declared.errors.CredentialsError.{CredentialsError}
 use Rattle.cfg_types.specs.declared.errors.ProviderAttempt.{ProviderAttempt}

@@ -11,3 +11,4 @@ pub mod Provides
 pub mod Setups
 pub mod Callers
 pub mod SignOns
+pub mod Sessions

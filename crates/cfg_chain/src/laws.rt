@@ -25,6 +25,7 @@ ghost use Rattle.cfg_chain.specs.Valid.{IsValid};
 ghost use Rattle.cfg_chain.specs.Provides.{IsCall, Provides, Interrupted};
 ghost use Rattle.cfg_chain.specs.Callers.{TellsWho};
 ghost use Rattle.cfg_chain.specs.SignOns.{PlansSignOn, SignsOn};
+ghost use Rattle.cfg_chain.specs.Sessions.{PlansSession, ReadsSession};
 ghost use Rattle.cfg_sso.specs.declared.config.SsoProviderConfig.{SsoProviderConfig as SignOn};
 ghost use Rattle.cfg_chain.specs.profile.Bases.{CanBeAsked};
 ghost use Rattle.cfg_chain.specs.profile.Plans.{Planned, profile_plan, plan, key_of_plan, key_of};
@@ -109,4 +110,12 @@ pub fn a_call_sends_no_expired_token<D: Devices>()
         PlansSignOn (plan conf (names_of lent.sources)) sso → Provides ⟦<D as Devices>⟧ conf lent old new found before later out → SignsOn conf sso found before.journal later.journal }
     ensures interrupted { (conf : Configuration) (lent : Lent) (sso : SignOn) (old new : States) (found : List Value) (before later : Held D) →
         PlansSignOn (plan conf (names_of lent.sources)) sso → Interrupted ⟦<D as Devices>⟧ conf lent old new found before later → SignsOn conf sso found before.journal later.journal }
+{}
+
+/// Where the selected profile's plan begins with a sign-in session, a call asks nothing, and is answered by the
+/// environment; or it begins with the session's part. The session's credentials, which are the call's or sign the
+/// first role, end after the last reading of the clock in this part.
+pub fn a_call_gives_no_expired_session<D: Devices>()
+    ensures { (conf : Configuration) (lent : Lent) (session : List ℕ) (old new : States) (found : List Value) (before later : Held D) (out : Answer) →
+        PlansSession (plan conf (names_of lent.sources)) session → Provides ⟦<D as Devices>⟧ conf lent old new found before later out → ReadsSession conf session found before.journal later.journal out }
 {}

@@ -1,4 +1,4 @@
-// What builders build, by scripts: a chain in its region, and a provider of a profile.
+//! What builders build, by scripts: a chain in its region, and a provider of a profile.
 use crate::setup::{Configured, Outcome, answer_words, answered, read_configuration};
 use cfg_chain::{DefaultCredentialsChain, ProfileFileCredentialsProvider};
 use cfg_profile::{ProfileSource, ProviderConfig};

@@ -1,5 +1,5 @@
-// What no clause says: worked examples of the definitions, and that calls succeed. A row's
-// configuration and devices stand in a script, as the program reads them.
+//! What no clause says: worked examples of the definitions, and that calls succeed. A row's
+//! configuration and devices stand in a script, as the program reads them.
 use crate::setup::{Setup, answered, questions, set_up};
 use cfg_types::OutOfMemory;
 use cfg_world::World;

@@ -1,5 +1,5 @@
-// Calls on one `Kept`: what they answer, how much they ask and find kept, and what stands in for a call
-// that is interrupted then.
+//! Calls on one `Kept`: what they answer, how much they ask and find kept, and what stands in for a call
+//! that is interrupted then.
 use crate::setup::{Setup, answer_words, called, set_up};
 use cfg_chain::DefaultCredentialsChain;
 use cfg_imds::Client;

@@ -1,5 +1,5 @@
-// What no clause says: the chain over devices of which one call fails, each in turn, and over each
-// beginning of the receipts of a call.
+//! What no clause says: the chain over devices of which one call fails, each in turn, and over each
+//! beginning of the receipts of a call.
 use crate::setup::{Setup, followed, set_up};
 use cfg_types::{OutOfMemory, Seq, TryCopy};
 use cfg_world::{Answers, Entry, FaultDevices, Receipt, ScriptDevices, World};

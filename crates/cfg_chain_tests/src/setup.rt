@@ -84,17 +84,14 @@ pub(crate) struct Configured {
 fn configure(alloc: Global, script: Script) -> Result<Configured, OutOfMemory>
     requires { AllFit (lists_of (plain script)) }
 {
-    let Script {
-        variables,
-        profiles,
-        selected,
-        region: _,
-        sleep,
-        calls: _,
-        devices,
-    } = script;
-    let config = config(alloc, variables, profiles, selected, sleep)?;
-    let world = World::new(alloc, ScriptDevices::new(alloc, devices)?);
+    let config = config(
+        alloc,
+        script.variables,
+        script.profiles,
+        script.selected,
+        script.sleep,
+    )?;
+    let world = World::new(alloc, ScriptDevices::new(alloc, script.devices)?);
     Ok(Configured { config, world })
 }
 

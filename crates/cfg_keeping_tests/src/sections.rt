@@ -77,17 +77,8 @@ where
     requires kind { T.rules.is_kind state.old.key ≡ true }
     requires fit { AllFit (lists_of (plain script)) }
 {
-    let Script {
-        variables,
-        profiles: _,
-        selected: _,
-        region: _,
-        sleep: _,
-        calls: _,
-        devices,
-    } = script;
-    let env = Env::new(alloc, variables)?;
-    two_sections(alloc, state, &env, devices)
+    let env = Env::new(alloc, script.variables)?;
+    two_sections(alloc, state, &env, script.devices)
 }
 
 /// What two sections of this state answer over the script, the state trimmed between them.

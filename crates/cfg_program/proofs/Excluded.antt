@@ -14,7 +14,7 @@ use Rattle.cfg_program.specs.declared.words.Word.TheVariants.{Help, Version, Res
 use Rattle.cfg_program.specs.declared.lines.LineForm.{LineForm}
 use Rattle.cfg_program.specs.declared.lines.LineForm.TheVariants as form
 use Rattle.cfg_program.specs.declared.input.TheConstants.{LIMIT}
-use Rattle.cfg_program.specs.Texts.{help_text, version_text}
+use Rattle.cfg_program.specs.declared.words.TheConstants.{HELP, VERSION}
 use Rattle.cfg_program.specs.Inputs.{IsTooLong}
 use Rattle.cfg_program.specs.Scripts.{reads_input, script_for, script_of_one_call}
 use Rattle.cfg_program.specs.Regions.{RegionAnswers}
@@ -289,8 +289,8 @@ module _ (handed : Handed) where
   pub alike : (one other : Seen) (word : Option Word) (s t : Status) → BytesAreKnown one → one.source.left ≡ other.source.left → GainTheSame one other → IsTrue (depends_on_input s) → IsTrue (depends_on_input t)
       → EndsRun one handed word s → EndsRun other handed word t → (s ≡ t) × AppendTheSame one other
   alike one other None s t known same gain u v a b = alike_for_words one.sink other.sink s t a b
-  alike one other (Some Help) s t known same gain u v a b = alike_telling one.sink other.sink help_text s t u v a b
-  alike one other (Some Version) s t known same gain u v a b = alike_telling one.sink other.sink version_text s t u v a b
+  alike one other (Some Help) s t known same gain u v a b = alike_telling one.sink other.sink HELP.now s t u v a b
+  alike one other (Some Version) s t known same gain u v a b = alike_telling one.sink other.sink VERSION.now s t u v a b
   alike one other (Some Resolve) s t known same gain u v a b = alike_reading script_of (Answers handed.sources form.Call) (one_answer handed form.Call) one other s t known same u v a b
   alike one other (Some Why) s t known same gain u v a b = alike_reading script_of (Answers handed.sources form.Why) (one_answer handed form.Why) one other s t known same u v a b
   alike one other (Some Region) s t known same gain u v a b = alike_reading script_of_one_call RegionAnswers one_region one other s t known same u v a b
@@ -300,8 +300,8 @@ module _ (handed : Handed) where
 
   pub exclude_one_another : (seen : Seen) (word : Option Word) (one other : Status) → BytesAreKnown seen → IsTrue (depends_on_input one) → IsTrue (depends_on_input other) → EndsRun seen handed word one → EndsRun seen handed word other → one ≡ other
   exclude_one_another seen None one other known t u a b = (alike_for_words seen.sink seen.sink one other a b).0
-  exclude_one_another seen (Some Help) one other known t u a b = (alike_telling seen.sink seen.sink help_text one other t u a b).0
-  exclude_one_another seen (Some Version) one other known t u a b = (alike_telling seen.sink seen.sink version_text one other t u a b).0
+  exclude_one_another seen (Some Help) one other known t u a b = (alike_telling seen.sink seen.sink HELP.now one other t u a b).0
+  exclude_one_another seen (Some Version) one other known t u a b = (alike_telling seen.sink seen.sink VERSION.now one other t u a b).0
   exclude_one_another seen (Some Resolve) one other known t u a b = (alike_reading script_of (Answers handed.sources form.Call) (one_answer handed form.Call) seen seen one other known refl t u a b).0
   exclude_one_another seen (Some Why) one other known t u a b = (alike_reading script_of (Answers handed.sources form.Why) (one_answer handed form.Why) seen seen one other known refl t u a b).0
   exclude_one_another seen (Some Region) one other known t u a b = (alike_reading script_of_one_call RegionAnswers one_region seen seen one other known refl t u a b).0
@@ -376,8 +376,8 @@ local_comes sink world handed status.NotBuilt ends = absurd ends.written
 
 pub run_comes : (seen : Seen) (handed : Handed) (word : Option Word) (s : Status) → EndsRun seen handed word s → IsTrue (comes s)
 run_comes seen handed None s ends = words_come seen.sink s ends
-run_comes seen handed (Some Help) s ends = telling_comes seen.sink help_text s ends
-run_comes seen handed (Some Version) s ends = telling_comes seen.sink version_text s ends
+run_comes seen handed (Some Help) s ends = telling_comes seen.sink HELP.now s ends
+run_comes seen handed (Some Version) s ends = telling_comes seen.sink VERSION.now s ends
 run_comes seen handed (Some Resolve) s ends = reading_comes seen.source seen.sink script_of (Answers handed.sources form.Call) s ends
 run_comes seen handed (Some Why) s ends = reading_comes seen.source seen.sink script_of (Answers handed.sources form.Why) s ends
 run_comes seen handed (Some Region) s ends = reading_comes seen.source seen.sink script_of_one_call RegionAnswers s ends

@@ -1,7 +1,6 @@
 pub mod Statuses
 pub mod Words
 pub mod Scripts
-pub mod Texts
 pub mod Streams
 pub mod Inputs
 pub mod CauseLines

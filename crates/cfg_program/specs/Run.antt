@@ -9,7 +9,7 @@ use Rattle.cfg_program.specs.declared.status.Status.TheVariants as status
 use Rattle.cfg_program.specs.declared.words.Word.{Word}
 use Rattle.cfg_program.specs.declared.words.Word.TheVariants.{Help, Version, Resolve, Why, Region, Token, Local, Generate}
 use Rattle.cfg_program.specs.declared.lines.LineForm.TheVariants as form
-use Rattle.cfg_program.specs.Texts.{help_text, version_text}
+use Rattle.cfg_program.specs.declared.words.TheConstants.{HELP, VERSION}
 use Rattle.cfg_program.specs.declared.input.TheConstants.{LIMIT}
 use Rattle.cfg_program.specs.Streams.{GrowsByPrefix}
 use Rattle.cfg_program.specs.Inputs.{IsTooLong}
@@ -146,8 +146,8 @@ EndsForWords sink _ = ⊥
 -- how a run ends to which this is handed, and that is asked for this, or for nothing that is known
 abbrev pub EndsRun : Seen → Handed → Option Word → Status → Type 0
 EndsRun seen handed None ended = EndsForWords seen.sink ended
-EndsRun seen handed (Some Help) ended = EndsTelling seen.sink help_text ended
-EndsRun seen handed (Some Version) ended = EndsTelling seen.sink version_text ended
+EndsRun seen handed (Some Help) ended = EndsTelling seen.sink HELP.now ended
+EndsRun seen handed (Some Version) ended = EndsTelling seen.sink VERSION.now ended
 EndsRun seen handed (Some Resolve) ended = EndsReading seen.source seen.sink (script_for Resolve) (Answers handed.sources form.Call) ended
 EndsRun seen handed (Some Why) ended = EndsReading seen.source seen.sink (script_for Why) (Answers handed.sources form.Why) ended
 EndsRun seen handed (Some Region) ended = EndsReading seen.source seen.sink (script_for Region) RegionAnswers ended

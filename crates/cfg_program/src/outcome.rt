@@ -40,18 +40,9 @@ pub fn tell(
     ensures credentials { IfOk result (λ b. b ≡ is_ok outcome.now) }
     ensures line { IfOk result (λ b. lines.new.items ≡ lines.old.items ++ shown_as form outcome.now journal.now) }
 {
-    if is_out_of_memory(outcome) {
+    if cfg_types::is_memory(outcome) {
         return Err(OutOfMemory);
     }
     write_call(lines, form, outcome, journal)?;
     Ok(outcome.is_ok())
-}
-
-fn is_out_of_memory(outcome: &Result<Credentials, CredentialsError>) -> bool
-    ensures { result ≡ is_memory outcome.now }
-{
-    match outcome {
-        Err(CredentialsError::OutOfMemory) => true,
-        _ => false,
-    }
 }

@@ -97,20 +97,11 @@ fn tell(
     ensures token { IfOk result (λ b. b ≡ is_ok outcome.now) }
     ensures line { IfOk result (λ b. lines.new.items ≡ lines.old.items ++ shown_token outcome.now journal.now) }
 {
-    if is_out_of_memory(outcome) {
+    if cfg_sso::is_memory(outcome) {
         return Err(OutOfMemory);
     }
     write_token(lines, outcome, journal)?;
     Ok(outcome.is_ok())
-}
-
-fn is_out_of_memory(outcome: &Result<Token, TokenError>) -> bool
-    ensures { result ≡ is_memory outcome.now }
-{
-    match outcome {
-        Err(TokenError::OutOfMemory) => true,
-        _ => false,
-    }
 }
 
 // What the call came to, and the kinds of the questions.

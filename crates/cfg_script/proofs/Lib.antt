@@ -9,3 +9,4 @@ pub mod Fitting
 pub mod Placing
 pub mod InPlace
 pub mod Refusing
+pub mod Ways

@@ -13,6 +13,7 @@ pub mod Alone
 pub mod Settings
 pub mod Reading
 pub mod Telling
+pub mod FaultTexts
 pub mod Gives
 pub mod Held
 pub mod Devices

@@ -4,7 +4,6 @@ ghost use Rattle.cfg_script.specs.Faults.{here as here_wanting, within as within
 
 use cfg_types::{OutOfMemory, Seq, Text};
 use std::alloc::Global;
-use std::fmt;
 
 /// A step of the way from a script's object to a value in it.
 #[derive(Drop)]
@@ -177,92 +176,5 @@ pub(crate) fn name_fault(
     match name {
         None => Ok(None),
         Some(name) => under_name(alloc, name, Some(here(alloc, wanted))),
-    }
-}
-
-impl fmt::Display for Wanted {
-    fn fmt<W: fmt::Write>(&self, f: &mut fmt::Formatter<W>) -> fmt::Result {
-        f.write_str(match self {
-            Wanted::Object => "a script is one JSON object",
-            Wanted::KnownName => "no member of this name belongs here",
-            Wanted::Present => "this member has to be there",
-            Wanted::List => "a list is wanted",
-            Wanted::Text => "a text is wanted",
-            Wanted::Truth => "true or false is wanted",
-            Wanted::TextOrNull => "a text or null is wanted",
-            Wanted::Variable => "a variable is [name, text] or [name, null]",
-            Wanted::Section => "a section is [name, list of properties]",
-            Wanted::Property => "a property is [key, value]",
-            Wanted::RefusedAlone => "no profiles and no sessions stand beside refused",
-            Wanted::Calls => "calls are a whole number from 1 to 100",
-            Wanted::File => "a file is [path, content] or [path, null]",
-            Wanted::Content => "a content is a text or {\"hex\": digits}",
-            Wanted::HexDigits => "two hexadecimal digits for each byte are wanted",
-            Wanted::Moment => "a moment is whole seconds or [seconds, nanos]",
-            Wanted::ClockMoment => {
-                "a moment of the clock is whole seconds or [seconds, nanos], from 0 on"
-            }
-            Wanted::Natural => "a whole number of 64 bits without sign is wanted",
-            Wanted::Whole => "a whole number of 64 bits with sign is wanted",
-            Wanted::Command => "a command is [status, output, errors] or \"fail\"",
-            Wanted::CommandStatus => "a status is a whole number of 32 bits with sign",
-            Wanted::LookUp => "a look-up is a list of addresses or \"fail\"",
-            Wanted::Address => "an address is wanted",
-            Wanted::Replies => "replies are an object of lists",
-            Wanted::HttpReply => {
-                "a reply of HTTP is [status, headers, content], \"dispatch\", \"timeout\" or \"broken\""
-            }
-            Wanted::HttpStatus => "a status of HTTP is a whole number from 100 to 599",
-            Wanted::Header => "a header is [name, value]",
-            Wanted::HeaderName => "a header name is wanted",
-            Wanted::Reply => {
-                "a reply is what the service grants, a refusal, null where it may be, \"dispatch\", \"timeout\" or \"broken\""
-            }
-            Wanted::RefusalKind => {
-                "a refusal is RegionDisabled, MalformedPolicyDocument, InsufficientPermissions, TokenExpired, UserCredentialsChanged or Other"
-            }
-        })
-    }
-}
-
-// A name that could be taken for something else, or that breaks the line, is quoted.
-fn write_name<W: fmt::Write>(f: &mut fmt::Formatter<W>, name: &str) -> fmt::Result {
-    let is_plain = |byte: &u8| byte.is_ascii_alphanumeric() || *byte == b'-' || *byte == b'_';
-    if !name.is_empty() && name.as_bytes().iter().all(is_plain) {
-        f.write_str(name)
-    } else {
-        write!(f, "{name:?}")
-    }
-}
-
-impl fmt::Display for Fault {
-    fn fmt<W: fmt::Write>(&self, f: &mut fmt::Formatter<W>) -> fmt::Result {
-        let mut dot = "";
-        for step in self.path.as_slice() {
-            match step {
-                Step::Member(name) => {
-                    f.write_str(dot)?;
-                    write_name(f, name.as_str())?;
-                }
-                Step::Item(place) => write!(f, "[{place}]")?,
-            }
-            dot = ".";
-        }
-        if !self.path.as_slice().is_empty() {
-            f.write_str(": ")?;
-        }
-        let wanted = self.wanted;
-        write!(f, "{wanted}")
-    }
-}
-
-impl fmt::Display for ScriptFault {
-    fn fmt<W: fmt::Write>(&self, f: &mut fmt::Formatter<W>) -> fmt::Result {
-        match self {
-            ScriptFault::NoJson(Position { line, column }) => {
-                write!(f, "line {line}, column {column}: no JSON")
-            }
-            ScriptFault::Form(fault) => write!(f, "{fault}"),
-        }
     }
 }

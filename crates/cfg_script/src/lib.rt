@@ -21,6 +21,7 @@ mod replies;
 mod script;
 mod sections;
 mod settings;
+mod shown;
 mod table;
 mod telling;
 mod value;

@@ -16,4 +16,4 @@ pub mod token;
 pub use cfg_types::{CredentialsError, OutOfMemory, TokenError};
 pub use config::SsoProviderConfig;
 pub use credentials::{SsoCredentialsProvider, follow_sso};
-pub use token::{SsoTokenProvider, follow_bearer};
+pub use token::{SsoTokenProvider, follow_bearer, is_memory};

@@ -5,7 +5,7 @@ ghost use Rattle.cfg_values.specs.Text.{characters};
 ghost use Rattle.cfg_token.specs.SsoTokens.{is_sso};
 ghost use Rattle.cfg_keeping.specs.Holds.{HoldsFollows, HoldsBreaks};
 ghost use Rattle.cfg_profile.specs.Configuration.{nothing_configured};
-ghost use Rattle.cfg_sso.specs.BearerTokens.{bearer as bearer_of, bearer_token, is_memory};
+ghost use Rattle.cfg_sso.specs.BearerTokens.{bearer as bearer_of, bearer_token, is_memory as is_memory_of};
 ghost use Rattle.cfg_sso.specs.SsoSetups.{nothing_named, is_named, IsKeyOf};
 ghost use Rattle.cfg_sso.specs.Provides.{ProvidesBearer};
 
@@ -250,8 +250,8 @@ impl SsoTokenProvider {
         world: &mut World<D>,
     ) -> Result<Token, TokenError>
         requires { P.key_held keeper.old ≡ Some self.now.key }
-        ensures provides { is_memory result ≡ false → ProvidesBearer ⟦<World<D> as Asking>⟧ self.now.configuration self.now.key world.old (P.holdings keeper.old) world.new (P.holdings keeper.new) result }
-        ensures stays { is_memory result ≡ true → HoldsBreaks ⟦<World<D> as Asking>⟧ (bearer_token self.now.configuration self.now.key) world.old (P.holdings keeper.old) world.new (P.holdings keeper.new) }
+        ensures provides { is_memory_of result ≡ false → ProvidesBearer ⟦<World<D> as Asking>⟧ self.now.configuration self.now.key world.old (P.holdings keeper.old) world.new (P.holdings keeper.new) result }
+        ensures stays { is_memory_of result ≡ true → HoldsBreaks ⟦<World<D> as Asking>⟧ (bearer_token self.now.configuration self.now.key) world.old (P.holdings keeper.old) world.new (P.holdings keeper.new) }
         ensures key { P.key_held keeper.new ≡ P.key_held keeper.old }
     {
         match self.follow(keeper, world) {
@@ -259,6 +259,13 @@ impl SsoTokenProvider {
             Err(_) => Err(TokenError::OutOfMemory),
         }
     }
+}
+
+/// Whether an answer says that memory ran out.
+pub fn is_memory(answer: &Result<Token, TokenError>) -> bool
+    ensures { result ≡ is_memory_of answer.now }
+{
+    matches!(answer, Err(TokenError::OutOfMemory))
 }
 
 /// One section of the token of this key, which the keeper has, as a bearer token: the body of

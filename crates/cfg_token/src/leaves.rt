@@ -1,4 +1,4 @@
-// One question at a time. Its receipt is kept.
+//! One question at a time. Its receipt is kept.
 ghost use Rattle.std.specs.Prelude.{◌≡◌, true, ◌++◌, ◌∷◌, [], OnOk};
 ghost use Rattle.cfg_world.specs.Leaves.{clock};
 ghost use Rattle.cfg_token.specs.Notes.{Notes};

@@ -1,4 +1,4 @@
-// The steps of a load.
+//! The steps of a load.
 ghost use Rattle.std.specs.Prelude.{◌≡◌, true, Err, None};
 ghost use Rattle.cfg_token.specs.Notes.{Notes};
 ghost use Rattle.cfg_token.specs.Sections.{saves, refreshes, judges, load as load_of, or_unsaved, while_it_lasts, gives};

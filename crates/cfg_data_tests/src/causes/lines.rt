@@ -1,4 +1,4 @@
-// What no clause says: what the errors of members come of, line by line and in one line.
+//! What no clause says: what the errors of members come of, line by line and in one line.
 use cfg_causes::{causes_of, token_causes_of};
 use cfg_types::imds::{BuildError, FailedToLoadToken, ImdsError, UnexpectedCause};
 use cfg_types::{

@@ -1,4 +1,4 @@
-// What no clause says: worked examples of dates, those of RFC 3339 and of the calendar's ends.
+//! What no clause says: worked examples of dates, those of RFC 3339 and of the calendar's ends.
 use cfg_json::{parse_date, parse_offset_date, write_date};
 use cfg_types::{Instant, OutOfMemory};
 use std::alloc::Global;

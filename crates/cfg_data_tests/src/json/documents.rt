@@ -1,4 +1,4 @@
-// What no clause says: the documents that the crate's own tests have, and printed texts.
+//! What no clause says: the documents that the crate's own tests have, and printed texts.
 use cfg_json::{parse_credential_process_json_credentials, parse_json_credentials};
 use cfg_types::{AccountId, OutOfMemory};
 use std::alloc::{AllocError, Global};

@@ -1,4 +1,4 @@
-// What no clause says: worked examples, and cases that suites of JSON parsers have.
+//! What no clause says: worked examples, and cases that suites of JSON parsers have.
 use cfg_json::{Member, MemberValue, members, only_members};
 use std::alloc::{AllocError, Global};
 use std::test::Fail;

@@ -1,4 +1,4 @@
-// What no clause says: the texts of a path's errors, and that calls succeed.
+//! What no clause says: the texts of a path's errors, and that calls succeed.
 use crate::profile::sets::set_of;
 use cfg_profile::{ProfileChain, ProfileSet, generated_set, plan_of, region_of, resolve_chain};
 use cfg_types::{OutOfMemory, ProfileFileError};

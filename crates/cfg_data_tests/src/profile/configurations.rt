@@ -1,4 +1,4 @@
-// What no clause says: that settings are taken over, in an example.
+//! What no clause says: that settings are taken over, in an example.
 use crate::profile::sets::set_of;
 use cfg_profile::{ProfileSource, ProviderConfig, call_settings, selected_name};
 use cfg_types::{BehaviorVersion, OutOfMemory, Region, RetryConfig, Timeouts, TryCopy};

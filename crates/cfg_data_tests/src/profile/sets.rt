@@ -1,4 +1,4 @@
-// Sets of profiles, written shortly: `NAME:KEY=VALUE,KEY=VALUE;NAME:..`, where `~NAME` is a session.
+//! Sets of profiles, written shortly: `NAME:KEY=VALUE,KEY=VALUE;NAME:..`, where `~NAME` is a session.
 use cfg_profile::{ProfileSet, Section};
 use cfg_types::OutOfMemory;
 use std::alloc::Global;

@@ -1,5 +1,5 @@
-// What no clause says: that the definition is the script that was meant, what is told of bytes that are
-// none, and that reading succeeds.
+//! What no clause says: that the definition is the script that was meant, what is told of bytes that are
+//! none, and that reading succeeds.
 use cfg_script::{ScriptError, find_fault, read_script};
 use cfg_types::OutOfMemory;
 use std::alloc::Global;

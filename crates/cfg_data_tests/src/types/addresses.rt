@@ -1,4 +1,4 @@
-// Texts that are addresses, those of RFC 4291, sections 2.2 to 2.5, among them, and texts that are none.
+//! Texts that are addresses, those of RFC 4291, sections 2.2 to 2.5, among them, and texts that are none.
 use cfg_types::Address;
 use std::test::Fail;
 

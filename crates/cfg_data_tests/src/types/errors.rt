@@ -1,5 +1,5 @@
-// What no clause says: the texts of errors that no script leads to. Those of the others stand in the
-// tables of the calls that answer them, and in those of the program.
+//! What no clause says: the texts of errors that no script leads to. Those of the others stand in the
+//! tables of the calls that answer them, and in those of the program.
 use cfg_types::imds::{BuildError, ImdsError, InvalidEndpointMode};
 use cfg_types::{
     CachedSsoTokenError, CredentialsError, InvalidFullUriError, InvalidJsonCredentials, JsonError,

@@ -1,4 +1,4 @@
-// Replies by their kinds, each with its secrets.
+//! Replies by their kinds, each with its secrets.
 use cfg_types::{
     Bytes, Header, HttpReply, Instant, OutOfMemory, Refusal, RefusalKind, Reply, RoleCredentials,
     RoleReply, Seq, SignInReply, SignInToken, StsCredentials, StsReply, Text, TokenReply,

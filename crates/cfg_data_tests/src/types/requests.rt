@@ -1,4 +1,4 @@
-// Requests by their kinds, each with its secrets.
+//! Requests by their kinds, each with its secrets.
 use cfg_types::{
     AccountId, AssumeRole, AssumeRoleWithWebIdentity, AwsCredentialFeature, Bytes, CallSettings,
     CreateOAuth2Token, CreateToken, Credentials, CredentialsBuilder, GetRoleCredentials, Http,

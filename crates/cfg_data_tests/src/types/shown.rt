@@ -1,5 +1,5 @@
-// What no clause says: printed texts, that no secret is shown, also on several lines, and that copies
-// succeed.
+//! What no clause says: printed texts, that no secret is shown, also on several lines, and that copies
+//! succeed.
 use crate::types::{replies, requests};
 use cfg_types::{
     Bytes, Finished, Instant, OutOfMemory, Reply, Request, SensitiveString, Text, Token, TryCopy,

@@ -1,4 +1,4 @@
-// What no clause says: which characters are white space.
+//! What no clause says: which characters are white space.
 use cfg_types::{is_blank, trimmed};
 use std::test::Fail;
 

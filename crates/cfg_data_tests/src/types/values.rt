@@ -1,4 +1,4 @@
-// What no clause says: worked examples of the definitions, and that calls succeed.
+//! What no clause says: worked examples of the definitions, and that calls succeed.
 use cfg_types::{CommandWithSensitiveArgs, Env, EnvText, Instant, OutOfMemory, Text};
 use std::alloc::{AllocError, Global};
 use std::test::Fail;

@@ -1,4 +1,4 @@
-// What no clause says: worked examples of a role over a base, and that calls succeed.
+//! What no clause says: worked examples of a role over a base, and that calls succeed.
 use crate::assume_role::setup::{Setup, set_up};
 use cfg_assume_role::{AssumeRoleProvider, AssumeRoleProviderBuilder, RoleBase};
 use cfg_profile::ProviderConfig;

@@ -30,16 +30,7 @@ fn set_up_over(
 fn set_up_by(alloc: Global, script: Script) -> Result<Setup, OutOfMemory>
     requires { AllFit (lists_of (plain script)) }
 {
-    let Script {
-        variables,
-        profiles: _,
-        selected: _,
-        region: _,
-        sleep: _,
-        calls: _,
-        devices,
-    } = script;
-    set_up_over(alloc, variables, devices)
+    set_up_over(alloc, script.variables, script.devices)
 }
 
 /// The variables of a script, and a world over the devices that it scripts. None for what is no script.

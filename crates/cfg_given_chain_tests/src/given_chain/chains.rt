@@ -1,4 +1,4 @@
-// Chains over given members: what a call answers, what the chain then falls back on, and what was asked.
+//! Chains over given members: what a call answers, what the chain then falls back on, and what was asked.
 use crate::given_chain::own::{Failing, Sparing};
 use crate::given_chain::setup::{Outcome, Setup, kinds, set_up, words_of};
 use cfg_assume_role::{AssumeRoleProvider, RoleBase};

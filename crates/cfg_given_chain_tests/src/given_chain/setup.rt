@@ -6,7 +6,7 @@ ghost use Rattle.cfg_script.specs.Devices.{lists_of};
 use cfg_profile::ProviderConfig;
 use cfg_script::{Script, read_script};
 use cfg_types::{Credentials, CredentialsError, Env, EnvText, OutOfMemory, Request};
-use cfg_world::{DeviceLists, Entry, Question, ScriptDevices, World};
+use cfg_world::{Entry, Question, ScriptDevices, World};
 use std::alloc::{AllocError, Global};
 
 /// A configuration, and devices for its calls.
@@ -15,26 +15,11 @@ pub(crate) struct Setup {
     pub(crate) devices: ScriptDevices,
 }
 
-fn devices(alloc: Global, lists: DeviceLists) -> Result<ScriptDevices, OutOfMemory>
-    requires { AllFit lists }
-{
-    ScriptDevices::new(alloc, lists)
-}
-
 fn set_up_by(alloc: Global, script: Script) -> Result<Setup, OutOfMemory>
     requires { AllFit (lists_of (plain script)) }
 {
-    let Script {
-        variables,
-        profiles: _,
-        selected: _,
-        region: _,
-        sleep: _,
-        calls: _,
-        devices: lists,
-    } = script;
-    let devices = devices(alloc, lists)?;
-    let config = ProviderConfig::empty(alloc)?.with_env(Env::new(alloc, variables)?);
+    let devices = ScriptDevices::new(alloc, script.devices)?;
+    let config = ProviderConfig::empty(alloc)?.with_env(Env::new(alloc, script.variables)?);
     Ok(Setup { config, devices })
 }
 

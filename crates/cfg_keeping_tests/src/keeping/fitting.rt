@@ -1,4 +1,4 @@
-// Which keys what is kept for a key fits.
+//! Which keys what is kept for a key fits.
 use cfg_keeping::{Kept, TokenKey};
 use cfg_types::{OutOfMemory, Region, Text};
 use std::alloc::Global;

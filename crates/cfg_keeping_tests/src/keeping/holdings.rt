@@ -1,5 +1,5 @@
-// Holdings of each kind over scripts, two on one keeper: what they answer, how much they ask, and how
-// much was found.
+//! Holdings of each kind over scripts, two on one keeper: what they answer, how much they ask, and how
+//! much was found.
 ghost use Rattle.std.specs.Prelude.{◌≡◌, true, IfOk, None as none};
 ghost use Rattle.cfg_imds.specs.Clients.{endpoint_fault, client_rules};
 ghost use Rattle.cfg_keeping.specs.KeptStates.{kept_key};
@@ -152,17 +152,8 @@ fn words_by(alloc: Global, kind: &str, env: &Env, lists: DeviceLists) -> Result<
 fn words_over(alloc: Global, kind: &str, script: Script) -> Result<String, OutOfMemory>
     requires { AllFit (lists_of (plain script)) }
 {
-    let Script {
-        variables,
-        profiles: _,
-        selected: _,
-        region: _,
-        sleep: _,
-        calls: _,
-        devices,
-    } = script;
-    let env = Env::new(alloc, variables)?;
-    words_by(alloc, kind, &env, devices)
+    let env = Env::new(alloc, script.variables)?;
+    words_by(alloc, kind, &env, script.devices)
 }
 
 fn words_of(alloc: Global, kind: &str, script: &str) -> Result<String, OutOfMemory> {

@@ -1,4 +1,4 @@
-// The text of a token's file, read and written again, and what is shown of the token.
+//! The text of a token's file, read and written again, and what is shown of the token.
 use cfg_login::{LoginToken, parse_cached_login_token, write_cached_login_token};
 use std::alloc::{AllocError, Global};
 use std::test::Fail;

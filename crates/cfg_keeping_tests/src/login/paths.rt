@@ -1,4 +1,4 @@
-// Where a token's file lies, with the digests that FIPS 180 and sha256sum give.
+//! Where a token's file lies, with the digests that FIPS 180 and sha256sum give.
 use cfg_login::cached_login_token_path;
 use std::test::Fail;
 

@@ -1,4 +1,4 @@
-// Where a token's file lies, with the digests that FIPS 180 and sha1sum give.
+//! Where a token's file lies, with the digests that FIPS 180 and sha1sum give.
 use cfg_token::cached_sso_token_path;
 use std::test::Fail;
 

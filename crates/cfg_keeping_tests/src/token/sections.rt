@@ -1,4 +1,4 @@
-// Sections over scripts: what they answer, note and keep.
+//! Sections over scripts: what they answer, note and keep.
 ghost use Rattle.std.specs.Prelude.{◌≡◌, true, IfOk};
 ghost use Rattle.cfg_token.specs.SsoTokens.{is_sso};
 

@@ -1,4 +1,4 @@
-// The builder of the default chain: what building asks for the region, and what a call gives.
+//! The builder of the default chain: what building asks for the region, and what a call gives.
 use crate::bearer::defaults::first_words;
 use crate::bearer::setup::{FILES, SESSIONS, Setup, asked, set_up};
 use cfg_bearer::DefaultTokenChain;

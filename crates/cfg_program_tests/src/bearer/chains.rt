@@ -1,4 +1,4 @@
-// Chains over given members.
+//! Chains over given members.
 use crate::bearer::own::{Having, Lacking, Late};
 use crate::bearer::setup::{FILES, Handed, SESSIONS, Setup, asked, set_up, token_words};
 use cfg_bearer::{ProfileFileTokenProvider, TokenMember, TokenProviderChain};

@@ -1,4 +1,4 @@
-// The default chain over scripts: what building it asks, and what its calls answer and ask.
+//! The default chain over scripts: what building it asks, and what its calls answer and ask.
 ghost use Rattle.std.specs.Prelude.{◌≡◌};
 ghost use Rattle.cfg_keeping.specs.KeptStates.{kept_key};
 ghost use Rattle.cfg_bearer.specs.Sessions.{session_key};

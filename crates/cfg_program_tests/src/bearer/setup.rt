@@ -6,7 +6,7 @@ ghost use Rattle.cfg_script.specs.Devices.{lists_of};
 use cfg_profile::{ProfileSet, ProfileSource, ProviderConfig, Section};
 use cfg_script::{Script, ScriptProfiles, read_script};
 use cfg_types::{Env, EnvText, OutOfMemory, Request, Token, TokenError};
-use cfg_world::{DeviceLists, Entry, Question, ScriptDevices, World};
+use cfg_world::{Entry, Question, ScriptDevices, World};
 use std::alloc::{AllocError, Global};
 
 /// A configuration, and devices for its calls.
@@ -49,26 +49,11 @@ fn configuration(
     Ok(config)
 }
 
-fn devices(alloc: Global, lists: DeviceLists) -> Result<ScriptDevices, OutOfMemory>
-    requires { AllFit lists }
-{
-    ScriptDevices::new(alloc, lists)
-}
-
 fn set_up_by(alloc: Global, script: Script) -> Result<Setup, OutOfMemory>
     requires { AllFit (lists_of (plain script)) }
 {
-    let Script {
-        variables,
-        profiles,
-        selected: _,
-        region: _,
-        sleep: _,
-        calls: _,
-        devices: lists,
-    } = script;
-    let devices = devices(alloc, lists)?;
-    let config = configuration(alloc, variables, profiles)?;
+    let devices = ScriptDevices::new(alloc, script.devices)?;
+    let config = configuration(alloc, script.variables, script.profiles)?;
     Ok(Setup { config, devices })
 }
 

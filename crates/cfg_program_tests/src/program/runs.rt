@@ -1,5 +1,5 @@
-// What no clause says: worked examples of the definitions, how often a source is read and a sink
-// written, and that calls succeed.
+//! What no clause says: worked examples of the definitions, how often a source is read and a sink
+//! written, and that calls succeed.
 ghost use Rattle.std.specs.Prelude.{◌<◌};
 
 use crate::program::own::own_source;

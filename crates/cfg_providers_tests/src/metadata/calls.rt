@@ -1,4 +1,4 @@
-// Calls on one kept state, by their places and roles.
+//! Calls on one kept state, by their places and roles.
 use crate::metadata::setup::words_of;
 use std::test::Fail;
 

@@ -89,16 +89,7 @@ fn words_by(alloc: Global, lists: DeviceLists, calls: &[&str]) -> Result<String,
 fn words_over(alloc: Global, script: Script, calls: &[&str]) -> Result<String, OutOfMemory>
     requires { AllFit (lists_of (plain script)) }
 {
-    let Script {
-        variables: _,
-        profiles: _,
-        selected: _,
-        region: _,
-        sleep: _,
-        calls: _,
-        devices,
-    } = script;
-    words_by(alloc, devices, calls)
+    words_by(alloc, script.devices, calls)
 }
 
 /// What these calls answer over a script, and how many questions each asks, a line each.

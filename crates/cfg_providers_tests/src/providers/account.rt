@@ -1,4 +1,4 @@
-// The accounts that ARNs name.
+//! The accounts that ARNs name.
 use cfg_providers::parse_account_id;
 use cfg_types::OutOfMemory;
 use std::alloc::Global;

@@ -1,4 +1,4 @@
-// Each provider over a script: what it answers, and what it asks.
+//! Each provider over a script: what it answers, and what it asks.
 ghost use Rattle.cfg_script.specs.Devices.{lists_of};
 ghost use Rattle.cfg_script.specs.Script.{plain};
 ghost use Rattle.cfg_world.specs.Script.{AllFit};
@@ -153,17 +153,8 @@ fn words_by(
 fn words_over(alloc: Global, provider: &str, script: Script) -> Result<String, OutOfMemory>
     requires { AllFit (lists_of (plain script)) }
 {
-    let Script {
-        variables,
-        profiles: _,
-        selected: _,
-        region: _,
-        sleep: _,
-        calls: _,
-        devices,
-    } = script;
-    let env = Env::new(alloc, variables)?;
-    words_by(alloc, provider, env, devices)
+    let env = Env::new(alloc, script.variables)?;
+    words_by(alloc, provider, env, script.devices)
 }
 
 fn words_of(alloc: Global, provider: &str, script: &str) -> Result<String, OutOfMemory> {

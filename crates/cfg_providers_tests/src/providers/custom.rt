@@ -1,4 +1,4 @@
-// Which source a name means, and what it answers.
+//! Which source a name means, and what it answers.
 use cfg_providers::{CustomSource, ProvideCredentials, names_of, provide_by_name};
 use cfg_types::{Credentials, CredentialsError, NotLoadedCause, OutOfMemory, Text, TryCopy};
 use std::alloc::Global;

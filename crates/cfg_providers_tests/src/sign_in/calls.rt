@@ -1,4 +1,4 @@
-// Calls for the session `abc` over scripts: what they answer, and how much they ask.
+//! Calls for the session `abc` over scripts: what they answer, and how much they ask.
 ghost use Rattle.std.specs.Prelude.{◌≡◌, Some};
 ghost use Rattle.cfg_keeping.specs.KeptStates.{kept_key};
 ghost use Rattle.cfg_script.specs.Devices.{lists_of};
@@ -109,18 +109,9 @@ fn words_by(
 fn words_over(alloc: Global, by: AskedBy, script: Script) -> Result<String, OutOfMemory>
     requires { AllFit (lists_of (plain script)) }
 {
-    let Script {
-        variables,
-        profiles: _,
-        selected: _,
-        region: _,
-        sleep: _,
-        calls: _,
-        devices,
-    } = script;
-    let env = Env::new(alloc, variables)?;
+    let env = Env::new(alloc, script.variables)?;
     let config = ProviderConfig::empty(alloc)?.with_env(env);
-    words_by(alloc, by, &config, devices)
+    words_by(alloc, by, &config, script.devices)
 }
 
 fn words_of(alloc: Global, by: AskedBy, script: &str) -> Result<String, OutOfMemory> {

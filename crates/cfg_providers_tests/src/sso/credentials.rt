@@ -1,5 +1,5 @@
-// Credentials and bearer tokens of IAM Identity Center over scripts: what a call answers, and how much it
-// asks.
+//! Credentials and bearer tokens of IAM Identity Center over scripts: what a call answers, and how much it
+//! asks.
 ghost use Rattle.cfg_script.specs.Devices.{lists_of};
 ghost use Rattle.cfg_script.specs.Script.{plain};
 ghost use Rattle.cfg_world.specs.Script.{AllFit};
@@ -135,18 +135,9 @@ fn words_by(
 fn words_over(alloc: Global, kind: &str, script: Script) -> Result<String, OutOfMemory>
     requires { AllFit (lists_of (plain script)) }
 {
-    let Script {
-        variables,
-        profiles: _,
-        selected: _,
-        region: _,
-        sleep: _,
-        calls: _,
-        devices,
-    } = script;
-    let env = Env::new(alloc, variables)?;
+    let env = Env::new(alloc, script.variables)?;
     let config = ProviderConfig::empty(alloc)?.with_env(env);
-    words_by(alloc, kind, &config, devices)
+    words_by(alloc, kind, &config, script.devices)
 }
 
 fn words_of(alloc: Global, kind: &str, script: &str) -> Result<String, OutOfMemory> {

@@ -1,4 +1,4 @@
-// What a client answers, how much it asks, and which token it leaves, by scripts.
+//! What a client answers, how much it asks, and which token it leaves, by scripts.
 ghost use Rattle.cfg_world.specs.Script.{AllFit};
 ghost use Rattle.cfg_script.specs.Script.{plain};
 ghost use Rattle.cfg_script.specs.Devices.{lists_of};
@@ -94,17 +94,8 @@ fn called(
 fn called_by(alloc: Global, script: Script, path: &str) -> Result<String, OutOfMemory>
     requires { AllFit (lists_of (plain script)) }
 {
-    let Script {
-        variables,
-        profiles: _,
-        selected: _,
-        region: _,
-        sleep: _,
-        calls: _,
-        devices,
-    } = script;
-    let config = ProviderConfig::empty(alloc)?.with_env(Env::new(alloc, variables)?);
-    let mut world = world(alloc, devices)?;
+    let config = ProviderConfig::empty(alloc)?.with_env(Env::new(alloc, script.variables)?);
+    let mut world = world(alloc, script.devices)?;
     called(alloc, &config, &mut world, path)
 }
 

@@ -1,4 +1,4 @@
-// What a builder sets: limits, attempts, lifetimes, endpoints and classifiers.
+//! What a builder sets: limits, attempts, lifetimes, endpoints and classifiers.
 ghost use Rattle.cfg_world.specs.Script.{AllFit};
 ghost use Rattle.cfg_script.specs.Script.{plain};
 ghost use Rattle.cfg_script.specs.Devices.{lists_of};
@@ -58,16 +58,7 @@ fn with_settings(alloc: Global, builder: Builder) -> Result<Builder, OutOfMemory
 fn get_by(alloc: Global, builder: Builder, script: Script) -> Result<String, OutOfMemory>
     requires { AllFit (lists_of (plain script)) }
 {
-    let Script {
-        variables: _,
-        profiles: _,
-        selected: _,
-        region: _,
-        sleep: _,
-        calls: _,
-        devices,
-    } = script;
-    let mut world = world(alloc, devices)?;
+    let mut world = world(alloc, script.devices)?;
     let client = builder.build()?;
     let words = get_words(alloc, &client, &mut world, "/a")?;
     match world.journal().get(1) {

@@ -1,4 +1,4 @@
-// The region that each source gives over a script, and how much is asked for it.
+//! The region that each source gives over a script, and how much is asked for it.
 use crate::region::setup::{Setup, set_up};
 use cfg_imds::{Client, ImdsTokenState};
 use cfg_profile::ProviderConfig;

@@ -47,19 +47,11 @@ fn set_up_over(
 fn set_up_by(alloc: Global, script: Script) -> Result<Setup, OutOfMemory>
     requires { AllFit (lists_of (plain script)) }
 {
-    let Script {
-        variables,
-        profiles,
-        selected: _,
-        region: _,
-        sleep: _,
-        calls: _,
-        devices,
-    } = script;
-    let env = Env::new(alloc, variables)?;
-    let profiles = profiles_of(alloc, profiles)?;
+    let env = Env::new(alloc, script.variables)?;
+    let profiles = profiles_of(alloc, script.profiles)?;
     let config = ProviderConfig::empty(alloc)?;
-    set_up_over(alloc, config.with_env(env).with_profiles(profiles), devices)
+    let config = config.with_env(env).with_profiles(profiles);
+    set_up_over(alloc, config, script.devices)
 }
 
 /// The configuration of a script, and a world over its devices. None for what is no script.

@@ -1,4 +1,4 @@
-// How often an exchange sends.
+//! How often an exchange sends.
 use cfg_exchange::{ImdsResponseRetryClassifier, ReplyKind, exchange};
 use cfg_types::{Bytes, MetadataGet, OutOfMemory, Request, Text, Timeouts};
 use cfg_world::{DeviceLists, ScriptDevices, World};

@@ -1,4 +1,4 @@
-// What no clause says: that a container gives credentials, in examples.
+//! What no clause says: that a container gives credentials, in examples.
 ghost use Rattle.cfg_world.specs.Script.{AllFit};
 ghost use Rattle.cfg_script.specs.Script.{plain};
 ghost use Rattle.cfg_script.specs.Devices.{lists_of};
@@ -30,17 +30,8 @@ fn answered(alloc: Global, env: &Env, lists: DeviceLists) -> Result<String, OutO
 fn answered_by(alloc: Global, script: Script) -> Result<String, OutOfMemory>
     requires { AllFit (lists_of (plain script)) }
 {
-    let Script {
-        variables,
-        profiles: _,
-        selected: _,
-        region: _,
-        sleep: _,
-        calls: _,
-        devices,
-    } = script;
-    let env = Env::new(alloc, variables)?;
-    answered(alloc, &env, devices)
+    let env = Env::new(alloc, script.variables)?;
+    answered(alloc, &env, script.devices)
 }
 
 const SCRIPTS: &[(&str, &str)] = &[

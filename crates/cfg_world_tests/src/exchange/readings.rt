@@ -1,4 +1,4 @@
-// How replies read.
+//! How replies read.
 use cfg_exchange::ReplyKind;
 use cfg_types::{Bytes, Header, HttpReply, OutOfMemory, Seq, Text};
 use std::alloc::Global;

@@ -1,4 +1,4 @@
-// What no clause says: that targets are made, in examples.
+//! What no clause says: that targets are made, in examples.
 use cfg_exchange::{Target, relative_target, validate_full_uri};
 use cfg_types::{InvalidFullUriError, OutOfMemory};
 use cfg_world::{DeviceLists, ScriptDevices, World};

@@ -1,4 +1,4 @@
-// What no clause says: worked examples of what devices answer, and that they answer.
+//! What no clause says: worked examples of what devices answer, and that they answer.
 ghost use Rattle.cfg_world.specs.Script.{AllFit};
 ghost use Rattle.cfg_script.specs.Script.{plain};
 ghost use Rattle.cfg_script.specs.Devices.{lists_of};
@@ -6,9 +6,7 @@ ghost use Rattle.cfg_script.specs.Devices.{lists_of};
 use crate::world::questions::question;
 use cfg_script::{Script, ScriptError, read_script};
 use cfg_types::{FailKind, Fault, Instant, OutOfMemory};
-use cfg_world::{
-    Answer, DeviceLists, Devices, FaultDevices, HandedDevices, ScriptDevices, StreamFault, World,
-};
+use cfg_world::{Answer, Devices, FaultDevices, HandedDevices, ScriptDevices, StreamFault, World};
 use std::alloc::{AllocError, Global};
 use std::str;
 use std::test::Fail;
@@ -29,25 +27,10 @@ pub(crate) fn answer_words(alloc: Global, answer: &Answer) -> Result<String, All
     }
 }
 
-fn devices_of(alloc: Global, lists: DeviceLists) -> Result<ScriptDevices, OutOfMemory>
-    requires { AllFit lists }
-{
-    ScriptDevices::new(alloc, lists)
-}
-
 fn devices_by(alloc: Global, script: Script) -> Result<ScriptDevices, OutOfMemory>
     requires { AllFit (lists_of (plain script)) }
 {
-    let Script {
-        variables: _,
-        profiles: _,
-        selected: _,
-        region: _,
-        sleep: _,
-        calls: _,
-        devices,
-    } = script;
-    devices_of(alloc, devices)
+    ScriptDevices::new(alloc, script.devices)
 }
 
 const LISTS: &[u8] =

@@ -1,4 +1,4 @@
-// The leaves that no provider asks by: what they answer over a script.
+//! The leaves that no provider asks by: what they answer over a script.
 use crate::world::devices::scripted_by;
 use crate::world::questions::TIMEOUTS;
 use cfg_types::{

@@ -1,4 +1,4 @@
-// What no clause says: that devices of this machine read and write its files and its clock.
+//! What no clause says: that devices of this machine read and write its files and its clock.
 use cfg_types::{Bytes, FailKind, Fault};
 use cfg_world::{Devices, LocalDevices};
 use std::rt::Clock;

@@ -1,4 +1,4 @@
-// What no clause says: worked examples of receipts that are handed out again, and of leaves.
+//! What no clause says: worked examples of receipts that are handed out again, and of leaves.
 use crate::world::devices::{answer_words, scripted};
 use crate::world::questions::question;
 use cfg_types::{Instant, OutOfMemory, Seq, TryCopy};

@@ -1,4 +1,4 @@
-// Questions by words, and how they are shown.
+//! Questions by words, and how they are shown.
 use cfg_types::{Bytes, Http, OutOfMemory, Request, Text, Timeouts, TryCopy};
 use cfg_world::Question;
 use std::alloc::Global;

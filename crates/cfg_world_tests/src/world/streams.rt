@@ -1,5 +1,5 @@
-// What no clause says: a reader or a writer may fail where no clause knows it. Such failures are
-// tried here.
+//! What no clause says: a reader or a writer may fail where no clause knows it. Such failures are
+//! tried here.
 use cfg_world::{ReaderSource, Sink, Source, WriterSink};
 use std::alloc::{AllocError, Global};
 use std::io;
