@@ -1,12 +1,18 @@
 -- What a call reads of a sign-in session.
-use Rattle.std.proofs.Common.{◌≡◌, ◌⊎◌, inl, inr, ℕ, List, [], ◌∷◌, ◌++◌, Ok, Err, refl, sym, ap, ◌∙◌, subst, append-nil, append_assoc}
+use Rattle.std.proofs.Common.{◌≡◌, ◌⊎◌, inl, inr, ℕ, List, [], ◌∷◌, ◌++◌, Option, Some, None, Ok, Err, refl, sym, ap, ◌∙◌, subst, append-nil, append_assoc}
+use Rattle.cfg_types.specs.Keys.{Keys}
+use Rattle.cfg_types.specs.declared.errors.CredentialsError.{CredentialsError}
+use Rattle.cfg_types.specs.declared.errors.ProviderAttempt.{ProviderAttempt}
 use Rattle.cfg_world.specs.declared.devices.Devices.{Ghosts}
 use Rattle.cfg_world.specs.Fits.{Pair, EachFits}
 use Rattle.cfg_world.specs.Held.{Held}
 use Rattle.cfg_world.specs.Inquiry as low
 use Rattle.cfg_keeping.specs.Kinds.{Value, States}
-use Rattle.cfg_keeping.specs.KeptInquiry.{Reads}
-use Rattle.cfg_keeping.proofs.Splits.{lowered}
+use Rattle.cfg_keeping.specs.Chains.{passed, go_on, chain}
+use Rattle.cfg_keeping.specs.KeptInquiry.{KeptInquiry, Gives, Runs, Reads, Begins as Begun, lift, onwards, onwards_if_ok}
+use Rattle.cfg_keeping.proofs.Beginnings.{begins_splits}
+use Rattle.cfg_keeping.proofs.Splits.{lowered, split_runs}
+use Rattle.cfg_keeping.proofs.Told.{told}
 use Rattle.cfg_profile.specs.declared.chain.BaseProvider.{BaseProvider}
 use Rattle.cfg_profile.specs.declared.chain.BaseProvider.TheVariants as base
 use Rattle.cfg_profile.specs.Configuration.{Configuration}
@@ -16,15 +22,17 @@ use Rattle.cfg_sign_in.specs.declared.asked_by.AskedBy.TheVariants as by
 use Rattle.cfg_sign_in.specs.SignIns.{sign_in_credentials}
 use Rattle.cfg_sign_in.proofs.SignInCauses.{sign_in_cause}
 use Rattle.cfg_sign_in.proofs.LastReadings.{credentials_last}
-use Rattle.cfg_chain.specs.declared.member.Member.TheVariants.{Environment, Profile}
+use Rattle.cfg_chain.specs.declared.member.Member.{Member}
+use Rattle.cfg_chain.specs.declared.member.Member.TheVariants.{Environment, Profile, WebIdentityToken, EcsContainer, Ec2InstanceMetadata}
 use Rattle.cfg_chain.specs.Settings.{Setting, Lent, names_of, setting}
-use Rattle.cfg_chain.specs.Members.{member_tree}
-use Rattle.cfg_chain.specs.Provides.{Provides}
+use Rattle.cfg_chain.specs.Members.{member_tree, credentials_chain, default_chain}
+use Rattle.cfg_chain.specs.Provides.{Provides, Interrupted}
 use Rattle.cfg_chain.specs.Resolves.{IsPart, Resolves}
-use Rattle.cfg_chain.specs.Sessions.{IsSession, PlansSession, BeginsUnexpired, ReadsSession}
+use Rattle.cfg_chain.specs.Sessions.{IsSession, PlansSession, BeginsUnexpired, BeginsSession, ReadsSession, StopsInSession}
 use Rattle.cfg_chain.specs.profile.Plans.{Planned, plan}
-use Rattle.cfg_chain.specs.profile.Bases.{base_tree}
+use Rattle.cfg_chain.specs.profile.Bases.{base_tree, in_base, based}
 use Rattle.cfg_chain.specs.profile.Causes.{PlannedCause}
+use Rattle.cfg_chain.specs.profile.Profiles.{assumed, follows_planned, follows_plan, profile}
 
 fits_first : (one other : List Pair) → EachFits (one ++ other) → EachFits one
 fits_first [] other h = tt
@@ -108,6 +116,106 @@ module _ (s : Setting) (session : List ℕ) where
           | inr k ↦ of_profile h.1 h.3 out fit k.0
         ]))
 
+-- ---- a call for which memory ran out
+
+module _ (s : Setting) (session : List ℕ) (old : States) where
+  abbrev Stands : List Value → List Pair → Type 0
+  Stands found journal = BeginsUnexpired s.configuration session found journal ⊎ BeginsSession s.configuration session found journal ⊎ (journal ≡ [])
+
+  -- each whole run of the tree begins with a part of the session
+  abbrev Whole : {R : Type 0} → KeptInquiry R → Type 0
+  Whole {R} tree = (new : Option States) (found : List Value) (journal : List Pair) (out : R) → EachFits journal → Runs tree (Some old) found journal out new → BeginsUnexpired s.configuration session found journal
+
+  -- and each beginning of the tree, or it is one of such a part
+  abbrev Partial : {R : Type 0} → KeptInquiry R → Type 0
+  Partial tree = (new : Option States) (found : List Value) (journal : List Pair) → EachFits journal → Begun tree (Some old) found journal new → Stands found journal
+
+  whole_then : {A B : Type 0} (tree : KeptInquiry A) (f : A → KeptInquiry B) → Whole tree → Whole (onwards tree f)
+  whole_then tree f whole new found journal out fits h =
+      let r = split_runs tree f (Some old) new found journal out h in
+      let fit = fits_first r.part r.rest (subst EachFits r.parts fits) in
+      extended s session found r.found_first r.found_then journal r.part r.rest r.finds r.parts (whole r.kept r.found_first r.part r.middle fit r.first)
+
+  partial_then : {A B : Type 0} (tree : KeptInquiry A) (f : A → KeptInquiry B) → Whole tree → Partial tree → Partial (onwards tree f)
+  partial_then tree f whole partial new found journal fits h = elim (begins_splits tree f (Some old) new found journal h) [
+    | inl b ↦ partial new found journal fits b
+    | inr r ↦
+        let fit = fits_first r.part r.rest (subst EachFits r.parts fits) in
+        inl (extended s session found r.found_before r.found_behind journal r.part r.rest r.finds r.parts (whole r.middle r.found_before r.part r.outcome fit r.runs))
+  ]
+
+  whole_part : Whole (sign_in_credentials s.configuration session by.Profile)
+  whole_part new found journal out fits h =
+      let tree = sign_in_credentials s.configuration session by.Profile in
+      let r = told tree old new found journal out h in
+      let reads = subst (λ f. Reads tree f journal out) (sym r.0) r.2 in
+      record {
+        found_first = found;
+        found_then = [];
+        part = journal;
+        rest = [];
+        given = out;
+        finds = sym (append-nil found);
+        parts = sym (append-nil journal);
+        reads = reads;
+        unexpired = credentials_last s.configuration session by.Profile found journal out fits (sign_in_cause s.configuration session by.Profile found journal out reads);
+      }
+
+  abbrev Both : {R : Type 0} → KeptInquiry R → Type 0
+  Both tree = Whole tree × Partial tree
+
+  both_then : {A B : Type 0} (tree : KeptInquiry A) (f : A → KeptInquiry B) → Both tree → Both (onwards tree f)
+  both_then tree f both = (whole_then tree f both.0, partial_then tree f both.0 both.1)
+
+  base_both : (b : BaseProvider) → IsSession b session → Both (base_tree s b)
+  unfolding base_tree
+  base_both (base.LoginSession named) is =
+      subst (λ x. Both (sign_in_credentials s.configuration x by.Profile)) (sym is) (whole_part, λ new found journal fits h. inr (inl (Some old, new, h)))
+  base_both (base.AccessKey keys) is = absurd is
+  base_both (base.NamedSource name) is = absurd is
+  base_both (base.WebIdentityTokenRole arn file named) is = absurd is
+  base_both (base.CredentialProcess command account) is = absurd is
+  base_both (base.Sso named region url account role) is = absurd is
+
+  planned_both : (planned : Planned) → PlansSession planned session → Both (follows_plan s planned)
+  unfolding follows_planned based
+  planned_both (Err e) is = absurd is
+  planned_both (Ok p) is =
+      let next : Keys → KeptInquiry Answer = λ keys. lift (assumed s.configuration p.roles keys) in
+      both_then (based s p.base) (onwards_if_ok next) (both_then (base_tree s p.base) (λ given. Gives (in_base given)) (base_both p.base is))
+
+  answer_alone : (out : Answer) → Partial (Gives out)
+  answer_alone out new [] [] fits h = inr (inr refl)
+  answer_alone out new [] (e ∷ journal) fits h = absurd h
+  answer_alone out new (f ∷ found) journal fits h = absurd h
+
+  abbrev Attempts : Type 0
+  Attempts = List (ProviderAttempt CredentialsError)
+
+  abbrev behind_profile : List Member
+  behind_profile = WebIdentityToken ∷ EcsContainer ∷ Ec2InstanceMetadata ∷ []
+
+  module _ (plans : PlansSession (plan s.configuration (names_of s.sources)) session) where
+    profile_both : Both (member_tree s Profile)
+    unfolding member_tree profile
+    profile_both = planned_both (plan s.configuration (names_of s.sources)) plans
+
+    from_profile : (attempts : Attempts) → Partial (chain (credentials_chain s) (Profile ∷ behind_profile) attempts)
+    unfolding chain
+    from_profile attempts =
+        partial_then (member_tree s Profile) (λ out. go_on (credentials_chain s) (chain (credentials_chain s) behind_profile) Profile attempts out (passed (credentials_chain s) out))
+        profile_both.0 profile_both.1
+
+    behind_environment : (out : Answer) (o : Option CredentialsError) → Partial (go_on (credentials_chain s) (chain (credentials_chain s) (Profile ∷ behind_profile)) Environment [] out o)
+    behind_environment out (Some e) = from_profile _
+    behind_environment out None = answer_alone out
+
+    pub in_beginning : Partial (default_chain s)
+    unfolding chain member_tree
+    in_beginning =
+        let out = environment s.configuration.environment in
+        behind_environment out (passed (credentials_chain s) out)
+
 -- ---- a call
 
 pub answered : {D : Type 0} (d : Ghosts D) (conf : Configuration) (lent : Lent) (session : List ℕ) (old new : States) (found : List Value) (before later : Held D) (out : Answer) →
@@ -116,4 +224,17 @@ answered d conf lent session old new found before later out plans h = record {
   journal = h.part;
   grows = h.grows.journal;
   begins = in_call (setting conf lent.sources h.call.services) session plans found h.part out h.grows.fits h.call.resolves;
+}
+
+pub interrupted : {D : Type 0} (d : Ghosts D) (conf : Configuration) (lent : Lent) (session : List ℕ) (old new : States) (found : List Value) (before later : Held D) →
+    PlansSession (plan conf (names_of lent.sources)) session → Interrupted d conf lent old new found before later → StopsInSession conf session found before.journal later.journal
+interrupted d conf lent session old new found before later plans (inl h) = record {
+  journal = [];
+  grows = ap (λ x. x.journal) h.0 ∙ sym (append-nil before.journal);
+  begins = inr (inr refl);
+}
+interrupted d conf lent session old new found before later plans (inr h) = record {
+  journal = h.part;
+  grows = h.stays.journal;
+  begins = in_beginning (setting conf lent.sources h.services) session old plans (Some new) found h.part h.stays.fits h.begins;
 }

@@ -1,7 +1,7 @@
 -- The parts of a call, in its caller's words.
 use Rattle.std.proofs.Common.{◌≡◌, ◌⊎◌, inl, inr, List, [], ◌∷◌, ◌++◌, map, Bool, true, false, Some, None, Ok, Err, refl, sym, ap, ◌∙◌, subst, append-nil, append_assoc}
 use Rattle.std.specs.Prelude.{if◌then◌else◌}
-use Rattle.std.specs.List.{AllByRecursion, flat_map}
+use Rattle.std.specs.List.{AllByRecursion}
 use denote.Hole.Carrier as carrier
 use Rattle.cfg_types.specs.declared.errors.CredentialsError as errors
 use Rattle.cfg_types.specs.declared.errors.CredentialsError.{CredentialsError}
@@ -19,7 +19,7 @@ use Rattle.cfg_types.specs.Classes.{is_not_loaded_answer}
 use Rattle.cfg_chain.specs.declared.member.Member.{Member}
 use Rattle.cfg_chain.specs.Settings.{Setting, Lent, setting}
 use Rattle.cfg_chain.specs.Members.{credentials_chain, default_members, is_not_loaded, none_loaded}
-use Rattle.cfg_chain.specs.Resolves.{IsPart, Resolves}
+use Rattle.cfg_chain.specs.Resolves.{IsPart}
 use Rattle.cfg_chain.specs.Provides.{IsCall, Provides}
 use Rattle.cfg_chain.specs.Callers.{Passed, WasNotLoaded, members_in, found_in, parts_in, told_of, IsAnsweredBy, IsAnsweredByNone, TellsWho}
 use Rattle.cfg_chain.proofs.PassedByTable.{by_table}

@@ -1,9 +1,9 @@
 -- What a call reads of a sign-in session.
-use Rattle.std.specs.Prelude.{◌≡◌, ℕ, List, [], ◌++◌, ◌⊎◌, Ok, Err, IfOk}
+use Rattle.std.specs.Prelude.{◌≡◌, ℕ, List, [], ◌++◌, ◌⊎◌, Option, Ok, Err, IfOk}
 use Rattle.cfg_world.specs.Fits.{Pair}
 use Rattle.cfg_world.specs.LastReadings.{last_reading}
-use Rattle.cfg_keeping.specs.Kinds.{Value}
-use Rattle.cfg_keeping.specs.KeptInquiry.{Reads}
+use Rattle.cfg_keeping.specs.Kinds.{Value, States}
+use Rattle.cfg_keeping.specs.KeptInquiry.{Reads, Begins}
 use Rattle.cfg_profile.specs.declared.chain.BaseProvider.{BaseProvider}
 use Rattle.cfg_profile.specs.declared.chain.BaseProvider.TheVariants as base
 use Rattle.cfg_profile.specs.Configuration.{Configuration}
@@ -37,8 +37,20 @@ pub record BeginsUnexpired (conf : Configuration) (session : List ℕ) (found : 
   pub reads : Reads (sign_in_credentials conf session by.Profile) found_first part given
   pub unexpired : IfOk given (λ keys. EndsAfter (last_reading part) keys.expiry)
 
--- The same of the stretch by which the journal grew, or the environment answered, and nothing was asked.
+-- The journal is a beginning of such a part.
+abbrev pub BeginsSession : Configuration → List ℕ → List Value → List Pair → Type 0
+BeginsSession conf session found journal = (old new : Option States) × Begins (sign_in_credentials conf session by.Profile) old found journal new
+
+-- What is said of the stretch by which the journal grew: it begins with a part, or the environment answered, and
+-- nothing was asked.
 pub record ReadsSession (conf : Configuration) (session : List ℕ) (found : List Value) (before later : List Pair) (out : Answer) : Type 0 where
   pub journal : List Pair
   pub grows : later ≡ before ++ journal
   pub begins : BeginsUnexpired conf session found journal ⊎ ((journal ≡ []) × (out ≡ environment conf.environment))
+
+-- The same of a call for which memory ran out: it stopped behind such a part, or within it, or before anything
+-- was asked.
+pub record StopsInSession (conf : Configuration) (session : List ℕ) (found : List Value) (before later : List Pair) : Type 0 where
+  pub journal : List Pair
+  pub grows : later ≡ before ++ journal
+  pub begins : BeginsUnexpired conf session found journal ⊎ BeginsSession conf session found journal ⊎ (journal ≡ [])

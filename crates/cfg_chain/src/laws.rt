@@ -25,7 +25,7 @@ ghost use Rattle.cfg_chain.specs.Valid.{IsValid};
 ghost use Rattle.cfg_chain.specs.Provides.{IsCall, Provides, Interrupted};
 ghost use Rattle.cfg_chain.specs.Callers.{TellsWho};
 ghost use Rattle.cfg_chain.specs.SignOns.{PlansSignOn, SignsOn};
-ghost use Rattle.cfg_chain.specs.Sessions.{PlansSession, ReadsSession};
+ghost use Rattle.cfg_chain.specs.Sessions.{PlansSession, ReadsSession, StopsInSession};
 ghost use Rattle.cfg_sso.specs.declared.config.SsoProviderConfig.{SsoProviderConfig as SignOn};
 ghost use Rattle.cfg_chain.specs.profile.Bases.{CanBeAsked};
 ghost use Rattle.cfg_chain.specs.profile.Plans.{Planned, profile_plan, plan, key_of_plan, key_of};
@@ -113,9 +113,11 @@ pub fn a_call_sends_no_expired_token<D: Devices>()
 {}
 
 /// Where the selected profile's plan begins with a sign-in session, a call asks nothing, and is answered by the
-/// environment; or it begins with the session's part. The session's credentials, which are the call's or sign the
-/// first role, end after the last reading of the clock in this part.
-pub fn a_call_gives_no_expired_session<D: Devices>()
-    ensures { (conf : Configuration) (lent : Lent) (session : List ℕ) (old new : States) (found : List Value) (before later : Held D) (out : Answer) →
+/// environment; or its journal begins with the session's part. Credentials that this part gives end after its
+/// last reading of the clock. A call for which memory ran out may also have stopped within this part.
+pub fn a_call_reads_no_expired_session<D: Devices>()
+    ensures answered { (conf : Configuration) (lent : Lent) (session : List ℕ) (old new : States) (found : List Value) (before later : Held D) (out : Answer) →
         PlansSession (plan conf (names_of lent.sources)) session → Provides ⟦<D as Devices>⟧ conf lent old new found before later out → ReadsSession conf session found before.journal later.journal out }
+    ensures interrupted { (conf : Configuration) (lent : Lent) (session : List ℕ) (old new : States) (found : List Value) (before later : Held D) →
+        PlansSession (plan conf (names_of lent.sources)) session → Interrupted ⟦<D as Devices>⟧ conf lent old new found before later → StopsInSession conf session found before.journal later.journal }
 {}

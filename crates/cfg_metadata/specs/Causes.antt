@@ -1,6 +1,6 @@
 -- Why a provider of metadata credentials gives none, from what it found and its finished part of the
 -- journal.
-use Rattle.std.specs.Prelude.{◌≡◌, ℕ, List, [], ◌∷◌, Bool, true, false, ◌&&◌, is_none, Option, Some, None, IsOk, option_map, if◌then◌else◌}
+use Rattle.std.specs.Prelude.{◌≡◌, ℕ, List, [], ◌∷◌, Bool, ◌&&◌, is_none, Option, Some, None, IsOk, option_map, if◌then◌else◌}
 use Rattle.std.specs.Result.{result_err}
 use Rattle.cfg_types.specs.Keys.{Keys}
 use Rattle.cfg_types.specs.declared.errors.CredentialsError.{CredentialsError}

@@ -53,7 +53,7 @@ is_plain byte = is_ascii_alphanumeric byte || (byte == 45 || byte == 95)
 abbrev pub is_plain_name : List ℕ → Bool
 is_plain_name name = not (length name == 0) && list_all is_plain name
 
--- a plain name as it is, and another one quoted; past ASCII it is not said how
+-- a plain name as it is, and another one quoted; past ASCII, no text is said of it
 abbrev pub name_text : List ℕ → Option (List ℕ)
 name_text name = if is_plain_name name then Some name else debug_str name
 

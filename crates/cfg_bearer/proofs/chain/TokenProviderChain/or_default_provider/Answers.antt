@@ -1,5 +1,4 @@
 -- Behind the members stands the default chain, or memory ran out behind its region.
-use Rattle.std.proofs.Common.{None}
 use Rattle.cfg_bearer.specs.Chains.{members_of}
 use Rattle.cfg_bearer.proofs.Building.{set_breaks, ends_by}
 use Rattle.cfg_bearer.proofs.chain.TokenProviderChain.or_default_provider.Goals as goal
