@@ -25,3 +25,4 @@ pub mod WhoAnswered
 pub mod WithoutRoles
 pub mod SignOns
 pub mod Sessions
+pub mod ContainerTargets

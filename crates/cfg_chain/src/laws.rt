@@ -17,6 +17,9 @@ ghost use Rattle.cfg_chain.specs.Settings.{Setting, Lent, names_of};
 ghost use Rattle.cfg_keeping.specs.Chains.{Chain, chain};
 ghost use Rattle.cfg_keeping.specs.ChainParts.{MemberReads, AreParts, AreBegunParts};
 ghost use Rattle.cfg_chain.specs.Members.{member_tree};
+ghost use Rattle.std.specs.List.{AllByRecursion};
+ghost use Rattle.cfg_chain.specs.declared.member.Member.TheVariants.{EcsContainer};
+ghost use Rattle.cfg_exchange.specs.ContainerRequests.{IsSafeQuestion, look_ups};
 ghost use Rattle.cfg_exchange.specs.Containers.{IsContainerUri};
 ghost use Rattle.cfg_chain.specs.Causes.{Cause};
 ghost use Rattle.cfg_chain.specs.PassedOver.{IsPassedOver, PassesByTable};
@@ -57,6 +60,15 @@ pub fn members_have_causes()
 pub fn members_are_passed_over_by_the_table()
     ensures { (s : Setting) (member : Asked) (found : List Value) (part : List Pair) (out : Answer) →
         IsContainerUri s.configuration.environment s.container → Reads (member_tree s member) found part out → PassesByTable out (IsPassedOver s member found part) }
+{}
+
+/// The member that asks a container sends each request to the agent of Amazon ECS, or to the target of the full
+/// address that its variable holds: HTTPS, an allowed address, or a name that has allowed addresses alone by a
+/// look-up in the same part. It holds of a part that has only begun, too.
+pub fn a_container_member_asks_safe_targets()
+    ensures { (s : Setting) (old new : Option States) (found : List Value) (part : List Pair) →
+        IsContainerUri s.configuration.environment s.container → Begins (member_tree s EcsContainer) old found part new →
+        AllByRecursion (λ e. IsSafeQuestion s.configuration.environment (look_ups part) e.0) part }
 {}
 
 /// Over one configuration, what the caller lends being the same, one kept state and one script of devices,
