@@ -24,7 +24,7 @@ impl OneFile {
     // The failure is counted. A count that is full stands still.
     fn fail<T>(&mut self, kind: FailKind) -> Result<T, Fault>
         ensures fails { result ≡ Err (Fault.Failed kind) }
-        ensures counts { self.new.failures ≡ one_more self.old.failures }
+        ensures counts { self.new ≡ record self.old { failures = one_more self.old.failures } }
         ensures rises { self.old.failures ≤ self.new.failures }
     {
         self.failures = self.failures.saturating_add(1);
@@ -32,16 +32,16 @@ impl OneFile {
     }
 }
 
-/// They allow every list of entries. One count stands for all kinds of device.
+/// They allow the lists in which each answer is theirs. One count stands for all kinds of device.
 impl Devices for OneFile {
-    ghost use Rattle.cfg_world.specs.Tallies.{any_list};
     ghost use Rattle.audit.specs.Counting.{each_is};
+    ghost use Rattle.audit.specs.FileAnswers.{AllAnswered};
 
     ghost faults = { λ d. each_is d.failures };
 
-    ghost allows = { λ d. any_list };
+    ghost allows = { λ d. AllAnswered d.path.now d.content.now };
 
-    ghost stands = { λ d. any_list };
+    ghost stands = { λ d. AllAnswered d.path.now d.content.now };
 
     ghost stands_allowed = { λ d entries h. h };
 
