@@ -10,8 +10,8 @@ use Rattle.cfg_world.specs.declared.ask.Answer.TheVariants as answer
 use Rattle.cfg_world.specs.Epoch.{epoch}
 use Rattle.cfg_world.specs.Fits.{Pair}
 
--- A clock that stands at the epoch, a jitter that is 0, and the file of this path, which holds this content.
--- All else fails.
+-- A clock that stands at the epoch, a jitter that is 0, and the file of this path, which is read as this content
+-- or fails. All else fails.
 abbrev pub IsAnswer : List ℕ → List ℕ → Question → Answer → Type 0
 IsAnswer path content question.Now given = given ≡ answer.Moment epoch
 IsAnswer path content question.Jitter given = given ≡ answer.Jitter 0
