@@ -1,4 +1,4 @@
-//! The program `bujerova`: it hands `cfg_program::run` the words after its name, standard input and
+//! The program `bujerova`: it hands `cfg_program::run` its arguments, standard input and
 //! output, the variables that are set and one source of credentials of its own, and ends with the number
 //! of the status. Where the status says that the input was refused, standard error has a line that says
 //! why, unless memory ran out for it. For an unknown command it has the usage.
@@ -26,11 +26,11 @@ fn main(rt: HostRuntime) -> ExitCode {
     let mut source = KeepingSource::new(alloc, ReaderSource::new(rt.stdin()));
     let mut sink = WriterSink::new(rt.stdout());
     let mut world = World::new(alloc, LocalDevices::new(alloc, &rt));
-    let status = match given(&rt) {
-        Ok((words, variables)) => {
+    let status = match arguments_and_variables(&rt) {
+        Ok((arguments, variables)) => {
             let ended = run_with(
                 alloc,
-                words.as_slice(),
+                arguments.as_slice(),
                 &mut source,
                 &mut sink,
                 variables,
@@ -40,7 +40,7 @@ fn main(rt: HostRuntime) -> ExitCode {
         }
         Err(status) => status,
     };
-    if status == Status::Words {
+    if status == Status::UnknownCommand {
         let _ = rt.eprintln(USAGE);
     }
     if let Ok(Some(reason)) = reason_of(alloc, status, source.kept()) {
@@ -52,7 +52,7 @@ fn main(rt: HostRuntime) -> ExitCode {
 // How a run ends that has the program's own source of credentials.
 fn run_with<S: Source, K: Sink, D: Devices>(
     alloc: Global,
-    words: &[String],
+    arguments: &[String],
     source: &mut S,
     sink: &mut K,
     variables: Vec<(String, EnvText)>,
@@ -60,24 +60,25 @@ fn run_with<S: Source, K: Sink, D: Devices>(
 ) -> Result<Status, OutOfMemory> {
     let name = Text::of(alloc, fixed::NAME)?;
     let provider = Box::new(alloc, Fixed::new(alloc))?;
-    let own = CustomSource::new(name, provider);
-    let ended = run(alloc, words, source, sink, variables, world, &[own]);
+    let own = CustomSource { name, provider };
+    let custom = vec![in alloc; own]?;
+    let ended = run(alloc, arguments, source, sink, variables, world, custom);
     Ok(ended)
 }
 
-// The words after the program's name, and the variables that are set.
-fn given(
+// The program's arguments, and the variables that are set.
+fn arguments_and_variables(
     rt: &(impl std::rt::Env + AllocGlobal),
 ) -> Result<(Vec<String>, Vec<(String, EnvText)>), Status> {
-    let words = words_of(rt)?;
+    let arguments = arguments_of(rt)?;
     match variables_of(rt) {
-        Ok(variables) => Ok((words, variables)),
+        Ok(variables) => Ok((arguments, variables)),
         Err(OutOfMemory) => Err(Status::OutOfMemory),
     }
 }
 
 // Why the input was refused, where the status says that it was, and what was read of it is known. A script
-// that is refused has several calls, where the words make one.
+// that is refused has several calls, where the command makes one.
 fn reason_of(
     alloc: Global,
     status: Status,
@@ -97,29 +98,30 @@ fn reason_of(
     Ok(Some(reason))
 }
 
-// The words after the program's name. Words that are no texts are no known command.
-fn words_of(rt: &(impl std::rt::Env + AllocGlobal)) -> Result<Vec<String>, Status> {
+// The program's arguments. Those that are no texts are no known command.
+fn arguments_of(rt: &(impl std::rt::Env + AllocGlobal)) -> Result<Vec<String>, Status> {
     let given = match env::args(rt) {
         Ok(given) => given,
         Err(error) => return Err(status_of(error.kind())),
     };
-    let mut words = Vec::new(rt.alloc());
-    for word in given.skip(1) {
-        let Ok(()) = words.push(word) else {
+    let mut arguments = Vec::new(rt.alloc());
+    for argument in given.skip(1) {
+        let Ok(()) = arguments.push(argument) else {
             return Err(Status::OutOfMemory);
         };
     }
-    Ok(words)
+    Ok(arguments)
 }
 
 fn status_of(kind: ErrorKind) -> Status {
     match kind {
         ErrorKind::OutOfMemory => Status::OutOfMemory,
-        _ => Status::Words,
+        _ => Status::UnknownCommand,
     }
 }
 
-// The names of the variables that providers ask for where there are no sections.
+// The names of the variables that providers ask for where there are no sections. The standard library's list of all
+// variables drops those that are not Unicode, or fails at them.
 const ASKED: [&str; 16] = [
     "AWS_ACCESS_KEY_ID",
     "AWS_SECRET_ACCESS_KEY",

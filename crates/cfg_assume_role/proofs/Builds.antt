@@ -10,7 +10,7 @@ use Rattle.cfg_exchange.proofs.Checks.{read_begun}
 use Rattle.cfg_profile.specs.Configuration.{Configuration}
 use Rattle.cfg_region.specs.Calls.{RegionSet, RegionBreaks}
 use Rattle.cfg_region.specs.Sources.{Given, tree}
-use Rattle.cfg_chain.proofs.WorldSteps.{grows_here, grows_then, grows_still, stays_then, stays_still}
+use Rattle.cfg_chain.proofs.WorldSteps.{grows_here, grows_then, stays_here, stays_then, stays_still}
 use Rattle.cfg_assume_role.specs.declared.call.RoleCall.{RoleCall}
 use Rattle.cfg_assume_role.specs.Setups.{RoleSetup, configured, call_by, naming, own_region, Builds, BuildBegun, BuildStops}
 
@@ -95,25 +95,11 @@ module _ {D : Type 0} {d : Ghosts D} where
 
   -- ---- and then the chain over it
 
-  pub builds_still : (s : RoleSetup) (before mid later : Held D) (call : RoleCall) → Builds d s before mid call → Grows d [] mid later → Builds d s before later call
-  builds_still s before mid later call b still = record {
-    source = b.source;
-    asked = b.asked;
-    region_part = b.region_part;
-    name_part = b.name_part;
-    grows = grows_still b.grows still;
-    region = b.region;
-    region_reads = b.region_reads;
-    name = b.name;
-    name_reads = b.name_reads;
-    is_call = b.is_call;
-  }
-
-  pub stops_still : (s : RoleSetup) (before mid later : Held D) (call : RoleCall) → Builds d s before mid call → Stays d [] mid later → BuildStops d s before later
-  stops_still s before mid later call b still = inr (record {
+  pub stops_still : (s : RoleSetup) (before later : Held D) (call : RoleCall) → Builds d s before later call → BuildStops d s before later
+  stops_still s before later call b = inr (record {
     source = b.source;
     asked = b.asked;
     part = b.region_part ++ b.name_part;
-    stays = stays_still b.grows still;
+    stays = stays_still b.grows (stays_here later);
     begun = begun_after (tree b.source) (λ region. naming s) b.region_part b.name_part b.region b.region_reads (read_begun (naming s) b.name_part b.name b.name_reads);
   })

@@ -1,11 +1,8 @@
 -- Why a role's provider gives no credentials, by what its base gave and by its last entry.
 use Rattle.std.proofs.Common.{◌≡◌, List, [], ◌∷◌, Result, Ok, Err, refl, sym, ap, ◌∙◌}
-use Rattle.std.specs.Prelude.{option_map}
 use Rattle.std.specs.Result.{result_err}
 use Rattle.cfg_types.specs.Keys.{Keys}
 use Rattle.cfg_types.specs.Replies.{sts_in}
-use Rattle.cfg_types.specs.declared.errors.CredentialsError.TheVariants.{Unhandled}
-use Rattle.cfg_types.specs.declared.errors.UnhandledCause.{UnhandledCause}
 use Rattle.cfg_types.specs.declared.reply.sts.StsReply.{StsReply}
 use Rattle.cfg_world.specs.declared.leaves.NotGranted.{NotGranted}
 use Rattle.cfg_world.specs.declared.leaves.NotGranted.TheVariants.{Failed, Refused}
@@ -14,12 +11,12 @@ use Rattle.cfg_world.specs.Inquiry.{Reads}
 use Rattle.cfg_world.specs.Leaves.{assuming, granted_of}
 use Rattle.cfg_providers.specs.CustomSources.{Answer}
 use Rattle.cfg_assume_role.specs.declared.call.RoleCall.{RoleCall}
-use Rattle.cfg_assume_role.specs.Roles.{or_unhandled, granted, exchange, behind_base}
+use Rattle.cfg_assume_role.specs.Roles.{marked, granted, exchange, behind_base}
 use Rattle.cfg_assume_role.specs.Causes.{why_granted, IsBehind}
 
-reply_cause : (r : Result Keys UnhandledCause) → result_err (or_unhandled r) ≡ option_map Unhandled (result_err r)
+reply_cause : (r : Answer) → result_err (marked r) ≡ result_err r
 reply_cause (Ok keys) = refl
-reply_cause (Err reason) = refl
+reply_cause (Err e) = refl
 
 granted_cause : (given : Result StsReply NotGranted) → result_err (granted given) ≡ why_granted given
 unfolding granted

@@ -3,10 +3,9 @@ use Rattle.std.specs.Prelude.{[], ◌∷◌, ◌++◌, Bool, true, false, Result
 use Rattle.cfg_types.specs.Keys.{Keys}
 use Rattle.cfg_types.specs.declared.credentials.AwsCredentialFeature.TheVariants.{CredentialsStsAssumeRole}
 use Rattle.cfg_types.specs.declared.errors.CredentialsError.{CredentialsError}
-use Rattle.cfg_types.specs.declared.errors.CredentialsError.TheVariants.{InvalidConfiguration, ProviderError, Unhandled}
+use Rattle.cfg_types.specs.declared.errors.CredentialsError.TheVariants.{InvalidConfiguration, ProviderError}
 use Rattle.cfg_types.specs.declared.errors.ConfigCause.TheVariants as config
 use Rattle.cfg_types.specs.declared.errors.ProviderCause.TheVariants as cause
-use Rattle.cfg_types.specs.declared.errors.UnhandledCause.{UnhandledCause}
 use Rattle.cfg_types.specs.declared.reply.Refusal.{Refusal}
 use Rattle.cfg_types.specs.declared.reply.RefusalKind.{RefusalKind}
 use Rattle.cfg_types.specs.declared.reply.RefusalKind.TheVariants.{RegionDisabled, MalformedPolicyDocument}
@@ -16,7 +15,7 @@ use Rattle.cfg_world.specs.Inquiry.{Inquiry, Done, after}
 use Rattle.cfg_world.specs.declared.leaves.NotGranted.{NotGranted}
 use Rattle.cfg_world.specs.declared.leaves.NotGranted.TheVariants.{Failed, Refused}
 use Rattle.cfg_world.specs.Leaves.{assuming}
-use Rattle.cfg_keeping.specs.KeptInquiry.{KeptInquiry, lift, onwards}
+use Rattle.cfg_kept.specs.KeptInquiry.{KeptInquiry, lift, onwards}
 use Rattle.cfg_profile.specs.Settings.{settings_of}
 use Rattle.cfg_providers.specs.CustomSources.{Answer}
 use Rattle.cfg_providers.specs.Sts.{into_credentials}
@@ -40,9 +39,9 @@ request call signer = record {
 abbrev pub by_role : Keys → Keys
 by_role keys = record keys { features = keys.features ++ CredentialsStsAssumeRole ∷ [] }
 
-abbrev pub or_unhandled : Result Keys UnhandledCause → Answer
-or_unhandled (Ok keys) = Ok (by_role keys)
-or_unhandled (Err reason) = Err (Unhandled reason)
+abbrev pub marked : Answer → Answer
+marked (Ok keys) = Ok (by_role keys)
+marked (Err e) = Err e
 
 -- the refusals that are faults of the configuration
 abbrev pub is_fault : RefusalKind → Bool
@@ -58,7 +57,7 @@ refused refusal = if is_fault refusal.kind then InvalidConfiguration (config.Ass
 unfoldable pub granted : Result StsReply NotGranted → Answer
 granted (Err (Failed kind)) = Err (ProviderError (cause.Sent kind))
 granted (Err (Refused refusal)) = Err (refused refusal)
-granted (Ok reply) = or_unhandled (into_credentials reply (codes "AssumeRoleProvider"))
+granted (Ok reply) = marked (into_credentials reply (codes "AssumeRoleProvider"))
 
 -- one request, and what its reply gives
 unfoldable pub exchange : RoleCall → Keys → Inquiry Answer

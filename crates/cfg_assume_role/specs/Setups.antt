@@ -2,7 +2,7 @@
 use Rattle.std.specs.Option.{option_or}
 use Rattle.std.specs.Prelude.{◌≡◌, ◌⊎◌, ◌++◌, ℕ, List, Option, Some, None, true, option_map, codes, String, string_bytes, refl}
 use Rattle.std.specs.Coded.{Coded, code_by, coded×, coded_ℕ, coded_list, coded_option}
-use Rattle.cfg_values.specs.Text.{characters}
+use Rattle.cfg_base.specs.Text.{characters}
 use Rattle.cfg_types.specs.declared.request.sts.Tag.{Tag}
 use Rattle.cfg_world.specs.declared.devices.Devices.{Ghosts}
 use Rattle.cfg_world.specs.Fits.{Pair}
@@ -50,6 +50,10 @@ call_by s conf name = record { config = conf; session_name = name; session = s.s
 -- what the provider sends in this region
 abbrev pub call_of : RoleSetup → Option (List ℕ) → List ℕ → RoleCall
 call_of s region name = call_by s (record (configured s) { region = region }) name
+
+-- with the managed policies of these ARNs
+abbrev pub with_policy_arns : List (List ℕ) → RoleSession → RoleSession
+with_policy_arns arns session = record session { policy_arns = Some arns }
 
 -- a pair of strings as a tag
 abbrev pub tag_of : {Y Z : Type 0} → String Y × String Z → Tag

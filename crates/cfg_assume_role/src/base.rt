@@ -1,18 +1,14 @@
 //! Where the credentials come from that sign a role's exchange.
 ghost use Rattle.std.specs.Option.{option_copied};
-ghost use Rattle.std.specs.Prelude.{◌≡◌, option_map};
-ghost use Rattle.cfg_imds.specs.Clients.{client_rules};
+ghost use Rattle.std.specs.Prelude.{◌≡◌, IfOk};
 ghost use Rattle.cfg_sso.specs.Tokens.{HasKey};
-ghost use Rattle.cfg_chain.specs.Settings.{lends};
-ghost use Rattle.cfg_chain.specs.Sources.{named_sources};
-ghost use Rattle.cfg_assume_role.specs.Bases.{base_of, base_key, FollowsBase};
+ghost use Rattle.cfg_assume_role.specs.Bases.{base_of, base_key, FollowsBaseBy};
 
 use cfg_chain::DefaultCredentialsChain;
-use cfg_imds::Client;
-use cfg_keeping::Keeper;
-use cfg_providers::{CustomSource, EnvironmentVariableCredentialsProvider};
+use cfg_kept::Keeper;
+use cfg_providers::{CustomProvider, EnvironmentVariableCredentialsProvider};
 use cfg_token::TokenKey;
-use cfg_types::{Credentials, CredentialsError, TryCopy, is_memory};
+use cfg_types::{Credentials, CredentialsError, OutOfMemory, TryCopy, is_memory};
 use cfg_world::{Asking, Stop};
 use std::alloc::Global;
 
@@ -24,8 +20,8 @@ pub enum RoleBase {
     Environment(EnvironmentVariableCredentialsProvider),
     /// These credentials. Nothing is asked.
     Fixed(Credentials),
-    /// A source of the caller's own. Its name plays no part, and nothing is asked.
-    Custom(CustomSource),
+    /// A source of the caller's own. Nothing is asked.
+    Custom(CustomProvider),
 }
 
 impl Drop for RoleBase {
@@ -42,7 +38,7 @@ impl Drop for RoleBase {
 impl RoleBase {
     /// Whose token the base needs: that of a default chain. The other bases need none.
     pub fn token_key(&self) -> Option<&TokenKey>
-        ensures { option_copied result ≡ base_key (base_of value self.now) }
+        ensures { option_copied result ≡ base_key (base_of value repeated self.now) }
     {
         match self {
             RoleBase::Default(chain) => chain.token_key(),
@@ -50,24 +46,21 @@ impl RoleBase {
         }
     }
 
-    /// What the base answers, over anything that can be asked. The sources and the metadata client are the
-    /// caller's own, for a default chain. It stops with `Open` at a question that is left open, and with
-    /// `OutOfMemory` where memory runs out, also where a source of the caller's own answers so.
-    #[tactic(auto, using(cfg_keeping::proofs::HoldingSteps::holding_steps))]
+    /// What the base answers, over anything that can be asked. It stops with `Open` at a question that is left
+    /// open, and with `OutOfMemory` where memory runs out, also where a source of the caller's own answers so.
+    #[tactic(auto, using(cfg_kept::proofs::HoldingSteps::holding_steps))]
     pub fn follow<P: Keeper, A: Asking>(
         &self,
         alloc: Global,
-        sources: &[CustomSource],
-        imds_client: Option<&Client>,
         keeper: &mut P,
         asking: &mut A,
     ) -> Result<Result<Credentials, CredentialsError>, Stop>
-        requires { HasKey (base_key (base_of value self.now)) (P.key_held keeper.old) }
-        ensures follows { FollowsBase ⟦<A as Asking>⟧ (base_of value self.now) (lends (named_sources value sources.now) (option_map (λ c. client_rules repeated c.now) imds_client.entry)) asking.old (P.holdings keeper.old) asking.new (P.holdings keeper.new) result }
+        requires { HasKey (base_key (base_of value repeated self.now)) (P.key_held keeper.old) }
+        ensures follows { FollowsBaseBy ⟦<A as Asking>⟧ ⟦<P as Keeper>⟧ (base_of value repeated self.now) asking.old asking.new keeper.old keeper.new result }
         ensures key { P.key_held keeper.new ≡ P.key_held keeper.old }
     {
         match self {
-            RoleBase::Default(chain) => chain.follow(sources, imds_client, keeper, asking),
+            RoleBase::Default(chain) => chain.follow(keeper, asking),
             RoleBase::Environment(provider) => {
                 let outcome = provider.follow(asking)?;
                 Ok(outcome)
@@ -77,12 +70,20 @@ impl RoleBase {
                 Ok(Ok(credentials))
             }
             RoleBase::Custom(source) => {
-                let answer = source.provide_credentials();
-                if is_memory(&answer) {
-                    return Err(Stop::OutOfMemory);
-                }
+                let answer = told(source)?;
                 Ok(answer)
             }
         }
     }
+}
+
+// What a source answers.
+fn told(source: &CustomProvider) -> Result<Result<Credentials, CredentialsError>, OutOfMemory>
+    ensures { IfOk result (λ answer. answer ≡ value source.now) }
+{
+    let answer = source.provide_credentials();
+    if is_memory(&answer) {
+        return Err(OutOfMemory);
+    }
+    Ok(answer)
 }

@@ -6,7 +6,7 @@ ghost use Rattle.cfg_assume_role.specs.Roles.{request as request_of, by_role, re
 
 use crate::call::RoleCall;
 use cfg_profile::call_settings;
-use cfg_providers::into_credentials;
+use cfg_providers::steps::reply_credentials;
 use cfg_types::{
     AssumeRole, AwsCredentialFeature, Boxed, ConfigCause, Credentials, CredentialsError,
     OutOfMemory, ProviderCause, Refusal, RefusalKind, StsReply, TryCopy, copy_option,
@@ -101,9 +101,9 @@ fn granted(
     ensures { IfOk result (λ r. granted_of answer ≡ r) }
 {
     match answer {
-        Ok(reply) => match into_credentials(alloc, &reply, "AssumeRoleProvider")? {
+        Ok(reply) => match reply_credentials(alloc, &reply, "AssumeRoleProvider")? {
             Ok(credentials) => Ok(Ok(mark(credentials)?)),
-            Err(cause) => Ok(Err(CredentialsError::Unhandled(cause))),
+            Err(error) => Ok(Err(error)),
         },
         Err(NotGranted::Refused(refusal)) => Ok(Err(refused(refusal))),
         Err(NotGranted::Failed(kind)) => {

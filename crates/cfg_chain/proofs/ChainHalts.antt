@@ -4,11 +4,11 @@ use Rattle.cfg_types.specs.declared.errors.ProviderAttempt.{ProviderAttempt}
 use Rattle.cfg_world.specs.declared.asking.Asking.{Ghosts}
 use Rattle.cfg_world.specs.declared.asking.Stop.{Stop}
 use Rattle.cfg_world.specs.declared.asking.Stop.TheVariants.{Open, OutOfMemory}
-use Rattle.cfg_keeping.specs.Chains.{Chain, chain}
-use Rattle.cfg_keeping.specs.Holds.{Holdings, HoldsHalts}
-use Rattle.cfg_keeping.specs.KeptInquiry.{KeptInquiry}
-use Rattle.cfg_keeping.proofs.ChainSteps.{chain_waits, chain_breaks}
-use Rattle.cfg_keeping.proofs.HoldingSteps.{HoldsLeads}
+use Rattle.cfg_kept.specs.Chains.{Chain, chain}
+use Rattle.cfg_kept.specs.Holds.{Holdings, HoldsHalts}
+use Rattle.cfg_kept.specs.KeptInquiry.{KeptInquiry}
+use Rattle.cfg_kept.proofs.ChainSteps.{chain_waits, chain_breaks}
+use Rattle.cfg_kept.proofs.HoldingSteps.{HoldsLeads}
 
 pub chain_halts : {M V E W : Type 0} {w : Ghosts W} {old mid : W} {before between : Holdings} {tree : KeptInquiry (Result V E)}
     (c : Chain M V E) (members : List M) (i : ℕ) (d : M) (attempts : List (ProviderAttempt E)) (new : W) (later : Holdings) (stop : Stop) →

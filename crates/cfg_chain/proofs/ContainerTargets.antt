@@ -7,8 +7,8 @@ use Rattle.cfg_world.specs.Inquiry.{Inquiry, Done, Ask}
 use Rattle.cfg_exchange.specs.ContainerRequests.{IsSafeQuestion, look_ups}
 use Rattle.cfg_exchange.specs.Containers.{IsContainerUri}
 use Rattle.cfg_exchange.proofs.SafeRequests.{requests_safe}
-use Rattle.cfg_keeping.specs.Kinds.{Value, States}
-use Rattle.cfg_keeping.specs.KeptInquiry.{Begins, lift}
+use Rattle.cfg_kept.specs.Kinds.{Value, States}
+use Rattle.cfg_kept.specs.KeptInquiry.{Begins, lift}
 use Rattle.cfg_chain.specs.declared.member.Member.TheVariants.{EcsContainer}
 use Rattle.cfg_chain.specs.Settings.{Setting, container_settings}
 use Rattle.cfg_chain.specs.Members.{member_tree}

@@ -2,7 +2,6 @@ pub mod ChainHalts
 pub mod OnePlan
 pub mod PlannedBases
 pub mod ProfileSteps
-pub mod RoleCauses
 pub mod ProfileCauses
 pub mod MemberCauses
 pub mod PassedByTable
@@ -19,7 +18,6 @@ pub mod Validity
 pub mod Calls
 pub mod ProfileCalls
 pub mod WorldSteps
-pub mod GivenRegions
 pub mod SetRegions
 pub mod WhoAnswered
 pub mod WithoutRoles

@@ -1,10 +1,10 @@
 -- Each member's answer has its cause, and a member is passed over by its line of the table.
 use Rattle.std.proofs.Common.{List, [], None}
 use Rattle.cfg_world.specs.Fits.{Pair}
-use Rattle.cfg_keeping.specs.Kinds.{Value}
-use Rattle.cfg_keeping.specs.KeptInquiry.{Reads}
-use Rattle.cfg_keeping.proofs.Splits.{lowered}
-use Rattle.cfg_metadata.proofs.Reasons as metadata
+use Rattle.cfg_kept.specs.Kinds.{Value}
+use Rattle.cfg_kept.specs.KeptInquiry.{Reads}
+use Rattle.cfg_kept.proofs.Splits.{lowered}
+use Rattle.cfg_imds_credentials.proofs.Reasons as metadata
 use Rattle.cfg_providers.specs.CustomSources.{Answer}
 use Rattle.cfg_providers.specs.EnvironmentKeys.{by_environment}
 use Rattle.cfg_providers.specs.WebIdentities.{no_policies, web_identity}
@@ -14,10 +14,10 @@ use Rattle.cfg_chain.specs.declared.member.Member.TheVariants.{Environment, Prof
 use Rattle.cfg_chain.specs.Settings.{Setting, chain_metadata}
 use Rattle.cfg_chain.specs.Members.{member_tree, credentials_chain, default_members, default_chain}
 use Rattle.cfg_chain.specs.Causes.{Cause}
-use Rattle.cfg_keeping.specs.ChainParts.{MemberReads}
+use Rattle.cfg_kept.specs.ChainParts.{MemberReads}
 use Rattle.cfg_chain.specs.profile.Bases.{by_container}
 use Rattle.cfg_chain.specs.Resolves.{IsPart, Resolves}
-use Rattle.cfg_keeping.proofs.ChainParts.{chain_parts, parts_chain, parts_more}
+use Rattle.cfg_kept.proofs.ChainParts.{chain_parts, parts_chain, parts_more}
 use Rattle.cfg_chain.proofs.ProfileCauses.{environment_fails, container_fails, profile_fails}
 
 pub has_cause : (s : Setting) (member : Member) (found : List Value) (part : List Pair) (out : Answer) → Reads (member_tree s member) found part out → Cause s member found part out

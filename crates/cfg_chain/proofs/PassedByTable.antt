@@ -4,14 +4,14 @@ use Rattle.std.proofs.Common.{◌≡◌, ℕ, List, [], ◌∷◌, Bool, true, f
 use Rattle.std.specs.Prelude.{codes, option_and_then}
 use Rattle.std.specs.List.{last_or}
 use Rattle.std.specs.Result.{result_err}
-use Rattle.cfg_values.specs.Gives.{◌>>=◌}
+use Rattle.cfg_base.specs.Gives.{◌>>=◌}
 use Rattle.cfg_types.specs.Classes.{is_of_class, is_not_loaded_answer}
 use Rattle.cfg_types.specs.Environment.{variable, text_read}
 use Rattle.cfg_types.specs.Replies.{sts_in}
 use Rattle.cfg_types.specs.declared.errors.Class.TheVariants as class
 use Rattle.cfg_types.specs.declared.errors.CredentialsError.{CredentialsError}
 use Rattle.cfg_types.specs.declared.errors.CredentialsError as errors
-use Rattle.cfg_types.specs.declared.errors.CredentialsError.TheVariants.{Unhandled}
+use Rattle.cfg_types.specs.Keys.{Keys}
 use Rattle.cfg_types.specs.declared.errors.UnhandledCause.{UnhandledCause}
 use Rattle.cfg_types.specs.declared.errors.ProfileFileError.{ProfileFileError}
 use Rattle.cfg_types.specs.declared.errors.ProfileFileError.TheVariants as plan_error
@@ -26,11 +26,11 @@ use Rattle.cfg_world.specs.declared.leaves.NotGranted.TheVariants.{Failed, Refus
 use Rattle.cfg_world.specs.Fits.{Pair}
 use Rattle.cfg_world.specs.Inquiry.{Reads}
 use Rattle.cfg_world.specs.Leaves.{granted_of}
-use Rattle.cfg_keeping.specs.Kinds.{Value}
-use Rattle.cfg_keeping.specs.KeptInquiry as kept
-use Rattle.cfg_keeping.proofs.Splits.{lowered}
-use Rattle.cfg_metadata.proofs.Given.{given_is}
-use Rattle.cfg_metadata.proofs.Passing.{by_its_line}
+use Rattle.cfg_kept.specs.Kinds.{Value}
+use Rattle.cfg_kept.specs.KeptInquiry as kept
+use Rattle.cfg_kept.proofs.Splits.{lowered}
+use Rattle.cfg_imds_credentials.proofs.Given.{given_is}
+use Rattle.cfg_imds_credentials.proofs.Passing.{by_its_line}
 use Rattle.cfg_exchange.specs.Containers.{IsContainerUri}
 use Rattle.cfg_exchange.proofs.Unset.{passed_over, unset_passed}
 use Rattle.cfg_providers.specs.declared.web_identity_token.WebIdentity.{WebIdentity}
@@ -38,9 +38,11 @@ use Rattle.cfg_providers.specs.CustomSources.{Answer}
 use Rattle.cfg_providers.specs.EnvironmentKeys.{by_environment}
 use Rattle.cfg_providers.specs.EnvironmentCauses.{environment_is_passed_over}
 use Rattle.cfg_json.specs.Reading.{utf8_of}
+use Rattle.cfg_providers.specs.Sts.{keys_in, or_unhandled, into_credentials}
 use Rattle.cfg_providers.specs.WebIdentities.{set_or_not, identity_in, no_policies, by_identity, web_identity, why_text, why_file, why_granted, why_answer, why_entry}
 use Rattle.cfg_providers.proofs.EnvironmentFailures.{environment_not_loaded}
 use Rattle.cfg_providers.proofs.WebIdentityCauses.{assumed_cause}
+use Rattle.cfg_providers.specs.RoleCauses.{first_failure, of_role}
 use Rattle.cfg_chain.specs.declared.member.Member.{Member}
 use Rattle.cfg_chain.specs.declared.member.Member.TheVariants.{Environment, Profile, WebIdentityToken, EcsContainer, Ec2InstanceMetadata}
 use Rattle.cfg_chain.specs.Settings.{Setting, names_of, container_settings, chain_metadata}
@@ -49,7 +51,7 @@ use Rattle.cfg_chain.specs.PassedOver.{plan_is_passed_over, is_error, IsPassedOv
 use Rattle.cfg_chain.specs.profile.Bases.{by_container}
 use Rattle.cfg_chain.specs.profile.Plans.{Planned, plan, refusal, is_not_loaded_error}
 use Rattle.cfg_chain.specs.profile.Profiles.{follows_plan, profile}
-use Rattle.cfg_chain.specs.profile.Causes.{first_failure, of_base, of_role}
+use Rattle.cfg_chain.specs.profile.Causes.{of_base}
 use Rattle.cfg_chain.proofs.ProfileCauses.{plan_fails}
 
 -- whether a cause is that nothing was loaded
@@ -129,16 +131,16 @@ file_plain file (answer.Addresses addresses) = refl
 file_plain file (answer.Replied reply) = refl
 file_plain file (answer.Failed kind) = refl
 
-unhandled_plain : (reason : Option UnhandledCause) → is_unset (option_map Unhandled reason) ≡ false
+unhandled_plain : (read : Result Keys UnhandledCause) → is_unset (result_err (or_unhandled read)) ≡ false
 unfolding errors.out-CredentialsError carrier.out
-unhandled_plain None = refl
-unhandled_plain (Some reason) = refl
+unhandled_plain (Ok keys) = refl
+unhandled_plain (Err cause) = refl
 
 granted_plain : (given : Result StsReply NotGranted) → is_unset (why_granted given) ≡ false
-unfolding errors.out-CredentialsError carrier.out
+unfolding errors.out-CredentialsError carrier.out into_credentials
 granted_plain (Err (Failed kind)) = refl
 granted_plain (Err (Refused refused)) = refl
-granted_plain (Ok reply) = unhandled_plain _
+granted_plain (Ok reply) = unhandled_plain (keys_in reply.credentials reply.arn (codes "WebIdentityToken"))
 
 answer_plain : (q : Question) (given : Given) → is_unset (why_answer q given) ≡ false
 answer_plain question.Now given = refl

@@ -7,8 +7,8 @@ use denote.Hole.Carrier as carrier
 use Rattle.cfg_types.specs.Replies.{sts_in}
 use Rattle.cfg_types.specs.Environment.{Variables, variable, text_read}
 use Rattle.cfg_types.specs.declared.errors.CredentialsError as errors
+use Rattle.cfg_types.specs.Keys.{Keys}
 use Rattle.cfg_types.specs.declared.errors.CredentialsError.{CredentialsError}
-use Rattle.cfg_types.specs.declared.errors.CredentialsError.TheVariants.{Unhandled}
 use Rattle.cfg_types.specs.declared.errors.ProfileFileError.{ProfileFileError}
 use Rattle.cfg_types.specs.declared.errors.ProfileFileError.TheVariants as plan_error
 use Rattle.cfg_types.specs.declared.errors.UnhandledCause.{UnhandledCause}
@@ -24,14 +24,15 @@ use Rattle.cfg_world.specs.Leaves.{granted_of}
 use Rattle.cfg_providers.specs.declared.web_identity_token.WebIdentity.{WebIdentity}
 use Rattle.cfg_providers.specs.CustomSources.{Answer}
 use Rattle.cfg_providers.specs.EnvironmentKeys.{not_set}
-use Rattle.cfg_providers.specs.Sts.{into_credentials}
+use Rattle.cfg_providers.specs.Sts.{or_unhandled, into_credentials}
 use Rattle.cfg_json.specs.Reading.{utf8_of}
 use Rattle.cfg_providers.specs.WebIdentities.{set_or_not, identity_in, why_text, why_file, why_granted, why_answer, why_entry}
-use Rattle.cfg_values.specs.Gives.{◌>>=◌}
+use Rattle.cfg_providers.specs.RoleCauses.{of_role}
+use Rattle.cfg_base.specs.Gives.{◌>>=◌}
 use Rattle.cfg_chain.specs.Settings.{Setting}
-use Rattle.cfg_keeping.specs.Chains.{passed}
+use Rattle.cfg_kept.specs.Chains.{passed}
 use Rattle.cfg_chain.specs.Members.{is_not_loaded, credentials_chain}
-use Rattle.cfg_chain.specs.profile.Causes.{of_base, of_role}
+use Rattle.cfg_chain.specs.profile.Causes.{of_base}
 use Rattle.cfg_chain.specs.profile.Plans.{is_not_loaded_error, refusal}
 use Rattle.cfg_chain.proofs.UsableEntries.{no_success}
 
@@ -95,16 +96,16 @@ plan_stays (Some e) r = refl
 
 -- ---- web identity
 
-unhandled_stays : (o : Option UnhandledCause) → passes (option_map Unhandled o) ≡ false
+unhandled_stays : (r : Result Keys UnhandledCause) → passes (result_err (or_unhandled r)) ≡ false
 unfolding errors.out-CredentialsError carrier.out
-unhandled_stays None = refl
-unhandled_stays (Some cause) = refl
+unhandled_stays (Ok keys) = refl
+unhandled_stays (Err cause) = refl
 
 granted_stays : (r : Result StsReply NotGranted) → passes (why_granted r) ≡ false
-unfolding errors.out-CredentialsError carrier.out
+unfolding into_credentials errors.out-CredentialsError carrier.out
 granted_stays (Err (Failed kind)) = refl
 granted_stays (Err (Refused refusal)) = refl
-granted_stays (Ok reply) = unhandled_stays (result_err (into_credentials reply (codes "WebIdentityToken")))
+granted_stays (Ok reply) = unhandled_stays _
 
 text_stays : (text : Option (List ℕ)) → passes (why_text text) ≡ false
 unfolding errors.out-CredentialsError carrier.out

@@ -3,8 +3,8 @@ use Rattle.std.proofs.Common.{◌≡◌, ℕ, List, [], ◌∷◌, Bool, true, f
 use Rattle.std.specs.Prelude.{◌&&◌, not, is_some, fold, codes, if◌then◌else◌}
 use Rattle.std.specs.List.{list_any}
 use Rattle.std.specs.FinMap.{get}
-use Rattle.cfg_values.specs.Text.{characters}
-use Rattle.cfg_values.specs.TextMap.{Named}
+use Rattle.cfg_base.specs.Text.{characters}
+use Rattle.cfg_base.specs.TextMap.{Named}
 use Rattle.cfg_types.specs.Keys.{Keys}
 use Rattle.cfg_types.specs.declared.errors.ProfileFileError.{ProfileFileError}
 use Rattle.cfg_types.specs.declared.errors.ProfileFileError.TheVariants.{UnknownProvider}

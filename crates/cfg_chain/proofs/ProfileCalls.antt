@@ -1,18 +1,26 @@
 -- A call that follows a profile's questions provides what they read.
-use Rattle.std.proofs.Common.{◌≡◌, List, [], ◌++◌, true, Some, Ok, Err, sym, ap, ◌∙◌, subst}
+use Rattle.std.proofs.Common.{◌≡◌, List, [], ◌++◌, true, Some, None, Result, Ok, Err, inr, sym, ap, ◌∙◌, subst}
+use Rattle.cfg_types.specs.Environment.{Variables}
+use Rattle.cfg_world.specs.declared.asking.Asking.{Ghosts}
+use Rattle.cfg_world.specs.declared.asking.Stop.{Stop}
 use Rattle.std.specs.Prelude.{is_ok}
 use Rattle.cfg_world.specs.Fits.{Pair}
-use Rattle.cfg_keeping.specs.Kinds.{Value, States}
-use Rattle.cfg_keeping.specs.KeptInquiry.{Runs, Begins, Reads, kept_after}
-use Rattle.cfg_keeping.proofs.Told.{told}
+use Rattle.cfg_kept.specs.Kinds.{Value, States}
+use Rattle.cfg_kept.specs.KeptInquiry.{Runs, Begins, Reads, kept_after}
+use Rattle.cfg_kept.specs.Holds.{Holdings, HoldsFollows}
+use Rattle.cfg_kept.proofs.Told.{told}
+use Rattle.cfg_exchange.specs.Containers.{IsContainerUri}
+use Rattle.cfg_exchange.specs.declared.container.ContainerUri.{ContainerUri}
+use Rattle.cfg_imds.specs.Clients.{ClientRules}
+use Rattle.cfg_imds.specs.Setups.{configured, IsClient}
 use Rattle.cfg_profile.specs.Configuration.{Configuration}
 use Rattle.cfg_providers.specs.CustomSources.{Answer}
-use Rattle.cfg_chain.specs.Settings.{Setting, Lent, Services, AreServices, setting, names_of}
+use Rattle.cfg_chain.specs.Settings.{Setting, ChainSetting, Services, AreServices, given_or, setting, names_of}
 use Rattle.cfg_chain.specs.Valid.{AreOfUse, IsFile}
 use Rattle.cfg_chain.specs.profile.Plans.{Planned, plan}
 use Rattle.cfg_chain.specs.profile.Profiles.{follows_plan, profile}
-use Rattle.cfg_chain.specs.profile.Provides.{PlanGives, IsUsable, IsProfileCall}
-use Rattle.cfg_chain.proofs.Calls.{some_is}
+use Rattle.cfg_chain.specs.profile.Provides.{PlanGives, IsUsable, IsProfileCall, FollowsProfile}
+use Rattle.cfg_chain.proofs.Calls.{some_is, set_alike}
 use Rattle.cfg_chain.proofs.ProfileCauses.{profile_fails}
 use Rattle.cfg_chain.proofs.Stretches.{all_of_it}
 use Rattle.cfg_chain.proofs.UsableProfile.{plan_succeeds}
@@ -26,11 +34,35 @@ profile_gives : (s : Setting) (found : List Value) (part : List Pair) (out : Ans
 unfolding profile
 profile_gives s found part out h u = planned_gives s (plan s.configuration (names_of s.sources)) found part out h u.answers u.given
 
+-- where no client is given, the configuration's is that of the services
+pub own_services : (over : ChainSetting) (conf : Configuration) (env : Variables) (container : ContainerUri) (own : ClientRules) →
+    over.client ≡ None → conf ≡ over.configuration → env ≡ conf.environment → IsContainerUri env container → IsClient (configured conf) own →
+    AreServices over (record { container = container; client = own; named_client = own })
+own_services over conf env container own none same is_env at asks = record {
+  container = subst (λ e. IsContainerUri e container) (is_env ∙ ap (λ (c : Configuration). c.environment) same) at;
+  named_client = subst (λ (c : Configuration). IsClient (configured c) own) same asks;
+  client = ap (λ given. given_or given own) (sym none);
+}
+
+-- a call that follows a profile's questions over such services follows its provider
+pub follows_alone : {A : Type 0} (a : Ghosts A) (over : ChainSetting) (conf : Configuration) (env : Variables) (container : ContainerUri) (own : ClientRules) (s : Setting)
+    (old new : A) (before later : Holdings) (out : Result Answer Stop) →
+    over.client ≡ None → conf ≡ over.configuration → env ≡ conf.environment → IsContainerUri env container → IsClient (configured conf) own →
+    s.configuration ≡ over.configuration → s.sources ≡ over.sources → s.container ≡ container → s.client ≡ own → s.named_client ≡ own →
+    HoldsFollows a (profile s) old before new later out → FollowsProfile a over old before new later out
+follows_alone a over conf env container own s old new before later out none same is_env at asks configuration sources is_container is_client is_named h =
+    let services : Services = record { container = container; client = own; named_client = own } in
+    inr (
+      services,
+      own_services over conf env container own none same is_env at asks,
+      subst (λ t. HoldsFollows a (profile t) old before new later out) (set_alike over services s configuration sources is_container is_client is_named) h,
+    )
+
 -- a run of a profile's questions from kept states that are told is a call
-is_profile_call : (conf : Configuration) (lent : Lent) (services : Services) (old new : States) (found : List Value) (part : List Pair) (out : Answer) → AreServices conf lent.client services →
-    Runs (profile (setting conf lent.sources services)) (Some old) found part out (Some new) → IsProfileCall conf lent old new found part out
-is_profile_call conf lent services old new found part out names runs =
-    let s = setting conf lent.sources services in
+is_profile_call : (over : ChainSetting) (services : Services) (old new : States) (found : List Value) (part : List Pair) (out : Answer) → AreServices over services →
+    Runs (profile (setting over services)) (Some old) found part out (Some new) → IsProfileCall over old new found part out
+is_profile_call over services old new found part out names runs =
+    let s = setting over services in
     let t = told (profile s) old (Some new) found part out runs in
     let reads = subst (λ f. Reads (profile s) f part out) (sym t.0) t.2 in
     record {
@@ -44,14 +76,14 @@ is_profile_call conf lent services old new found part out names runs =
     }
 
 -- the same where the list of the values that were found was emptied before
-pub profile_call_from : (conf : Configuration) (lent : Lent) (services : Services) (old cleared new : States) (earlier found more : List Value) (part : List Pair) (out : Answer) → AreServices conf lent.client services →
-    earlier ≡ [] → cleared ≡ old → more ≡ earlier ++ found → Runs (profile (setting conf lent.sources services)) (Some cleared) found part out (Some new) → IsProfileCall conf lent old new more part out
-profile_call_from conf lent services old cleared new earlier found more part out names none same list runs =
-    subst (λ k. IsProfileCall conf lent k new more part out) same
-    (subst (λ f. IsProfileCall conf lent cleared new f part out) (sym (list ∙ ap (λ t. t ++ found) none)) (is_profile_call conf lent services cleared new found part out names runs))
+pub profile_call_from : (over : ChainSetting) (services : Services) (old cleared new : States) (earlier found more : List Value) (part : List Pair) (out : Answer) → AreServices over services →
+    earlier ≡ [] → cleared ≡ old → more ≡ earlier ++ found → Runs (profile (setting over services)) (Some cleared) found part out (Some new) → IsProfileCall over old new more part out
+profile_call_from over services old cleared new earlier found more part out names none same list runs =
+    subst (λ k. IsProfileCall over k new more part out) same
+    (subst (λ f. IsProfileCall over cleared new f part out) (sym (list ∙ ap (λ t. t ++ found) none)) (is_profile_call over services cleared new found part out names runs))
 
-pub profile_begins_from : (conf : Configuration) (lent : Lent) (services : Services) (old cleared new : States) (earlier found more : List Value) (part : List Pair) →
-    earlier ≡ [] → cleared ≡ old → more ≡ earlier ++ found → Begins (profile (setting conf lent.sources services)) (Some cleared) found part (Some new) → Begins (profile (setting conf lent.sources services)) (Some old) more part (Some new)
-profile_begins_from conf lent services old cleared new earlier found more part none same list begins =
-    subst (λ k. Begins (profile (setting conf lent.sources services)) (Some k) more part (Some new)) same
-    (subst (λ f. Begins (profile (setting conf lent.sources services)) (Some cleared) f part (Some new)) (sym (list ∙ ap (λ t. t ++ found) none)) begins)
+pub profile_begins_from : (over : ChainSetting) (services : Services) (old cleared new : States) (earlier found more : List Value) (part : List Pair) →
+    earlier ≡ [] → cleared ≡ old → more ≡ earlier ++ found → Begins (profile (setting over services)) (Some cleared) found part (Some new) → Begins (profile (setting over services)) (Some old) more part (Some new)
+profile_begins_from over services old cleared new earlier found more part none same list begins =
+    subst (λ k. Begins (profile (setting over services)) (Some k) more part (Some new)) same
+    (subst (λ f. Begins (profile (setting over services)) (Some cleared) f part (Some new)) (sym (list ∙ ap (λ t. t ++ found) none)) begins)

@@ -8,38 +8,41 @@ use Rattle.cfg_world.specs.Fits.{Pair}
 use Rattle.cfg_world.specs.Inquiry as low
 use Rattle.cfg_world.specs.Inquiry.{Done}
 use Rattle.cfg_world.proofs.Inquiries.{split_after}
-use Rattle.cfg_keeping.specs.Kinds.{Value}
-use Rattle.cfg_keeping.specs.KeptInquiry.{Gives, Reads, lift, onwards_if_ok}
-use Rattle.cfg_keeping.proofs.Splits.{lowered, split_onwards}
+use Rattle.cfg_kept.specs.Kinds.{Value}
+use Rattle.cfg_kept.specs.KeptInquiry.{Gives, Reads, lift, onwards_if_ok}
+use Rattle.cfg_kept.proofs.Splits.{lowered, split_onwards}
 use Rattle.cfg_exchange.proofs.Causes.{has_cause}
-use Rattle.cfg_metadata.specs.Metadata.{metadata}
-use Rattle.cfg_metadata.proofs.Given.{given_is, whole_part}
-use Rattle.cfg_metadata.proofs.Reasons.{has_cause as metadata_cause}
-use Rattle.cfg_sign_in.specs.declared.asked_by.AskedBy.TheVariants as by
-use Rattle.cfg_sign_in.proofs.SignInCauses.{sign_in_cause}
-use Rattle.cfg_sso.proofs.SsoCauses.{given_then, sso_cause}
+use Rattle.cfg_imds_credentials.specs.Metadata.{metadata}
+use Rattle.cfg_imds_credentials.proofs.Given.{given_is, whole_part}
+use Rattle.cfg_imds_credentials.proofs.Reasons.{has_cause as metadata_cause}
+use Rattle.cfg_login.specs.declared.asked_by.AskedBy.TheVariants as by
+use Rattle.cfg_login.proofs.SignInCauses.{sign_in_cause}
+use Rattle.cfg_kept.proofs.CallParts.{given_then}
+use Rattle.cfg_sso.proofs.SsoCauses.{sso_cause}
 use Rattle.cfg_profile.specs.declared.chain.BaseProvider.{BaseProvider}
 use Rattle.cfg_profile.specs.declared.chain.BaseProvider.TheVariants as base
 use Rattle.cfg_profile.specs.declared.chain.ProfileChain.{ProfileChain}
 use Rattle.cfg_profile.specs.declared.chain.RoleArn.{RoleArn}
 use Rattle.cfg_profile.specs.Configuration.{Configuration}
 use Rattle.cfg_profile.specs.NamedSources.{is_alike}
+use Rattle.cfg_profile.specs.Settings.{settings_of}
 use Rattle.cfg_providers.specs.declared.web_identity_token.WebIdentity.{WebIdentity}
 use Rattle.cfg_providers.specs.AssumeRole.{assumes_roles}
 use Rattle.cfg_providers.specs.CustomSources.{Answer, last_named}
 use Rattle.cfg_providers.specs.EnvironmentKeys.{by_environment}
 use Rattle.cfg_providers.specs.EnvironmentCauses.{why_environment}
 use Rattle.cfg_providers.specs.Processes.{credential_process}
+use Rattle.cfg_providers.specs.RoleCauses.{why_roles}
 use Rattle.cfg_providers.specs.WebIdentities.{no_policies, assumes_by_web_identity}
 use Rattle.cfg_providers.proofs.EnvironmentFailures.{environment_cause}
 use Rattle.cfg_providers.proofs.ProcessCauses.{process_cause}
+use Rattle.cfg_providers.proofs.RoleCauses.{roles_fail}
 use Rattle.cfg_providers.proofs.WebIdentityCauses.{assumed_cause}
 use Rattle.cfg_chain.specs.Settings.{Setting, names_of, container_settings, named_metadata}
 use Rattle.cfg_chain.specs.profile.Plans.{Planned, plan, refusal}
 use Rattle.cfg_chain.specs.profile.Bases.{by_container, unknown_source, without_role, built_in_source, source_or, named_source, profile_session, signed_on, base_tree, in_base, based}
 use Rattle.cfg_chain.specs.profile.Profiles.{marked, assumed, follows_planned, follows_plan, profile}
-use Rattle.cfg_chain.specs.profile.Causes.{why_by_container, BuiltInCause, SourceCause, BaseCause, first_failure, of_base, of_role, PlanCause, PlannedCause, ProfileCause}
-use Rattle.cfg_chain.proofs.RoleCauses.{roles_fail}
+use Rattle.cfg_chain.specs.profile.Causes.{why_by_container, BuiltInCause, SourceCause, BaseCause, of_base, PlanCause, PlannedCause, ProfileCause}
 
 pub environment_fails : (s : Setting) (part : List Pair) (out : Answer) → low.Reads (by_environment s.configuration.environment) part out → result_err out ≡ why_environment s.configuration.environment
 environment_fails s [] out h = ap result_err (sym h) ∙ environment_cause s.configuration.environment
@@ -61,7 +64,7 @@ choose false false true s name found part out h = metadata_cause (named_metadata
 choose false false false s name found part out h = given_fails (unknown_source name) found part out h
 
 source_fails : (s : Setting) (name : List ℕ) (own : Option Answer) (found : List Value) (part : List Pair) (out : Answer) →
-    Reads (source_or (built_in_source s.configuration s.container (named_metadata s) name) own) found part out → SourceCause s name own found part out
+    Reads (source_or (built_in_source s name) own) found part out → SourceCause s name own found part out
 unfolding built_in_source
 source_fails s name (Some answer) found part out h = given_fails answer found part out h
 source_fails s name None found part out h = choose (is_alike name (codes "Environment")) (is_alike name (codes "EcsContainer")) (is_alike name (codes "Ec2InstanceMetadata")) s name found part out h
@@ -85,20 +88,20 @@ unfolding marked
 marked_fails (Ok keys) = refl
 marked_fails (Err e) = refl
 
-assumed_marked : (journal first rest : List Pair) (middle out : Answer) → journal ≡ first ++ rest → low.Reads (Done (marked middle)) rest out → result_err middle ≡ option_map of_role (first_failure first) →
-    result_err out ≡ option_map of_role (first_failure journal)
-assumed_marked journal first [] middle out parts behind fails = ap result_err (sym behind) ∙ marked_fails middle ∙ fails ∙ ap (λ p. option_map of_role (first_failure p)) (sym (parts ∙ append-nil first))
+assumed_marked : (journal first rest : List Pair) (middle out : Answer) → journal ≡ first ++ rest → low.Reads (Done (marked middle)) rest out → result_err middle ≡ why_roles first →
+    result_err out ≡ why_roles journal
+assumed_marked journal first [] middle out parts behind fails = ap result_err (sym behind) ∙ marked_fails middle ∙ fails ∙ ap why_roles (sym (parts ∙ append-nil first))
 assumed_marked journal first (e ∷ rest) middle out parts behind fails = absurd behind
 
-assumed_fails : (conf : Configuration) (roles : List RoleArn) (keys : Keys) (part : List Pair) (out : Answer) → low.Reads (assumed conf roles keys) part out → result_err out ≡ option_map of_role (first_failure part)
+assumed_fails : (conf : Configuration) (roles : List RoleArn) (keys : Keys) (part : List Pair) (out : Answer) → low.Reads (assumed conf roles keys) part out → result_err out ≡ why_roles part
 unfolding assumed
 assumed_fails conf roles keys part out h =
-    let r = split_after (assumes_roles conf roles keys) (λ last. Done (marked last)) part out h in
-    assumed_marked part r.part r.rest r.middle out r.parts r.then (roles_fail conf roles keys r.part r.middle r.first)
+    let r = split_after (assumes_roles (settings_of conf) roles keys) (λ last. Done (marked last)) part out h in
+    assumed_marked part r.part r.rest r.middle out r.parts r.then (roles_fail (settings_of conf) roles keys r.part r.middle r.first)
 
 -- the roles behind a base that gave this
 behind_base : (conf : Configuration) (roles : List RoleArn) (given out : Answer) (found : List Value) (rest : List Pair) → Reads (onwards_if_ok (λ keys. lift (assumed conf roles keys)) (in_base given)) found rest out →
-    (found ≡ []) × (result_err out ≡ option_or (option_map of_base (result_err given)) (option_map of_role (first_failure rest)))
+    (found ≡ []) × (result_err out ≡ option_or (option_map of_base (result_err given)) (why_roles rest))
 unfolding in_base
 behind_base conf roles (Ok keys) out found rest h =
     let low = lowered (assumed conf roles keys) found rest out h in

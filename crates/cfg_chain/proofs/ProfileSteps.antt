@@ -3,9 +3,9 @@ use Rattle.std.proofs.Common.{Ok}
 use Rattle.cfg_types.specs.Keys.{Keys}
 use Rattle.cfg_world.specs.declared.asking.Asking.{Ghosts}
 use Rattle.cfg_world.specs.Follows.{Ends}
-use Rattle.cfg_keeping.specs.Holds.{Holdings, HoldsEnds}
-use Rattle.cfg_keeping.specs.KeptInquiry.{lift, onwards_if_ok}
-use Rattle.cfg_keeping.proofs.HoldingSteps.{holds_ends_then, holds_ends}
+use Rattle.cfg_kept.specs.Holds.{Holdings, HoldsEnds}
+use Rattle.cfg_kept.specs.KeptInquiry.{lift, onwards_if_ok}
+use Rattle.cfg_kept.proofs.HoldingSteps.{holds_ends_then, holds_ends}
 use Rattle.cfg_profile.specs.declared.chain.ProfileChain.{ProfileChain}
 use Rattle.cfg_providers.specs.CustomSources.{Answer}
 use Rattle.cfg_chain.specs.Settings.{Setting}

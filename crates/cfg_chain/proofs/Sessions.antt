@@ -7,24 +7,24 @@ use Rattle.cfg_world.specs.declared.devices.Devices.{Ghosts}
 use Rattle.cfg_world.specs.Fits.{Pair, EachFits}
 use Rattle.cfg_world.specs.Held.{Held}
 use Rattle.cfg_world.specs.Inquiry as low
-use Rattle.cfg_keeping.specs.Kinds.{Value, States}
-use Rattle.cfg_keeping.specs.Chains.{passed, go_on, chain}
-use Rattle.cfg_keeping.specs.KeptInquiry.{KeptInquiry, Gives, Runs, Reads, Begins as Begun, lift, onwards, onwards_if_ok}
-use Rattle.cfg_keeping.proofs.Beginnings.{begins_splits}
-use Rattle.cfg_keeping.proofs.Splits.{lowered, split_runs}
-use Rattle.cfg_keeping.proofs.Told.{told}
+use Rattle.cfg_kept.specs.Kinds.{Value, States}
+use Rattle.cfg_kept.specs.Chains.{passed, go_on, chain}
+use Rattle.cfg_kept.specs.KeptInquiry.{KeptInquiry, Gives, Runs, Reads, Begins as Begun, lift, onwards, onwards_if_ok}
+use Rattle.cfg_kept.proofs.Beginnings.{begins_splits}
+use Rattle.cfg_kept.proofs.Splits.{lowered, split_runs}
+use Rattle.cfg_kept.proofs.Told.{told}
 use Rattle.cfg_profile.specs.declared.chain.BaseProvider.{BaseProvider}
 use Rattle.cfg_profile.specs.declared.chain.BaseProvider.TheVariants as base
 use Rattle.cfg_profile.specs.Configuration.{Configuration}
 use Rattle.cfg_providers.specs.CustomSources.{Answer}
 use Rattle.cfg_providers.specs.EnvironmentKeys.{environment, by_environment}
-use Rattle.cfg_sign_in.specs.declared.asked_by.AskedBy.TheVariants as by
-use Rattle.cfg_sign_in.specs.SignIns.{sign_in_credentials}
-use Rattle.cfg_sign_in.proofs.SignInCauses.{sign_in_cause}
-use Rattle.cfg_sign_in.proofs.LastReadings.{credentials_last}
+use Rattle.cfg_login.specs.declared.asked_by.AskedBy.TheVariants as by
+use Rattle.cfg_login.specs.SignIns.{sign_in_credentials}
+use Rattle.cfg_login.proofs.SignInCauses.{sign_in_cause}
+use Rattle.cfg_login.proofs.LastReadings.{credentials_last}
 use Rattle.cfg_chain.specs.declared.member.Member.{Member}
 use Rattle.cfg_chain.specs.declared.member.Member.TheVariants.{Environment, Profile, WebIdentityToken, EcsContainer, Ec2InstanceMetadata}
-use Rattle.cfg_chain.specs.Settings.{Setting, Lent, names_of, setting}
+use Rattle.cfg_chain.specs.Settings.{Setting, ChainSetting, names_of, setting}
 use Rattle.cfg_chain.specs.Members.{member_tree, credentials_chain, default_chain}
 use Rattle.cfg_chain.specs.Provides.{Provides, Interrupted}
 use Rattle.cfg_chain.specs.Resolves.{IsPart, Resolves}
@@ -218,23 +218,23 @@ module _ (s : Setting) (session : List ℕ) (old : States) where
 
 -- ---- a call
 
-pub answered : {D : Type 0} (d : Ghosts D) (conf : Configuration) (lent : Lent) (session : List ℕ) (old new : States) (found : List Value) (before later : Held D) (out : Answer) →
-    PlansSession (plan conf (names_of lent.sources)) session → Provides d conf lent old new found before later out → ReadsSession conf session found before.journal later.journal out
-answered d conf lent session old new found before later out plans h = record {
+pub answered : {D : Type 0} (d : Ghosts D) (over : ChainSetting) (session : List ℕ) (old new : States) (found : List Value) (before later : Held D) (out : Answer) →
+    PlansSession (plan over.configuration (names_of over.sources)) session → Provides d over old new found before later out → ReadsSession over.configuration session found before.journal later.journal out
+answered d over session old new found before later out plans h = record {
   journal = h.part;
   grows = h.grows.journal;
-  begins = in_call (setting conf lent.sources h.call.services) session plans found h.part out h.grows.fits h.call.resolves;
+  begins = in_call (setting over h.call.services) session plans found h.part out h.grows.fits h.call.resolves;
 }
 
-pub interrupted : {D : Type 0} (d : Ghosts D) (conf : Configuration) (lent : Lent) (session : List ℕ) (old new : States) (found : List Value) (before later : Held D) →
-    PlansSession (plan conf (names_of lent.sources)) session → Interrupted d conf lent old new found before later → StopsInSession conf session found before.journal later.journal
-interrupted d conf lent session old new found before later plans (inl h) = record {
+pub interrupted : {D : Type 0} (d : Ghosts D) (over : ChainSetting) (session : List ℕ) (old new : States) (found : List Value) (before later : Held D) →
+    PlansSession (plan over.configuration (names_of over.sources)) session → Interrupted d over old new found before later → StopsInSession over.configuration session found before.journal later.journal
+interrupted d over session old new found before later plans (inl h) = record {
   journal = [];
   grows = ap (λ x. x.journal) h.0 ∙ sym (append-nil before.journal);
   begins = inr (inr refl);
 }
-interrupted d conf lent session old new found before later plans (inr h) = record {
+interrupted d over session old new found before later plans (inr h) = record {
   journal = h.part;
   grows = h.stays.journal;
-  begins = in_beginning (setting conf lent.sources h.services) session old plans (Some new) found h.part h.stays.fits h.begins;
+  begins = in_beginning (setting over h.services) session old plans (Some new) found h.part h.stays.fits h.begins;
 }

@@ -6,11 +6,11 @@ use Rattle.cfg_types.specs.declared.errors.ProviderAttempt.{ProviderAttempt}
 use Rattle.cfg_world.specs.declared.devices.Devices.{Ghosts}
 use Rattle.cfg_world.specs.Fits.{Pair}
 use Rattle.cfg_world.specs.Held.{Held}
-use Rattle.cfg_keeping.specs.Chains.{passed, go_on, chain}
-use Rattle.cfg_keeping.specs.Kinds.{Value, States}
-use Rattle.cfg_keeping.specs.KeptInquiry.{KeptInquiry, Gives, Begins, lift, onwards, onwards_if_ok}
-use Rattle.cfg_keeping.proofs.Beginnings.{begins_splits}
-use Rattle.cfg_keeping.proofs.Told.{run_begins}
+use Rattle.cfg_kept.specs.Chains.{passed, go_on, chain}
+use Rattle.cfg_kept.specs.Kinds.{Value, States}
+use Rattle.cfg_kept.specs.KeptInquiry.{KeptInquiry, Gives, Begins, lift, onwards, onwards_if_ok}
+use Rattle.cfg_kept.proofs.Beginnings.{begins_splits}
+use Rattle.cfg_kept.proofs.Told.{run_begins}
 use Rattle.cfg_profile.specs.declared.chain.BaseProvider.{BaseProvider}
 use Rattle.cfg_profile.specs.declared.chain.BaseProvider.TheVariants as base
 use Rattle.cfg_profile.specs.Configuration.{Configuration}
@@ -23,7 +23,7 @@ use Rattle.cfg_sso.proofs.BegunRequests.{begun_sends}
 use Rattle.cfg_sso.proofs.NoRoleAsked.{NeverAsks, begins_without, onwards_without, if_ok_without}
 use Rattle.cfg_chain.specs.declared.member.Member.{Member}
 use Rattle.cfg_chain.specs.declared.member.Member.TheVariants.{Environment, Profile, WebIdentityToken, EcsContainer, Ec2InstanceMetadata}
-use Rattle.cfg_chain.specs.Settings.{Setting, Lent, chain_metadata, names_of, setting}
+use Rattle.cfg_chain.specs.Settings.{Setting, ChainSetting, chain_metadata, names_of, setting}
 use Rattle.cfg_chain.specs.Members.{member_tree, credentials_chain, default_chain}
 use Rattle.cfg_chain.specs.Provides.{Provides, Interrupted}
 use Rattle.cfg_chain.specs.SignOns.{IsSignOn, PlansSignOn, AsksOnce, SignsOn}
@@ -177,22 +177,22 @@ module _ (s : Setting) (sso : SsoProviderConfig) where
 
 -- ---- a call
 
-module _ {D : Type 0} (d : Ghosts D) (conf : Configuration) (lent : Lent) (old new : States) (found : List Value) (before later : Held D) (sso : SsoProviderConfig)
-    (plans : PlansSignOn (plan conf (names_of lent.sources)) sso) where
-  pub answered : (out : Answer) → Provides d conf lent old new found before later out → SignsOn conf sso found before.journal later.journal
+module _ {D : Type 0} (d : Ghosts D) (over : ChainSetting) (old new : States) (found : List Value) (before later : Held D) (sso : SsoProviderConfig)
+    (plans : PlansSignOn (plan over.configuration (names_of over.sources)) sso) where
+  pub answered : (out : Answer) → Provides d over old new found before later out → SignsOn over.configuration sso found before.journal later.journal
   answered out h =
       let call = h.call in
-      let s = setting conf lent.sources call.services in
+      let s = setting over call.services in
       record {
         journal = h.part;
         grows = h.grows.journal;
         asks = chain_asks s sso plans None None found h.part (run_begins (default_chain s) None None found h.part out (reads_resolved s found h.part out call.resolves));
       }
 
-  pub interrupted : Interrupted d conf lent old new found before later → SignsOn conf sso found before.journal later.journal
+  pub interrupted : Interrupted d over old new found before later → SignsOn over.configuration sso found before.journal later.journal
   interrupted (inl h) = record { journal = []; grows = ap (λ x. x.journal) h.0 ∙ sym (append-nil before.journal); asks = inr tt }
   interrupted (inr h) = record {
     journal = h.part;
     grows = h.stays.journal;
-    asks = chain_asks (setting conf lent.sources h.services) sso plans (Some old) (Some new) found h.part h.begins;
+    asks = chain_asks (setting over h.services) sso plans (Some old) (Some new) found h.part h.begins;
   }

@@ -11,7 +11,7 @@ use Rattle.cfg_world.proofs.Inquiries.{split_after}
 use Rattle.cfg_exchange.specs.declared.container.ContainerSettings.{ContainerSettings}
 use Rattle.cfg_exchange.specs.declared.container.ContainerUri.TheVariants as uri
 use Rattle.cfg_exchange.specs.Containers.{token_by, token_file, token_text, auth_token, container_target, with_token, container}
-use Rattle.cfg_metadata.proofs.Given.{whole_part}
+use Rattle.cfg_imds_credentials.proofs.Given.{whole_part}
 use Rattle.cfg_providers.specs.CustomSources.{Answer}
 use Rattle.cfg_chain.specs.Settings.{Setting, container_settings}
 use Rattle.cfg_chain.specs.profile.Bases.{by_container}

@@ -4,7 +4,7 @@ use Rattle.std.specs.Prelude.{◌-◌, is_ok, if◌then◌else◌}
 use Rattle.std.specs.List.{list_all}
 use Rattle.std.specs.Str.{encode_utf8_all}
 use Rattle.std.proofs.lemmas.List.Sums.{list_all-from_AllPass}
-use Rattle.cfg_values.specs.declared.address.Address.{Address}
+use Rattle.cfg_base.specs.declared.address.Address.{Address}
 use Rattle.cfg_types.specs.Keys.{Keys}
 use Rattle.cfg_types.specs.declared.errors.CredentialsError.{CredentialsError}
 use Rattle.cfg_types.specs.declared.errors.CredentialsError.TheVariants.{InvalidConfiguration}

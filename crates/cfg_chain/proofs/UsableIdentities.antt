@@ -9,6 +9,7 @@ use Rattle.cfg_types.specs.declared.errors.CredentialsError.{CredentialsError}
 use Rattle.cfg_types.specs.declared.errors.process.ProcessCause.TheVariants as cause
 use Rattle.cfg_types.specs.declared.request.Request.TheVariants as sent
 use Rattle.cfg_types.specs.declared.document.InvalidJsonCredentials.{InvalidJsonCredentials}
+use Rattle.cfg_types.specs.declared.settings.CallSettings.{CallSettings}
 use Rattle.cfg_world.specs.declared.ask.Question.TheVariants as question
 use Rattle.cfg_world.specs.declared.ask.Answer.{Answer as Given}
 use Rattle.cfg_world.specs.declared.ask.Answer.TheVariants as answer
@@ -20,7 +21,7 @@ use Rattle.cfg_providers.specs.declared.web_identity_token.SessionPolicies.{Sess
 use Rattle.cfg_providers.specs.AssumeRole as role
 use Rattle.cfg_providers.specs.AssumeRole.{role_session, granted, in_role, exchange, assumes, assumes_roles}
 use Rattle.cfg_providers.specs.ProcessDocuments.{process_document}
-use Rattle.cfg_providers.specs.Processes.{or_no_document, by_text, or_told, process_answer, credential_process}
+use Rattle.cfg_providers.specs.Processes.{or_no_document, output_credentials, or_process_error, process_answer, credential_process}
 use Rattle.cfg_providers.specs.SessionNames.{session_name}
 use Rattle.cfg_json.specs.Reading.{utf8_of}
 use Rattle.cfg_providers.specs.Utf8.{text_in}
@@ -62,15 +63,15 @@ module _ (conf : Configuration) (identity : WebIdentity) (policies : SessionPoli
 
 -- ---- a command
 
-document_fine : (r : Result Keys InvalidJsonCredentials) → is_ok r ≡ true → is_ok (or_told (or_no_document r)) ≡ true
+document_fine : (r : Result Keys InvalidJsonCredentials) → is_ok r ≡ true → is_ok (or_process_error (or_no_document r)) ≡ true
 document_fine (Ok keys) h = refl
 document_fine (Err e) h = h
 
 printed_fine : (account : Option (List ℕ)) (f : Finished) → HasPrinted f → is_ok (process_answer account (Ok f)) ≡ true
 unfolding process_answer utf8_of
 printed_fine account f h =
-    ap (λ n. is_ok (or_told (if int_eq n (pos 0) then by_text account (utf8_of f.output) else Err (cause.Status f.status (text_in f.errors))))) h.ended
-    ∙ ap (λ b. is_ok (or_told (by_text account (if b then Some f.output else None)))) h.text
+    ap (λ n. is_ok (or_process_error (if int_eq n (pos 0) then output_credentials account (utf8_of f.output) else Err (cause.Status f.status (text_in f.errors))))) h.ended
+    ∙ ap (λ b. is_ok (or_process_error (output_credentials account (if b then Some f.output else None)))) h.text
     ∙ document_fine (process_document f.output account) (h.document account)
 
 process_fine : (account : Option (List ℕ)) (a : Given) → IsPrinted a → is_ok (process_answer account (finished_of a)) ≡ true
@@ -87,18 +88,18 @@ in_role_fine : (r : Result Keys CredentialsError) → is_ok r ≡ true → is_ok
 in_role_fine (Ok keys) h = refl
 in_role_fine (Err e) h = h
 
-exchange_succeeds : (conf : Configuration) (Files : Contents → Type 0) (assumed : RoleArn) (signer : Keys) (name : List ℕ) → Succeeds Files (exchange conf assumed signer name)
+exchange_succeeds : (settings : CallSettings) (Files : Contents → Type 0) (assumed : RoleArn) (signer : Keys) (name : List ℕ) → Succeeds Files (exchange settings assumed signer name)
 unfolding assuming
-exchange_succeeds conf Files assumed signer name =
-    ask_succeeds Files (question.Send (sent.AssumeRole (role.request conf assumed signer name))) (λ a. in_role (granted (granted_of sts_in a)))
+exchange_succeeds settings Files assumed signer name =
+    ask_succeeds Files (question.Send (sent.AssumeRole (role.request settings assumed signer name))) (λ a. in_role (granted (granted_of sts_in a)))
     (λ a u. in_role_fine (granted (granted_of sts_in a)) (granted_fine (granted_of sts_in a) u))
 
-assumes_succeeds : (conf : Configuration) (Files : Contents → Type 0) (signer : Keys) (assumed : RoleArn) → Succeeds Files (assumes conf signer assumed)
+assumes_succeeds : (settings : CallSettings) (Files : Contents → Type 0) (signer : Keys) (assumed : RoleArn) → Succeeds Files (assumes settings signer assumed)
 unfolding assumes
-assumes_succeeds conf Files signer assumed = behind_succeeds Files (session_name role_session assumed.session_name) (exchange conf assumed signer) (exchange_succeeds conf Files assumed signer)
+assumes_succeeds settings Files signer assumed = behind_succeeds Files (session_name role_session assumed.session_name) (exchange settings assumed signer) (exchange_succeeds settings Files assumed signer)
 
-pub roles_succeed : (conf : Configuration) (Files : Contents → Type 0) (roles : List RoleArn) (signer : Keys) → Succeeds Files (assumes_roles conf roles signer)
+pub roles_succeed : (settings : CallSettings) (Files : Contents → Type 0) (roles : List RoleArn) (signer : Keys) → Succeeds Files (assumes_roles settings roles signer)
 unfolding assumes_roles
-roles_succeed conf Files [] signer = done_succeeds Files (Ok signer) refl
-roles_succeed conf Files (assumed ∷ roles) signer =
-    then_succeeds Files (assumes conf signer assumed) (assumes_roles conf roles) (assumes_succeeds conf Files signer assumed) (λ keys. roles_succeed conf Files roles keys)
+roles_succeed settings Files [] signer = done_succeeds Files (Ok signer) refl
+roles_succeed settings Files (assumed ∷ roles) signer =
+    then_succeeds Files (assumes settings signer assumed) (assumes_roles settings roles) (assumes_succeeds settings Files signer assumed) (λ keys. roles_succeed settings Files roles keys)

@@ -6,24 +6,26 @@ use Rattle.cfg_types.specs.Keys.{Keys}
 use Rattle.cfg_types.specs.declared.errors.CredentialsError.{CredentialsError}
 use Rattle.cfg_world.specs.Fits.{Pair}
 use Rattle.cfg_world.specs.Inquiry.{Inquiry}
-use Rattle.cfg_keeping.specs.Kinds.{Value}
-use Rattle.cfg_keeping.specs.KeptInquiry.{KeptInquiry, Gives, Reads, lift, onwards_if_ok}
-use Rattle.cfg_keeping.proofs.Splits.{lowered, split_onwards}
-use Rattle.cfg_metadata.specs.Settings.{MetadataSetting}
-use Rattle.cfg_metadata.specs.Metadata.{metadata, or_found}
-use Rattle.cfg_metadata.specs.Causes.{retrieved_in, why_nothing, AnswersBy}
-use Rattle.cfg_metadata.proofs.Given.{given_is, whole_part}
-use Rattle.cfg_metadata.proofs.Reasons.{has_cause as metadata_cause}
-use Rattle.cfg_metadata.proofs.Validity.{valid_gives}
-use Rattle.cfg_sign_in.specs.declared.asked_by.AskedBy.TheVariants as by
-use Rattle.cfg_sign_in.proofs.SignInCauses.{sign_in_cause}
-use Rattle.cfg_sign_in.proofs.InTime.{nothing_in_the_way as sign_in_succeeds}
-use Rattle.cfg_sso.proofs.SsoCauses.{given_then, sso_cause}
+use Rattle.cfg_kept.specs.Kinds.{Value}
+use Rattle.cfg_kept.specs.KeptInquiry.{KeptInquiry, Gives, Reads, lift, onwards_if_ok}
+use Rattle.cfg_kept.proofs.Splits.{lowered, split_onwards}
+use Rattle.cfg_imds_credentials.specs.Settings.{MetadataSetting}
+use Rattle.cfg_imds_credentials.specs.Metadata.{metadata, or_found}
+use Rattle.cfg_imds_credentials.specs.Causes.{retrieved_in, why_nothing, AnswersBy}
+use Rattle.cfg_imds_credentials.proofs.Given.{given_is, whole_part}
+use Rattle.cfg_imds_credentials.proofs.Reasons.{has_cause as metadata_cause}
+use Rattle.cfg_imds_credentials.proofs.Validity.{valid_gives}
+use Rattle.cfg_login.specs.declared.asked_by.AskedBy.TheVariants as by
+use Rattle.cfg_login.proofs.SignInCauses.{sign_in_cause}
+use Rattle.cfg_login.proofs.InTime.{nothing_in_the_way as sign_in_succeeds}
+use Rattle.cfg_kept.proofs.CallParts.{given_then}
+use Rattle.cfg_sso.proofs.SsoCauses.{sso_cause}
 use Rattle.cfg_sso.proofs.InTime.{nothing_in_the_way}
 use Rattle.cfg_profile.specs.declared.chain.BaseProvider.{BaseProvider}
 use Rattle.cfg_profile.specs.declared.chain.BaseProvider.TheVariants as base
 use Rattle.cfg_profile.specs.declared.chain.ProfileChain.{ProfileChain}
 use Rattle.cfg_profile.specs.NamedSources.{is_alike}
+use Rattle.cfg_profile.specs.Settings.{settings_of}
 use Rattle.cfg_providers.specs.declared.web_identity_token.WebIdentity.{WebIdentity}
 use Rattle.cfg_providers.specs.AssumeRole.{assumes_roles}
 use Rattle.cfg_providers.specs.CustomSources.{Answer, last_named}
@@ -81,7 +83,7 @@ module _ (s : Setting) where
   choose false false true name found whole part journal out mine stretch h uses fine = metadata_succeeds (named_metadata s) found whole part journal out mine stretch h uses fine
   choose false false false name found whole part journal out mine stretch h uses fine = absurd fine
 
-  source_succeeds : (name : List ℕ) (own : Option Answer) → KeptSucceeds HoldsHeaderValue (source_or (built_in_source s.configuration s.container (named_metadata s) name) own) (IsSource s name own)
+  source_succeeds : (name : List ℕ) (own : Option Answer) → KeptSucceeds HoldsHeaderValue (source_or (built_in_source s name) own) (IsSource s name own)
   unfolding built_in_source
   source_succeeds name (Some given) found whole part journal out mine stretch h uses fine = quiet_succeeds given found part out fine h
   source_succeeds name None found whole part journal out mine stretch h uses fine =
@@ -118,7 +120,7 @@ module _ (s : Setting) where
 
   assumed_succeeds : (Files : Contents → Type 0) (p : ProfileChain) (keys : Keys) → Succeeds Files (assumed s.configuration p.roles keys)
   unfolding assumed
-  assumed_succeeds Files p keys = read_succeeds Files (assumes_roles s.configuration p.roles keys) marked (roles_succeed s.configuration Files p.roles keys) marked_fine
+  assumed_succeeds Files p keys = read_succeeds Files (assumes_roles (settings_of s.configuration) p.roles keys) marked (roles_succeed (settings_of s.configuration) Files p.roles keys) marked_fine
 
   by_given : (p : ProfileChain) (given out : Answer) (found first_found then_found whole : List Value) (part first rest journal : List Pair) → found ≡ first_found ++ then_found → part ≡ first ++ rest →
       IsStretch found whole → IsStretch part journal → Reads (base_tree s p.base) first_found first given → Reads (onwards_if_ok (λ keys. lift (assumed s.configuration p.roles keys)) (in_base given)) then_found rest out →

@@ -2,15 +2,16 @@
 use Rattle.std.proofs.Common.{◌≡◌, ◌≤◌, ℕ, suc, List, [], ◌∷◌, Bool, true, false, cond, Option, Some, None, Result, Ok, Err, refl, ap, ◌∙◌, arith}
 use Rattle.std.specs.Str.{encode_utf8_all}
 use Rattle.std.specs.Prelude.{◌==◌, IsSome, IfSome, is_ok, codes, option_map, option_and_then}
-use Rattle.cfg_values.specs.Text.{characters}
+use Rattle.cfg_base.specs.Text.{characters}
 use Rattle.cfg_types.specs.Keys.{Keys}
+use Rattle.cfg_types.specs.declared.errors.CredentialsError.{CredentialsError}
 use Rattle.cfg_types.specs.declared.errors.UnhandledCause.{UnhandledCause}
 use Rattle.cfg_types.specs.declared.reply.sts.StsReply.{StsReply}
 use Rattle.cfg_types.specs.declared.reply.sts.StsCredentials.{StsCredentials}
 use Rattle.cfg_world.specs.declared.leaves.NotGranted.{NotGranted}
-use Rattle.cfg_providers.specs.Sts.{behind_colon, before_colon, fifth_part, account_of, account_or, keys_in, into_credentials}
-use Rattle.cfg_providers.specs.AssumeRole.{or_unhandled, granted}
-use Rattle.cfg_providers.specs.WebIdentities.{identity_answer, or_unhandled as marked_or_unhandled}
+use Rattle.cfg_providers.specs.Sts.{behind_colon, before_colon, fifth_part, account_of, account_or, keys_in, or_unhandled, into_credentials}
+use Rattle.cfg_providers.specs.AssumeRole.{granted}
+use Rattle.cfg_providers.specs.WebIdentities.{marked, identity_answer}
 use Rattle.cfg_chain.specs.Valid.{colons, HasFiveParts, HoldsCredentials, IsUsable}
 
 -- a text with a colon has a rest behind its first, with one colon less
@@ -50,20 +51,20 @@ keys_given : (given : Option StsCredentials) (arn : Option (List ℕ)) (provider
 keys_given None arn provider some h = cc
 keys_given (Some keys) arn provider some h = let a = account_given arn h in rw (a.1) refl
 
-reply_given : (given : StsReply) (provider : List ℕ) → HoldsCredentials given → is_ok (into_credentials given provider) ≡ true
-unfolding into_credentials
-reply_given given provider h = keys_given given.credentials given.arn provider h.credentials h.arn
-
 unhandled_fine : (r : Result Keys UnhandledCause) → is_ok r ≡ true → is_ok (or_unhandled r) ≡ true
 unhandled_fine (Ok keys) h = refl
 unhandled_fine (Err cause) h = h
 
-marked_fine : (r : Result Keys UnhandledCause) → is_ok r ≡ true → is_ok (marked_or_unhandled r) ≡ true
+reply_given : (given : StsReply) (provider : List ℕ) → HoldsCredentials given → is_ok (into_credentials given provider) ≡ true
+unfolding into_credentials
+reply_given given provider h = unhandled_fine (keys_in given.credentials given.arn provider) (keys_given given.credentials given.arn provider h.credentials h.arn)
+
+marked_fine : (r : Result Keys CredentialsError) → is_ok r ≡ true → is_ok (marked r) ≡ true
 marked_fine (Ok keys) h = refl
-marked_fine (Err cause) h = h
+marked_fine (Err e) h = h
 
 pub granted_fine : (r : Result StsReply NotGranted) → IsUsable r → is_ok (granted r) ≡ true
-granted_fine (Ok given) h = unhandled_fine (into_credentials given (codes "AssumeRoleProvider")) (reply_given given (codes "AssumeRoleProvider") h)
+granted_fine (Ok given) h = reply_given given (codes "AssumeRoleProvider") h
 granted_fine (Err reason) h = absurd h
 
 pub identity_fine : (r : Result StsReply NotGranted) → IsUsable r → is_ok (identity_answer r) ≡ true

@@ -9,26 +9,27 @@ use Rattle.cfg_types.specs.declared.errors.ProviderAttempt.{ProviderAttempt}
 use Rattle.cfg_world.specs.Fits.{Pair}
 use Rattle.cfg_world.specs.Inquiry as low
 use Rattle.cfg_world.specs.Inquiry.{Done}
-use Rattle.cfg_keeping.specs.Kinds.{Value}
-use Rattle.cfg_keeping.specs.KeptInquiry.{Reads}
-use Rattle.cfg_keeping.proofs.Splits.{lowered}
+use Rattle.cfg_kept.specs.Kinds.{Value}
+use Rattle.cfg_kept.specs.KeptInquiry.{Reads}
+use Rattle.cfg_kept.proofs.Splits.{lowered}
 use Rattle.cfg_exchange.specs.declared.container.ContainerUri.TheVariants as uri
 use Rattle.cfg_exchange.specs.declared.container.ContainerUri.{ContainerUri}
 use Rattle.cfg_exchange.specs.Containers.{token_file, token_text, IsUriBy, IsContainerUri}
-use Rattle.cfg_metadata.proofs.Given.{given_is}
+use Rattle.cfg_imds_credentials.proofs.Given.{given_is}
 use Rattle.cfg_providers.specs.declared.web_identity_token.WebIdentity.{WebIdentity}
 use Rattle.cfg_providers.specs.CustomSources.{Answer}
 use Rattle.cfg_providers.specs.EnvironmentKeys.{environment, by_environment}
 use Rattle.cfg_types.specs.Classes.{is_not_loaded_answer}
 use Rattle.cfg_providers.specs.EnvironmentCauses.{missing_variable}
 use Rattle.cfg_providers.specs.WebIdentities.{no_policies, identity_in, by_identity, web_identity, why_identity}
+use Rattle.cfg_providers.specs.RoleCauses.{first_failure}
 use Rattle.cfg_chain.specs.declared.member.Member.{Member}
 use Rattle.cfg_chain.specs.declared.member.Member.TheVariants.{Environment, Profile, WebIdentityToken, EcsContainer, Ec2InstanceMetadata}
 use Rattle.cfg_chain.specs.Settings.{Setting, names_of, chain_metadata}
-use Rattle.cfg_keeping.specs.Chains.{attempt}
-use Rattle.cfg_keeping.specs.ChainParts.{AreParts}
+use Rattle.cfg_kept.specs.Chains.{attempt}
+use Rattle.cfg_kept.specs.ChainParts.{AreParts}
 use Rattle.cfg_chain.specs.Members.{member_tree, credentials_chain}
-use Rattle.cfg_chain.specs.profile.Causes.{first_failure, PlannedCause}
+use Rattle.cfg_chain.specs.profile.Causes.{PlannedCause}
 use Rattle.cfg_chain.specs.profile.Plans.{Planned, plan, refusal}
 use Rattle.cfg_chain.specs.profile.Profiles.{follows_plan, profile}
 use Rattle.cfg_chain.specs.Resolves.{IsPart, Resolves}

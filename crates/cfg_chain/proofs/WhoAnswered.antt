@@ -9,15 +9,15 @@ use Rattle.cfg_types.specs.declared.errors.ProviderAttempt.{ProviderAttempt}
 use Rattle.cfg_world.specs.declared.devices.Devices.{Ghosts}
 use Rattle.cfg_world.specs.Fits.{Pair}
 use Rattle.cfg_world.specs.Held.{Held}
-use Rattle.cfg_keeping.specs.Chains.{passed}
-use Rattle.cfg_keeping.specs.ChainParts.{AreParts}
-use Rattle.cfg_keeping.specs.Kinds.{Value, States}
+use Rattle.cfg_kept.specs.Chains.{passed}
+use Rattle.cfg_kept.specs.ChainParts.{AreParts}
+use Rattle.cfg_kept.specs.Kinds.{Value, States}
 use Rattle.cfg_exchange.specs.Containers.{IsContainerUri}
 use Rattle.cfg_profile.specs.Configuration.{Configuration}
 use Rattle.cfg_providers.specs.CustomSources.{Answer}
 use Rattle.cfg_types.specs.Classes.{is_not_loaded_answer}
 use Rattle.cfg_chain.specs.declared.member.Member.{Member}
-use Rattle.cfg_chain.specs.Settings.{Setting, Lent, setting}
+use Rattle.cfg_chain.specs.Settings.{Setting, ChainSetting, setting}
 use Rattle.cfg_chain.specs.Members.{credentials_chain, default_members, is_not_loaded, none_loaded}
 use Rattle.cfg_chain.specs.Resolves.{IsPart}
 use Rattle.cfg_chain.specs.Provides.{IsCall, Provides}
@@ -127,9 +127,9 @@ module _ (s : Setting) (names : IsContainerUri s.configuration.environment s.con
   of_one members found journal out (inr n) loaded = at_odds (is_not_loaded_answer out) (ap is_not_loaded_answer n.tells ∙ none_is_not_loaded (map told_of n.passed_over)) loaded
 
 -- a call tells who answered
-pub call_tells : (conf : Configuration) (lent : Lent) (old new : States) (found : List Value) (before later part : List Pair) (out : Answer) → later ≡ before ++ part → IsCall conf lent old new found part out → TellsWho conf lent found before later out
-call_tells conf lent old new found before later part out grows call =
-    let s = setting conf lent.sources call.services in
+pub call_tells : (over : ChainSetting) (old new : States) (found : List Value) (before later part : List Pair) (out : Answer) → later ≡ before ++ part → IsCall over old new found part out → TellsWho over found before later out
+call_tells over old new found before later part out grows call =
+    let s = setting over call.services in
     let who = who_of s call.names.container default_members [] found part out call.resolves in
     record {
       services = call.services;
@@ -140,5 +140,5 @@ call_tells conf lent old new found before later part out grows call =
       by_none = of_none s call.names.container default_members found part out who;
     }
 
-pub tells_who : {D : Type 0} (d : Ghosts D) (conf : Configuration) (lent : Lent) (old new : States) (found : List Value) (before later : Held D) (out : Answer) → Provides d conf lent old new found before later out → TellsWho conf lent found before.journal later.journal out
-tells_who d conf lent old new found before later out p = call_tells conf lent old new found before.journal later.journal p.part out p.grows.journal p.call
+pub tells_who : {D : Type 0} (d : Ghosts D) (over : ChainSetting) (old new : States) (found : List Value) (before later : Held D) (out : Answer) → Provides d over old new found before later out → TellsWho over found before.journal later.journal out
+tells_who d over old new found before later out p = call_tells over old new found before.journal later.journal p.part out p.grows.journal p.call

@@ -6,6 +6,7 @@ use Rattle.cfg_types.specs.declared.errors.CredentialsError.{CredentialsError}
 use Rattle.cfg_types.specs.declared.errors.imds.ImdsError.{ImdsError}
 use Rattle.cfg_types.specs.declared.request.Request.{Request}
 use Rattle.cfg_types.specs.declared.request.Request.TheVariants as request
+use Rattle.cfg_types.specs.declared.settings.CallSettings.{CallSettings}
 use Rattle.cfg_world.specs.declared.ask.Question.{Question}
 use Rattle.cfg_world.specs.declared.ask.Question.TheVariants.{Send, Now}
 use Rattle.cfg_world.specs.declared.ask.Answer.{Answer as Given}
@@ -24,20 +25,21 @@ use Rattle.cfg_exchange.specs.Attempts.{asked, attempts}
 use Rattle.cfg_exchange.specs.Classifiers.{credentials_repeats, is_repeated}
 use Rattle.cfg_exchange.specs.Targets.{at_name, full_target}
 use Rattle.cfg_exchange.specs.Containers.{token_file, token_text, token_by, auth_token, or_full_uri, container_target, answer_keys, attempt_limit, credentials_request, credentials_attempts, fetched_keys, with_token, container}
-use Rattle.cfg_imds.specs.Clients.{ClientRules, place_of, settle, fetch}
+use Rattle.cfg_imds.specs.Clients.{ClientRules, place_of, settle, fetch, usable_error}
 use Rattle.cfg_imds.specs.Fetches.{fetched, fetch_at}
 use Rattle.cfg_imds.specs.Requests.{Service, token_request, get_request, tries, token_attempts, get_attempts}
-use Rattle.cfg_imds.specs.Settles.{is_good, kept_value, renewal, renew, settle_at}
+use Rattle.cfg_imds.specs.Settles.{has_time_left, kept_value, renewal, renew, settle_at}
 use Rattle.cfg_imds.specs.Tokens.{Token}
-use Rattle.cfg_keeping.specs.declared.place.Place.{Place}
-use Rattle.cfg_keeping.specs.Kinds.{MetadataTokenOf, MetadataTokenAt, token_in}
-use Rattle.cfg_keeping.specs.KeptInquiry.{KeptInquiry, Gives, lift}
-use Rattle.cfg_keeping.specs.MetadataHoldings.{token_holding}
-use Rattle.cfg_keeping.specs.RoleDocuments.{RoleKeys}
-use Rattle.cfg_metadata.specs.Metadata.{get_fault, unless_fault, token_and_text, metadata_get, listing_path, listed, listing, path_of_role, documented, document, dated_keys, jittered, extended, dated, retrieves_at, retrieves, unless_disabled, settled, metadata}
-use Rattle.cfg_metadata.specs.Settings.{MetadataSetting}
+use Rattle.cfg_kept.specs.declared.place.Place.{Place}
+use Rattle.cfg_kept.specs.Kinds.{MetadataTokenOf, MetadataTokenAt, token_in}
+use Rattle.cfg_kept.specs.KeptInquiry.{KeptInquiry, Gives, lift}
+use Rattle.cfg_kept.specs.MetadataHoldings.{token_holding}
+use Rattle.cfg_kept.specs.RoleDocuments.{RoleKeys}
+use Rattle.cfg_imds_credentials.specs.Metadata.{unless_fault, token_and_text, metadata_get, listing_path, listed, listing, path_of_role, documented, document, dated_keys, jittered, extended, dated, retrieves_at, retrieves, unless_disabled, settled, metadata}
+use Rattle.cfg_imds_credentials.specs.Settings.{MetadataSetting}
 use Rattle.cfg_profile.specs.declared.chain.RoleArn.{RoleArn}
 use Rattle.cfg_profile.specs.Configuration.{Configuration}
+use Rattle.cfg_profile.specs.Settings.{settings_of}
 use Rattle.cfg_providers.specs.declared.web_identity_token.SessionPolicies.{SessionPolicies}
 use Rattle.cfg_providers.specs.declared.web_identity_token.WebIdentity.{WebIdentity}
 use Rattle.cfg_providers.specs.AssumeRole.{role_session, exchange, assumes, assumes_roles}
@@ -69,22 +71,22 @@ unfolding session_name clock
 name_without base (Some name) = tt
 name_without base None = (refl, λ a. tt)
 
-exchange_without : (conf : Configuration) (role : RoleArn) (signer : Keys) (name : List ℕ) → NeverAsks (lift (exchange conf role signer name))
+exchange_without : (settings : CallSettings) (role : RoleArn) (signer : Keys) (name : List ℕ) → NeverAsks (lift (exchange settings role signer name))
 unfolding assuming
-exchange_without conf role signer name = (refl, λ a. tt)
+exchange_without settings role signer name = (refl, λ a. tt)
 
-assumes_without : (conf : Configuration) (signer : Keys) (role : RoleArn) → NeverAsks (lift (assumes conf signer role))
+assumes_without : (settings : CallSettings) (signer : Keys) (role : RoleArn) → NeverAsks (lift (assumes settings signer role))
 unfolding assumes
-assumes_without conf signer role = after_without (session_name role_session role.session_name) (exchange conf role signer) (name_without role_session role.session_name) (exchange_without conf role signer)
+assumes_without settings signer role = after_without (session_name role_session role.session_name) (exchange settings role signer) (name_without role_session role.session_name) (exchange_without settings role signer)
 
-roles_without : (conf : Configuration) (roles : List RoleArn) (signer : Keys) → NeverAsks (lift (assumes_roles conf roles signer))
+roles_without : (settings : CallSettings) (roles : List RoleArn) (signer : Keys) → NeverAsks (lift (assumes_roles settings roles signer))
 unfolding assumes_roles
-roles_without conf [] signer = tt
-roles_without conf (role ∷ roles) signer = asked_bound_without (assumes conf signer role) (assumes_roles conf roles) (assumes_without conf signer role) (λ keys. roles_without conf roles keys)
+roles_without settings [] signer = tt
+roles_without settings (role ∷ roles) signer = asked_bound_without (assumes settings signer role) (assumes_roles settings roles) (assumes_without settings signer role) (λ keys. roles_without settings roles keys)
 
 pub last_role_without : (conf : Configuration) (roles : List RoleArn) (keys : Keys) → NeverAsks (lift (assumed conf roles keys))
 unfolding assumed
-last_role_without conf roles keys = after_without (assumes_roles conf roles keys) (λ last. Done (marked last)) (roles_without conf roles keys) (λ last. tt)
+last_role_without conf roles keys = after_without (assumes_roles (settings_of conf) roles keys) (λ last. Done (marked last)) (roles_without (settings_of conf) roles keys) (λ last. tt)
 
 -- ---- web identity
 
@@ -170,7 +172,7 @@ renew_without s endpoint =
 settle_without : (s : Service) (endpoint : List ℕ) (kept : Option Token) → NeverAsks (lift (settle_at s endpoint kept))
 unfolding settle_at clock
 settle_without s endpoint kept =
-    (refl, λ a. either_without (is_good kept (moment_of a)) (Done (Ok (kept_value kept), kept)) (renew s endpoint) tt (renew_without s endpoint))
+    (refl, λ a. either_without (has_time_left kept (moment_of a)) (Done (Ok (kept_value kept), kept)) (renew s endpoint) tt (renew_without s endpoint))
 
 fetch_without : (s : Service) (endpoint path token : List ℕ) → NeverAsks (lift (fetch_at s endpoint path token))
 unfolding fetch_at
@@ -194,7 +196,7 @@ module _ (client : ClientRules) (place : Place) where
 
   get_without : (path : List ℕ) → NeverAsks (metadata_get client place path)
   unfolding metadata_get
-  get_without path = unless_without (get_fault client path) (token_and_text client place path) (text_without path)
+  get_without path = unless_without (usable_error client path) (token_and_text client place path) (text_without path)
 
   path_without : (role : Option (List ℕ)) → NeverAsks (path_of_role client place role)
   unfolding path_of_role listing

@@ -4,12 +4,15 @@ use Rattle.std.specs.List.{AllByRecursion, flat_map}
 use Rattle.cfg_types.specs.declared.errors.CredentialsError.{CredentialsError}
 use Rattle.cfg_types.specs.declared.errors.ProviderAttempt.{ProviderAttempt}
 use Rattle.cfg_world.specs.Fits.{Pair}
-use Rattle.cfg_keeping.specs.Kinds.{Value}
+use Rattle.cfg_world.specs.Held.{Held}
+use Rattle.cfg_kept.specs.declared.kept.Kept.{Kept}
+use Rattle.cfg_kept.specs.Kinds.{Value}
+use Rattle.cfg_kept.specs.KeptStates.{kept_holdings}
 use Rattle.cfg_profile.specs.Configuration.{Configuration}
 use Rattle.cfg_providers.specs.CustomSources.{Answer}
 use Rattle.cfg_types.specs.Classes.{is_not_loaded_answer}
 use Rattle.cfg_chain.specs.declared.member.Member.{Member}
-use Rattle.cfg_chain.specs.Settings.{Setting, Lent, Services, AreServices, setting}
+use Rattle.cfg_chain.specs.Settings.{Setting, ChainSetting, Services, AreServices, setting}
 use Rattle.cfg_chain.specs.Members.{name_of, is_not_loaded, none_loaded, default_members}
 use Rattle.cfg_chain.specs.PassedOver.{IsPassedOver}
 use Rattle.cfg_chain.specs.Resolves.{IsPart}
@@ -67,10 +70,14 @@ pub record IsAnsweredByNone (s : Setting) (members : List Member) (found : List 
 
 -- What the answer of a call tells its caller of the stretch by which the journal grew: unless it is that nothing
 -- was loaded, one member answered, be it with credentials or with an error; else none of the five was loaded.
-pub record TellsWho (conf : Configuration) (lent : Lent) (found : List Value) (before later : List Pair) (out : Answer) : Type 0 where
+pub record TellsWho (over : ChainSetting) (found : List Value) (before later : List Pair) (out : Answer) : Type 0 where
   pub services : Services
-  pub names : AreServices conf lent.client services
+  pub names : AreServices over services
   pub journal : List Pair
   pub grows : later ≡ before ++ journal
-  pub by_one : is_not_loaded_answer out ≡ false → IsAnsweredBy (setting conf lent.sources services) default_members found journal out
-  pub by_none : is_not_loaded_answer out ≡ true → IsAnsweredByNone (setting conf lent.sources services) default_members found journal out
+  pub by_one : is_not_loaded_answer out ≡ false → IsAnsweredBy (setting over services) default_members found journal out
+  pub by_none : is_not_loaded_answer out ≡ true → IsAnsweredByNone (setting over services) default_members found journal out
+
+-- The same, by what is kept and the journal of a world.
+abbrev pub TellsCaller : {D : Type 0} → ChainSetting → Kept → Held D → Held D → Answer → Type 0
+TellsCaller over kept before later out = TellsWho over (kept_holdings kept).found before.journal later.journal out

@@ -2,8 +2,8 @@
 use Rattle.std.specs.Prelude.{◌≡◌, List, None}
 use Rattle.std.specs.Result.{result_err}
 use Rattle.cfg_world.specs.Fits.{Pair}
-use Rattle.cfg_keeping.specs.Kinds.{Value}
-use Rattle.cfg_metadata.specs.Causes.{CauseMetadata}
+use Rattle.cfg_kept.specs.Kinds.{Value}
+use Rattle.cfg_imds_credentials.specs.Causes.{CauseMetadata}
 use Rattle.cfg_providers.specs.CustomSources.{Answer}
 use Rattle.cfg_providers.specs.EnvironmentCauses.{why_environment}
 use Rattle.cfg_providers.specs.WebIdentities.{why_web_identity}

@@ -1,5 +1,7 @@
 pub mod Settings
-pub mod Sources
+pub mod Views
+pub mod Follows
+pub mod Answers
 pub mod profile
 pub mod Members
 pub mod Turns

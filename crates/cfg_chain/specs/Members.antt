@@ -7,15 +7,15 @@ use Rattle.cfg_types.specs.declared.errors.CredentialsError.{CredentialsError}
 use Rattle.cfg_types.specs.declared.errors.CredentialsError.TheVariants as error
 use Rattle.cfg_types.specs.declared.errors.NotLoadedCause.TheVariants as cause
 use Rattle.cfg_types.specs.declared.errors.ProviderAttempt.{ProviderAttempt}
-use Rattle.cfg_keeping.specs.KeptInquiry.{KeptInquiry, lift}
-use Rattle.cfg_metadata.specs.Metadata.{metadata}
+use Rattle.cfg_kept.specs.KeptInquiry.{KeptInquiry, lift}
+use Rattle.cfg_imds_credentials.specs.Metadata.{metadata}
 use Rattle.cfg_providers.specs.CustomSources.{Answer}
 use Rattle.cfg_providers.specs.EnvironmentKeys.{by_environment}
 use Rattle.cfg_providers.specs.WebIdentities.{no_policies, web_identity}
 use Rattle.cfg_chain.specs.declared.member.Member.{Member}
 use Rattle.cfg_chain.specs.declared.member.Member.TheVariants.{Environment, Profile, WebIdentityToken, EcsContainer, Ec2InstanceMetadata}
 use Rattle.cfg_chain.specs.Settings.{Setting, chain_metadata}
-use Rattle.cfg_keeping.specs.Chains.{Chain, chain}
+use Rattle.cfg_kept.specs.Chains.{Chain, chain}
 use Rattle.cfg_chain.specs.profile.Bases.{by_container}
 use Rattle.cfg_chain.specs.profile.Profiles.{profile}
 
@@ -51,6 +51,10 @@ credentials_chain s = record { name_of = name_of; tree = member_tree s; is_not_l
 abbrev pub default_members : List Member
 default_members = Environment ∷ Profile ∷ WebIdentityToken ∷ EcsContainer ∷ Ec2InstanceMetadata ∷ []
 
+-- these members, in order
+abbrev pub members_tree : Setting → List Member → KeptInquiry Answer
+members_tree s members = chain (credentials_chain s) members []
+
 -- the default chain
 abbrev pub default_chain : Setting → KeptInquiry Answer
-default_chain s = chain (credentials_chain s) default_members []
+default_chain s = members_tree s default_members

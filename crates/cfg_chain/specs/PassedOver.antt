@@ -2,8 +2,8 @@
 use Rattle.std.specs.Prelude.{◌≡◌, ◌↔◌, List, [], true, false, Bool, Result, Ok, Err}
 use Rattle.cfg_world.specs.Fits.{Pair}
 use Rattle.cfg_exchange.specs.ContainerUnset.{IsUnset}
-use Rattle.cfg_keeping.specs.Kinds.{Value}
-use Rattle.cfg_metadata.specs.PassedOver as metadata
+use Rattle.cfg_kept.specs.Kinds.{Value}
+use Rattle.cfg_imds_credentials.specs.PassedOver as metadata
 use Rattle.cfg_types.specs.Classes.{is_not_loaded_answer}
 use Rattle.cfg_providers.specs.EnvironmentCauses.{environment_is_passed_over}
 use Rattle.cfg_providers.specs.CustomSources.{Answer}

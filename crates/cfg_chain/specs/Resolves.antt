@@ -2,13 +2,13 @@
 -- with its cause.
 use Rattle.std.specs.Prelude.{List, []}
 use Rattle.cfg_world.specs.Fits.{Pair}
-use Rattle.cfg_keeping.specs.Kinds.{Value}
-use Rattle.cfg_keeping.specs.KeptInquiry.{Reads}
+use Rattle.cfg_kept.specs.Kinds.{Value}
+use Rattle.cfg_kept.specs.KeptInquiry.{Reads}
 use Rattle.cfg_providers.specs.CustomSources.{Answer}
 use Rattle.cfg_chain.specs.declared.member.Member.{Member}
 use Rattle.cfg_chain.specs.Settings.{Setting}
 use Rattle.cfg_chain.specs.Members.{member_tree, credentials_chain, default_members}
-use Rattle.cfg_keeping.specs.ChainParts.{AreParts}
+use Rattle.cfg_kept.specs.ChainParts.{AreParts}
 use Rattle.cfg_chain.specs.Causes.{Cause}
 
 -- The part of a member: over it the member answers so, and the answer has its cause.

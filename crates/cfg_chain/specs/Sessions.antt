@@ -2,16 +2,16 @@
 use Rattle.std.specs.Prelude.{◌≡◌, ℕ, List, [], ◌++◌, ◌⊎◌, Option, Ok, Err, IfOk}
 use Rattle.cfg_world.specs.Fits.{Pair}
 use Rattle.cfg_world.specs.LastReadings.{last_reading}
-use Rattle.cfg_keeping.specs.Kinds.{Value, States}
-use Rattle.cfg_keeping.specs.KeptInquiry.{Reads, Begins}
+use Rattle.cfg_kept.specs.Kinds.{Value, States}
+use Rattle.cfg_kept.specs.KeptInquiry.{Reads, Begins}
 use Rattle.cfg_profile.specs.declared.chain.BaseProvider.{BaseProvider}
 use Rattle.cfg_profile.specs.declared.chain.BaseProvider.TheVariants as base
 use Rattle.cfg_profile.specs.Configuration.{Configuration}
 use Rattle.cfg_providers.specs.CustomSources.{Answer}
 use Rattle.cfg_providers.specs.EnvironmentKeys.{environment}
-use Rattle.cfg_sign_in.specs.declared.asked_by.AskedBy.TheVariants as by
-use Rattle.cfg_sign_in.specs.SignIns.{sign_in_credentials}
-use Rattle.cfg_sign_in.specs.Endings.{EndsAfter}
+use Rattle.cfg_login.specs.declared.asked_by.AskedBy.TheVariants as by
+use Rattle.cfg_login.specs.SignIns.{sign_in_credentials}
+use Rattle.cfg_login.specs.Endings.{EndsAfter}
 use Rattle.cfg_chain.specs.profile.Plans.{Planned}
 
 -- The base is this session.

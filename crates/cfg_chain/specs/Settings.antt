@@ -1,14 +1,15 @@
--- What a call of the default chain is over.
-use Rattle.std.specs.Prelude.{◌≡◌, ℕ, List, map, Option, Some, None}
+-- What a chain is over, and what a call of it is.
+use Rattle.std.specs.Prelude.{◌≡◌, ℕ, List, [], map, Option, Some, None}
 use Rattle.cfg_exchange.specs.declared.container.ContainerSettings.{ContainerSettings}
 use Rattle.cfg_exchange.specs.declared.container.ContainerUri.{ContainerUri}
 use Rattle.cfg_exchange.specs.Containers.{IsContainerUri}
 use Rattle.cfg_imds.specs.Clients.{ClientRules}
 use Rattle.cfg_imds.specs.Regions.{is_disabled}
 use Rattle.cfg_imds.specs.Setups.{configured, IsClient}
-use Rattle.cfg_keeping.specs.declared.place.Place.TheVariants.{Chain, Named}
-use Rattle.cfg_metadata.specs.Settings as metadata
-use Rattle.cfg_metadata.specs.Settings.{MetadataSetting}
+use Rattle.cfg_kept.specs.declared.place.Place.{Place}
+use Rattle.cfg_kept.specs.declared.place.Place.TheVariants.{Chain, Named}
+use Rattle.cfg_imds_credentials.specs.Settings as metadata
+use Rattle.cfg_imds_credentials.specs.Settings.{MetadataSetting}
 use Rattle.cfg_profile.specs.Configuration.{Configuration}
 use Rattle.cfg_providers.specs.ContainerSetups.{container_setup, settings_in}
 use Rattle.cfg_providers.specs.CustomSources.{NamedAnswer}
@@ -20,26 +21,32 @@ pub record Services : Type 0 where
   pub client : ClientRules
   pub named_client : ClientRules
 
--- What the caller lends to a call: its own sources, each with what it answers, and a metadata client,
--- where it has one.
-pub record Lent : Type 0 where
+-- The setting of a chain: its configuration, the caller's own sources, each with what it answers, and how the
+-- metadata client asks that the chain was given, where it was given one.
+pub record ChainSetting : Type 0 where
+  pub configuration : Configuration
   pub sources : List NamedAnswer
   pub client : Option ClientRules
 
-abbrev pub lends : List NamedAnswer → Option ClientRules → Lent
-lends sources client = record { sources = sources; client = client }
+-- a chain of this configuration and these sources, without a metadata client of its own
+abbrev pub with_sources : Configuration → List NamedAnswer → ChainSetting
+with_sources conf sources = record { configuration = conf; sources = sources; client = None }
 
--- the client that the caller lent, and else the configuration's
-abbrev pub lent_or : Option ClientRules → ClientRules → ClientRules
-lent_or (Some lent) own = lent
-lent_or None own = own
+-- a chain of this configuration alone
+abbrev pub alone : Configuration → ChainSetting
+alone conf = with_sources conf []
 
--- The services that a configuration names, with the client that the caller lent, if it lent one: there
--- is one answer.
-pub record AreServices (conf : Configuration) (lent : Option ClientRules) (services : Services) : Type 0 where
-  pub container : IsContainerUri conf.environment services.container
-  pub named_client : IsClient (configured conf) services.named_client
-  pub client : services.client ≡ lent_or lent services.named_client
+-- the client that was given, and else the configuration's
+abbrev pub given_or : Option ClientRules → ClientRules → ClientRules
+given_or (Some given) own = given
+given_or None own = own
+
+-- The services that a configuration names, with the client that the chain was given, if it was given one:
+-- there is one answer.
+pub record AreServices (over : ChainSetting) (services : Services) : Type 0 where
+  pub container : IsContainerUri over.configuration.environment services.container
+  pub named_client : IsClient (configured over.configuration) services.named_client
+  pub client : services.client ≡ given_or over.client services.named_client
 
 -- The configuration, the caller's own sources, each with what it answers, and the services.
 pub record Setting : Type 0 where
@@ -49,10 +56,10 @@ pub record Setting : Type 0 where
   pub client : ClientRules
   pub named_client : ClientRules
 
-abbrev pub setting : Configuration → List NamedAnswer → Services → Setting
-setting conf sources services = record {
-  configuration = conf;
-  sources = sources;
+abbrev pub setting : ChainSetting → Services → Setting
+setting over services = record {
+  configuration = over.configuration;
+  sources = over.sources;
   container = services.container;
   client = services.client;
   named_client = services.named_client;
@@ -66,10 +73,14 @@ names_of sources = map (λ s. s.0) sources
 abbrev pub container_settings : Configuration → ContainerSettings
 container_settings conf = settings_in (container_setup conf)
 
--- how the chain's own member asks for metadata: for the role that the service lists
+-- how metadata is asked for by a client, for the role that the service lists
+abbrev pub metadata_setting : Configuration → ClientRules → Place → MetadataSetting
+metadata_setting conf client place = metadata.setting (is_disabled conf.environment) client None place
+
+-- how the chain's own member asks for metadata
 abbrev pub chain_metadata : Setting → MetadataSetting
-chain_metadata s = metadata.setting (is_disabled s.configuration.environment) s.client None Chain
+chain_metadata s = metadata_setting s.configuration s.client Chain
 
 -- how a source that a profile names does
 abbrev pub named_metadata : Setting → MetadataSetting
-named_metadata s = metadata.setting (is_disabled s.configuration.environment) s.named_client None Named
+named_metadata s = metadata_setting s.configuration s.named_client Named

@@ -1,7 +1,7 @@
 -- What a call asks IAM Identity Center for.
 use Rattle.std.specs.Prelude.{◌≡◌, ◌++◌, ◌⊎◌, List, Some, Ok, Err}
 use Rattle.cfg_world.specs.Fits.{Pair}
-use Rattle.cfg_keeping.specs.Kinds.{Value}
+use Rattle.cfg_kept.specs.Kinds.{Value}
 use Rattle.cfg_profile.specs.declared.chain.BaseProvider.{BaseProvider}
 use Rattle.cfg_profile.specs.declared.chain.BaseProvider.TheVariants as base
 use Rattle.cfg_profile.specs.Configuration.{Configuration}

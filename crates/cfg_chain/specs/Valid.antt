@@ -3,7 +3,7 @@
 use Rattle.std.specs.Prelude.{◌≡◌, ◌≢◌, ◌⊎◌, ◌≤◌, ℕ, suc, pos, List, [], ◌∷◌, ◌++◌, ◌==◌, Bool, true, false, Option, Some, None, IsSome, IsNone, IfSome, IsOk, Result, Ok, Err, codes, if◌then◌else◌}
 use Rattle.std.specs.List.{All}
 use Rattle.std.specs.Str.{encode_utf8_all, is_utf8}
-use Rattle.cfg_values.specs.declared.address.Address.{Address}
+use Rattle.cfg_base.specs.declared.address.Address.{Address}
 use Rattle.cfg_types.specs.Environment.{Variables, variable}
 use Rattle.cfg_types.specs.Replies.{sts_in}
 use Rattle.cfg_types.specs.declared.command.Finished.{Finished}
@@ -28,15 +28,15 @@ use Rattle.cfg_exchange.specs.declared.full_uri.FullUri.TheVariants.{Secure, AtA
 use Rattle.cfg_exchange.specs.Addresses.{is_allowed}
 use Rattle.cfg_exchange.specs.Containers.{token_file, token_text, answer_keys}
 use Rattle.cfg_exchange.specs.HeaderValues.{is_header_value}
-use Rattle.cfg_keeping.specs.Kinds.{Value}
-use Rattle.cfg_keeping.specs.KeptInquiry.{Reads}
-use Rattle.cfg_metadata.specs.Settings.{MetadataSetting}
-use Rattle.cfg_metadata.specs.Metadata.{metadata}
-use Rattle.cfg_metadata.specs.Causes.{retrieved_in}
-use Rattle.cfg_metadata.specs.Valid as usable
-use Rattle.cfg_sign_in.specs.declared.asked_by.AskedBy.TheVariants as by
-use Rattle.cfg_sign_in.specs.SignIns.{sign_in_credentials}
-use Rattle.cfg_sign_in.specs.InNoWay as sign_in
+use Rattle.cfg_kept.specs.Kinds.{Value}
+use Rattle.cfg_kept.specs.KeptInquiry.{Reads}
+use Rattle.cfg_imds_credentials.specs.Settings.{MetadataSetting}
+use Rattle.cfg_imds_credentials.specs.Metadata.{metadata}
+use Rattle.cfg_imds_credentials.specs.Causes.{retrieved_in}
+use Rattle.cfg_imds_credentials.specs.Valid as usable
+use Rattle.cfg_login.specs.declared.asked_by.AskedBy.TheVariants as by
+use Rattle.cfg_login.specs.SignIns.{sign_in_credentials}
+use Rattle.cfg_login.specs.InNoWay as sign_in
 use Rattle.cfg_sso.specs.declared.config.SsoProviderConfig.{SsoProviderConfig}
 use Rattle.cfg_sso.specs.SsoCauses.{SsoCause}
 use Rattle.cfg_sso.specs.InNoWay.{NothingInTheWay}

@@ -3,3 +3,4 @@ pub mod Bases
 pub mod Profiles
 pub mod Causes
 pub mod Provides
+pub mod Setups

@@ -1,17 +1,13 @@
 ghost use Rattle.std.specs.Prelude.{◌≡◌, [], ◌∷◌, ◌++◌, OnOk};
-ghost use Rattle.cfg_keeping.specs.Holds.{HoldsFollows};
-ghost use Rattle.cfg_chain.specs.Settings.{setting};
-ghost use Rattle.cfg_chain.specs.Sources.{named_sources, services_in};
+ghost use Rattle.cfg_chain.specs.Follows.{FollowsTree};
+ghost use Rattle.cfg_chain.specs.Views.{view};
 ghost use Rattle.cfg_chain.specs.profile.Plans.{key_of};
 ghost use Rattle.cfg_sso.specs.Tokens.{HasKey};
-ghost use Rattle.cfg_keeping.specs.Chains.{chain};
-ghost use Rattle.cfg_chain.specs.Members.{name_of, credentials_chain};
+ghost use Rattle.cfg_chain.specs.Members.{name_of, members_tree};
 
+use crate::call::ChainCall;
 use crate::member::{Member, Turn, follow_member, turn_of};
-use crate::services::Services;
-use cfg_keeping::Keeper;
-use cfg_profile::ProviderConfig;
-use cfg_providers::CustomSource;
+use cfg_kept::Keeper;
 use cfg_types::{
     Credentials, CredentialsError, NotLoadedCause, OutOfMemory, ProviderAttempt,
     ProviderChainError, Seq, Text,
@@ -22,27 +18,25 @@ use std::alloc::Global;
 /// Asks the members in order, up to the first one that was loaded or that failed, and answers what it gave.
 /// Where none was loaded it is `CredentialsNotLoaded(Chain)`, with what each one answered. It stops with `Open`
 /// at a question that is left open, and with `OutOfMemory` where memory runs out.
-#[tactic(auto, using(cfg_keeping::proofs::ChainSteps::chain_steps))]
+#[tactic(auto, using(cfg_kept::proofs::ChainSteps::chain_steps))]
 pub fn follow_chain<P: Keeper, A: Asking>(
-    alloc: Global,
-    config: &ProviderConfig,
-    sources: &[CustomSource],
-    services: &Services,
+    call: &ChainCall,
     members: &[Member],
     keeper: &mut P,
     asking: &mut A,
 ) -> Result<Result<Credentials, CredentialsError>, Stop>
-    requires { HasKey (key_of config.now) (P.key_held keeper.old) }
-    ensures follows { HoldsFollows ⟦<A as Asking>⟧ (chain (credentials_chain (setting config.now (named_sources value sources.now) (services_in repeated services.now))) members.now []) asking.old (P.holdings keeper.old) asking.new (P.holdings keeper.new) result }
+    requires { HasKey (key_of call.now.config.now) (P.key_held keeper.old) }
+    ensures follows { FollowsTree ⟦<A as Asking>⟧ ⟦<P as Keeper>⟧ (members_tree (view value repeated call.now) members.now)
+        asking.old asking.new keeper.old keeper.new result }
     ensures key { P.key_held keeper.new ≡ P.key_held keeper.old }
 {
-    let mut attempts = Vec::new(alloc);
+    let mut attempts = Vec::new(call.alloc);
     for member in members {
-        let outcome = follow_member(alloc, config, sources, services, *member, keeper, asking)?;
+        let outcome = follow_member(call, *member, keeper, asking)?;
         match turn_of(outcome) {
             Turn::Answers(answer) => return Ok(answer),
             Turn::PassedOver(error) => {
-                let Ok(()) = note_attempt(alloc, &mut attempts, *member, error) else {
+                let Ok(()) = note_attempt(call.alloc, &mut attempts, *member, error) else {
                     return Err(Stop::OutOfMemory);
                 };
             }

@@ -5,17 +5,17 @@ ghost use Rattle.cfg_world.specs.Fits.{Pair};
 ghost use Rattle.cfg_world.specs.Held.{Held};
 ghost use Rattle.cfg_world.specs.declared.script.DeviceLists.{DeviceLists as Lists};
 ghost use Rattle.cfg_world.specs.Script.{Place, Given};
-ghost use Rattle.cfg_keeping.specs.Kinds.{Value, States};
-ghost use Rattle.cfg_keeping.specs.KeptInquiry.{Reads, Begins};
+ghost use Rattle.cfg_kept.specs.Kinds.{Value, States};
+ghost use Rattle.cfg_kept.specs.KeptInquiry.{Reads, Begins};
 ghost use Rattle.cfg_profile.specs.Configuration.{Configuration};
 ghost use Rattle.cfg_profile.specs.declared.chain.ProfileChain.{ProfileChain};
 ghost use Rattle.cfg_profile.specs.NamedSources.{IsPlan};
 ghost use Rattle.cfg_profile.specs.SectionSets.{SectionSets};
 ghost use Rattle.cfg_providers.specs.CustomSources.{Answer};
 ghost use Rattle.cfg_chain.specs.declared.member.Member.{Member as Asked};
-ghost use Rattle.cfg_chain.specs.Settings.{Setting, Lent, names_of};
-ghost use Rattle.cfg_keeping.specs.Chains.{Chain, chain};
-ghost use Rattle.cfg_keeping.specs.ChainParts.{MemberReads, AreParts, AreBegunParts};
+ghost use Rattle.cfg_chain.specs.Settings.{ChainSetting, Setting, names_of};
+ghost use Rattle.cfg_kept.specs.Chains.{Chain, chain};
+ghost use Rattle.cfg_kept.specs.ChainParts.{MemberReads, AreParts, AreBegunParts};
 ghost use Rattle.cfg_chain.specs.Members.{member_tree};
 ghost use Rattle.std.specs.List.{AllByRecursion};
 ghost use Rattle.cfg_chain.specs.declared.member.Member.TheVariants.{EcsContainer};
@@ -59,7 +59,8 @@ pub fn members_have_causes()
 /// container is the one that the variables name.
 pub fn members_are_passed_over_by_the_table()
     ensures { (s : Setting) (member : Asked) (found : List Value) (part : List Pair) (out : Answer) →
-        IsContainerUri s.configuration.environment s.container → Reads (member_tree s member) found part out → PassesByTable out (IsPassedOver s member found part) }
+        IsContainerUri s.configuration.environment s.container → Reads (member_tree s member) found part out →
+        PassesByTable out (IsPassedOver s member found part) }
 {}
 
 /// The member that asks a container sends each request to the agent of Amazon ECS, or to the target of the full
@@ -71,12 +72,12 @@ pub fn a_container_member_asks_safe_targets()
         AllByRecursion (λ e. IsSafeQuestion s.configuration.environment (look_ups part) e.0) part }
 {}
 
-/// Over one configuration, what the caller lends being the same, one kept state and one script of devices,
-/// from one place, the call of the default chain has one journal and one answer, finds the same values,
-/// and leaves the same.
+/// Over one setting of a chain, one kept state and one script of devices, from one place, the call of the
+/// default chain has one journal and one answer, finds the same values, and leaves the same.
 pub fn one_script_one_call()
-    ensures { (conf : Configuration) (lent : Lent) (lists : Lists) (place : Place) (old new newer : States) (found more : List Value) (one other : List Pair) (x y : Answer) →
-        IsCall conf lent old new found one x → IsCall conf lent old newer more other y → Given lists place one → Given lists place other → (one ≡ other) × (found ≡ more) × (x ≡ y) × (new ≡ newer) }
+    ensures { (over : ChainSetting) (lists : Lists) (place : Place) (old new newer : States) (found more : List Value) (one other : List Pair) (x y : Answer) →
+        IsCall over old new found one x → IsCall over old newer more other y → Given lists place one → Given lists place other →
+        (one ≡ other) × (found ≡ more) × (x ≡ y) × (new ≡ newer) }
 {}
 
 /// Where nothing stands in the way, said of the variables, of the selected profile, of the found values
@@ -91,7 +92,8 @@ pub fn nothing_in_the_way_gives_credentials()
 /// no other such answer.
 pub fn the_plan_is_that_of_the_path()
     ensures path { (sets : SectionSets) (name : List ℕ) (sources : List (List ℕ)) → IsPlan sets name sources (profile_plan sets name sources) }
-    ensures only { (sets : SectionSets) (name : List ℕ) (sources : List (List ℕ)) (answer : Planned) → IsPlan sets name sources answer → profile_plan sets name sources ≡ answer }
+    ensures only { (sets : SectionSets) (name : List ℕ) (sources : List (List ℕ)) (answer : Planned) →
+        IsPlan sets name sources answer → profile_plan sets name sources ≡ answer }
 {}
 
 /// A plan has a base that can be asked: a source that is there, IAM Identity Center for a role of an
@@ -110,26 +112,32 @@ pub fn a_configuration_has_one_key()
 /// of the members before it, in order, each not loaded, by its line of the table. Where nothing was loaded the
 /// parts are those of all five, and the error tells of each.
 pub fn a_call_tells_who_answered<D: Devices>()
-    ensures { (conf : Configuration) (lent : Lent) (old new : States) (found : List Value) (before later : Held D) (out : Answer) →
-        Provides ⟦<D as Devices>⟧ conf lent old new found before later out → TellsWho conf lent found before.journal later.journal out }
+    ensures { (over : ChainSetting) (old new : States) (found : List Value) (before later : Held D) (out : Answer) →
+        Provides ⟦<D as Devices>⟧ over old new found before later out → TellsWho over found before.journal later.journal out }
 {}
 
 /// Where the selected profile's plan begins with a role of IAM Identity Center, a call sends at most one
 /// `GetRoleCredentials`, with the token that the part before it gave; a session's token ends after the last
 /// reading of the clock in this part. It holds of a call for which memory ran out, too.
 pub fn a_call_sends_no_expired_token<D: Devices>()
-    ensures answered { (conf : Configuration) (lent : Lent) (sso : SignOn) (old new : States) (found : List Value) (before later : Held D) (out : Answer) →
-        PlansSignOn (plan conf (names_of lent.sources)) sso → Provides ⟦<D as Devices>⟧ conf lent old new found before later out → SignsOn conf sso found before.journal later.journal }
-    ensures interrupted { (conf : Configuration) (lent : Lent) (sso : SignOn) (old new : States) (found : List Value) (before later : Held D) →
-        PlansSignOn (plan conf (names_of lent.sources)) sso → Interrupted ⟦<D as Devices>⟧ conf lent old new found before later → SignsOn conf sso found before.journal later.journal }
+    ensures answered { (over : ChainSetting) (sso : SignOn) (old new : States) (found : List Value) (before later : Held D) (out : Answer) →
+        PlansSignOn (plan over.configuration (names_of over.sources)) sso → Provides ⟦<D as Devices>⟧ over old new found before later out →
+        SignsOn over.configuration sso found before.journal later.journal }
+    ensures interrupted { (over : ChainSetting) (sso : SignOn) (old new : States) (found : List Value) (before later : Held D) →
+        PlansSignOn (plan over.configuration (names_of over.sources)) sso → Interrupted ⟦<D as Devices>⟧ over old new found before later →
+        SignsOn over.configuration sso found before.journal later.journal }
 {}
 
 /// Where the selected profile's plan begins with a sign-in session, a call asks nothing, and is answered by the
 /// environment; or its journal begins with the session's part. Credentials that this part gives end after its
 /// last reading of the clock. A call for which memory ran out may also have stopped within this part.
 pub fn a_call_reads_no_expired_session<D: Devices>()
-    ensures answered { (conf : Configuration) (lent : Lent) (session : List ℕ) (old new : States) (found : List Value) (before later : Held D) (out : Answer) →
-        PlansSession (plan conf (names_of lent.sources)) session → Provides ⟦<D as Devices>⟧ conf lent old new found before later out → ReadsSession conf session found before.journal later.journal out }
-    ensures interrupted { (conf : Configuration) (lent : Lent) (session : List ℕ) (old new : States) (found : List Value) (before later : Held D) →
-        PlansSession (plan conf (names_of lent.sources)) session → Interrupted ⟦<D as Devices>⟧ conf lent old new found before later → StopsInSession conf session found before.journal later.journal }
+    ensures answered { (over : ChainSetting) (session : List ℕ) (old new : States) (found : List Value) (before later : Held D) (out : Answer) →
+        PlansSession (plan over.configuration (names_of over.sources)) session →
+        Provides ⟦<D as Devices>⟧ over old new found before later out →
+        ReadsSession over.configuration session found before.journal later.journal out }
+    ensures interrupted { (over : ChainSetting) (session : List ℕ) (old new : States) (found : List Value) (before later : Held D) →
+        PlansSession (plan over.configuration (names_of over.sources)) session →
+        Interrupted ⟦<D as Devices>⟧ over old new found before later →
+        StopsInSession over.configuration session found before.journal later.journal }
 {}

@@ -1,22 +1,24 @@
-//! Chains of credentials providers. It stands on cfg_providers, cfg_metadata, cfg_sso, cfg_sign_in,
-//! cfg_region, cfg_keeping and cfg_profile. The layers above may use that a call's journal is the parts of
+//! Chains of credentials providers. It stands on cfg_providers, cfg_imds_credentials, cfg_sso, cfg_login,
+//! cfg_region, cfg_kept and cfg_profile. The layers above may use that a call's journal is the parts of
 //! the members up to the one that answered, in order, that every earlier one was not loaded, and that each
 //! part has its cause.
 #![tactic(auto)]
 
+mod call;
 mod chain;
+mod chain_core;
 pub mod default_provider;
 pub mod laws;
 mod member;
 pub mod profile;
-mod services;
 
 pub use cfg_imds::Client;
-pub use cfg_keeping::{Found, Kept};
+pub use cfg_kept::{Found, Kept};
 pub use cfg_profile::{ProfileSet, ProfileSource, ProviderConfig, Section};
 pub use cfg_providers::{CustomProvider, CustomSource, ProvideCredentials};
 pub use cfg_region::RegionSource;
 pub use cfg_token::TokenKey;
 pub use cfg_types::{CredentialsError, OutOfMemory, ProfileFileError};
+pub use chain_core::ChainCore;
 pub use default_provider::credentials::DefaultCredentialsChain;
 pub use profile::credentials::ProfileFileCredentialsProvider;

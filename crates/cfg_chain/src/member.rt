@@ -1,22 +1,19 @@
 ghost use Rattle.std.specs.Prelude.{◌≡◌};
-ghost use Rattle.cfg_values.specs.Text.{characters};
-ghost use Rattle.cfg_keeping.specs.Holds.{HoldsFollows};
+ghost use Rattle.cfg_base.specs.Text.{characters};
 ghost use Rattle.cfg_sso.specs.Tokens.{HasKey};
-ghost use Rattle.cfg_chain.specs.Settings.{setting};
-ghost use Rattle.cfg_chain.specs.Sources.{named_sources, services_in};
+ghost use Rattle.cfg_chain.specs.Follows.{FollowsTree};
+ghost use Rattle.cfg_chain.specs.Views.{view};
 ghost use Rattle.cfg_chain.specs.Members.{name_of, member_tree};
 ghost use Rattle.cfg_chain.specs.Turns.{IsTurn};
 ghost use Rattle.cfg_chain.specs.profile.Plans.{key_of};
 
+use crate::call::ChainCall;
 use crate::profile::base::{ask_container, ask_metadata};
 use crate::profile::provider::follow_profile;
-use crate::services::Services;
-use cfg_keeping::{Keeper, Place};
-use cfg_profile::ProviderConfig;
-use cfg_providers::{CustomSource, SessionPolicies, follow_environment, web_identity};
+use cfg_kept::{Keeper, Place};
+use cfg_providers::steps::{SessionPolicies, follow_environment, web_identity};
 use cfg_types::{Credentials, CredentialsError};
 use cfg_world::{Asking, Stop};
-use std::alloc::Global;
 
 /// A member of the default chain.
 #[derive(Clone, Copy, Debug, PartialEq, Eq)]
@@ -71,38 +68,35 @@ pub fn turn_of(outcome: Result<Credentials, CredentialsError>) -> Turn
 
 /// Asks what the member asks, and answers what it gives or its error. It stops with `Open` at a question that is
 /// left open, and with `OutOfMemory` where memory runs out.
-#[tactic(auto, using(cfg_keeping::proofs::HoldingSteps::holding_steps), unfolding(crate::specs::Members::member_tree))]
+#[tactic(auto, using(cfg_kept::proofs::HoldingSteps::holding_steps), unfolding(crate::specs::Members::member_tree))]
 pub fn follow_member<P: Keeper, A: Asking>(
-    alloc: Global,
-    config: &ProviderConfig,
-    sources: &[CustomSource],
-    services: &Services,
+    call: &ChainCall,
     member: Member,
     keeper: &mut P,
     asking: &mut A,
 ) -> Result<Result<Credentials, CredentialsError>, Stop>
-    requires { HasKey (key_of config.now) (P.key_held keeper.old) }
-    ensures follows { HoldsFollows ⟦<A as Asking>⟧ (member_tree (setting config.now (named_sources value sources.now) (services_in repeated services.now)) member) asking.old (P.holdings keeper.old) asking.new (P.holdings keeper.new) result }
+    requires { HasKey (key_of call.now.config.now) (P.key_held keeper.old) }
+    ensures follows { FollowsTree ⟦<A as Asking>⟧ ⟦<P as Keeper>⟧ (member_tree (view value repeated call.now) member)
+        asking.old asking.new keeper.old keeper.new result }
     ensures key { P.key_held keeper.new ≡ P.key_held keeper.old }
 {
     match member {
         Member::Environment => {
-            let outcome = follow_environment(alloc, config.env(), asking)?;
+            let outcome = follow_environment(call.alloc, call.config.env(), asking)?;
             Ok(outcome)
         }
-        Member::Profile => follow_profile(alloc, config, sources, services, keeper, asking),
+        Member::Profile => follow_profile(call, keeper, asking),
         Member::WebIdentityToken => {
             let none = SessionPolicies::none();
-            let outcome = web_identity(alloc, config, &None, &none, asking)?;
+            let outcome = web_identity(call.alloc, call.config, &None, &none, asking)?;
             Ok(outcome)
         }
         Member::EcsContainer => {
-            let outcome = ask_container(alloc, config, services.container, asking)?;
+            let outcome = ask_container(call, asking)?;
             Ok(outcome)
         }
         Member::Ec2InstanceMetadata => {
-            let place = Place::Chain;
-            ask_metadata(alloc, config, services.client, place, keeper, asking)
+            ask_metadata(call, call.imds_client, Place::Chain, keeper, asking)
         }
     }
 }

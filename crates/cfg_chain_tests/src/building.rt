@@ -85,7 +85,7 @@ fn built(alloc: Global, script: &str, call: u8) -> Result<String, OutOfMemory> {
         return Ok(String::from_str(alloc, "no script")?);
     };
     let chain = chain_by(alloc, config, call, &mut world)?;
-    let _answer = answered(alloc, &chain, &[], &mut world)?;
+    let _answer = answered(alloc, &chain, &mut world)?;
     Ok(journal_words(alloc, world.journal())?)
 }
 
@@ -141,7 +141,7 @@ fn provided(alloc: Global, script: &str, call: u8) -> Result<String, OutOfMemory
     let provider = provider_by(alloc, &config, call)?;
     let mut kept = provider.new_kept()?;
     let outcome = Outcome {
-        answer: provider.provide_credentials(&[], None, &mut kept, &mut world),
+        answer: provider.provide_credentials(&mut kept, &mut world),
     };
     let answer = answer_words(alloc, &outcome.answer)?;
     let asked = journal_words(alloc, world.journal())?;

@@ -8,18 +8,11 @@ use std::test::Fail;
 
 // What a call of the chain answers, and what it asked.
 fn words_of(alloc: Global, script: &str) -> Result<String, OutOfMemory> {
-    let Some(
-        Setup {
-            chain,
-            sources,
-            devices,
-        },
-    ) = set_up(alloc, script)?
-    else {
+    let Some(Setup { chain, devices }) = set_up(alloc, script)? else {
         return Ok(String::from_str(alloc, "no script")?);
     };
     let mut world = World::new(alloc, devices);
-    let answer = answered(alloc, &chain, sources.as_slice(), &mut world)?;
+    let answer = answered(alloc, &chain, &mut world)?;
     let questions = questions(alloc, world.journal())?;
     Ok(format!(in alloc; "{answer}{questions}")?)
 }

@@ -6,7 +6,7 @@ mod building;
 #[cfg(test)]
 mod chain;
 #[cfg(test)]
-mod keeping;
+mod kept;
 #[cfg(test)]
 mod own;
 #[cfg(test)]

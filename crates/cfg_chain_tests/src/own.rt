@@ -1,5 +1,5 @@
 //! Sources of credentials that the tests bring.
-use cfg_providers::{CustomSource, ProvideCredentials};
+use cfg_providers::{CustomProvider, ProvideCredentials};
 use cfg_types::{Credentials, CredentialsBuilder, CredentialsError, OutOfMemory, Text};
 use std::alloc::Global;
 
@@ -34,16 +34,8 @@ impl ProvideCredentials for Keys {
     }
 }
 
-fn keys_source(alloc: Global, name: &str, id: &str) -> Result<CustomSource, OutOfMemory> {
+/// A source of keys of this id.
+pub(crate) fn source_of(alloc: Global, id: &str) -> Result<CustomProvider, OutOfMemory> {
     let id = Text::of(alloc, id)?;
-    let provider = Box::new(alloc, Keys { alloc, id })?;
-    Ok(CustomSource::new(Text::of(alloc, name)?, provider))
-}
-
-/// Two sources of the name of one that is always there.
-pub(crate) fn own_sources(alloc: Global) -> Result<Vec<CustomSource>, OutOfMemory> {
-    let mut sources = Vec::new(alloc);
-    sources.push(keys_source(alloc, "ecscontainer", "FIRST")?)?;
-    sources.push(keys_source(alloc, "ECScontainer", "SECOND")?)?;
-    Ok(sources)
+    Ok(Box::new(alloc, Keys { alloc, id })?)
 }

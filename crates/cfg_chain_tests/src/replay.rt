@@ -37,13 +37,9 @@ const SIGN_IN: &str =
 // What a script's chain comes to where the call of the devices of this number fails, none for 0, after how
 // many questions, and how many calls of the devices could fail.
 fn with_fault(alloc: Global, setup: Setup, at: u64) -> Result<(String, u64), OutOfMemory> {
-    let Setup {
-        chain,
-        sources,
-        devices,
-    } = setup;
+    let Setup { chain, devices } = setup;
     let mut world = World::new(alloc, FaultDevices::new(devices, at));
-    let answer = followed(alloc, &chain, sources.as_slice(), &mut world)?;
+    let answer = followed(alloc, &chain, &mut world)?;
     let asked = world.journal().len();
     let devices = world.into_devices();
     let words = format!(in alloc; "{at}: {asked} {answer}\n")?;
@@ -74,13 +70,9 @@ fn whole_call(
     setup: Setup,
     journal: &mut Vec<Entry>,
 ) -> Result<String, OutOfMemory> {
-    let Setup {
-        chain,
-        sources,
-        devices,
-    } = setup;
+    let Setup { chain, devices } = setup;
     let mut world = World::new(alloc, devices);
-    let answer = followed(alloc, &chain, sources.as_slice(), &mut world)?;
+    let answer = followed(alloc, &chain, &mut world)?;
     for entry in world.journal() {
         journal.push(entry.copy(alloc)?)?;
     }
@@ -104,13 +96,9 @@ fn receipts(
 
 // What a script's chain comes to over the receipts of these entries, and the question that stays open.
 fn over_receipts(alloc: Global, setup: Setup, entries: &[Entry]) -> Result<String, OutOfMemory> {
-    let Setup {
-        chain,
-        sources,
-        devices,
-    } = setup;
+    let Setup { chain, devices } = setup;
     let mut answers = Answers::new(receipts(alloc, entries, devices)?);
-    let answer = followed(alloc, &chain, sources.as_slice(), &mut answers)?;
+    let answer = followed(alloc, &chain, &mut answers)?;
     let open = answers.question();
     Ok(format!(in alloc; "{answer} {open:?}")?)
 }

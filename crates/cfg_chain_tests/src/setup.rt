@@ -3,22 +3,19 @@ ghost use Rattle.cfg_world.specs.Script.{AllFit};
 ghost use Rattle.cfg_script.specs.Script.{plain};
 ghost use Rattle.cfg_script.specs.Devices.{lists_of};
 
-use crate::own::own_sources;
+use crate::own::source_of;
 use cfg_chain::DefaultCredentialsChain;
-use cfg_imds::Client;
-use cfg_keeping::Kept;
+use cfg_kept::Kept;
 use cfg_profile::{ProfileSet, ProfileSource, ProviderConfig, Section};
-use cfg_providers::CustomSource;
 use cfg_region::RegionSource;
 use cfg_script::{Script, ScriptProfiles, read_script};
 use cfg_types::{Credentials, CredentialsError, Env, EnvText, OutOfMemory, Region, TryCopy};
 use cfg_world::{Asking, Entry, ScriptDevices, World};
 use std::alloc::{AllocError, Global};
 
-/// A chain, the sources that its calls are lent, and devices for them.
+/// A chain with sources of the tests' own, and devices for its calls.
 pub(crate) struct Setup {
     pub(crate) chain: DefaultCredentialsChain,
-    pub(crate) sources: Vec<CustomSource>,
     pub(crate) devices: ScriptDevices,
 }
 
@@ -63,7 +60,7 @@ fn config(
     }
 }
 
-// The chain with this configuration, in this region.
+// The chain with this configuration and two sources of the name of one that is always there, in this region.
 pub(crate) fn chain_of(
     alloc: Global,
     config: ProviderConfig,
@@ -72,6 +69,14 @@ pub(crate) fn chain_of(
 ) -> Result<DefaultCredentialsChain, OutOfMemory> {
     let mut builder = DefaultCredentialsChain::builder(alloc)?.configure(config);
     builder.set_region(Some(RegionSource::Fixed(region)));
+    let builder = builder.with_custom_credential_source(
+        "ecscontainer",
+        source_of(alloc, "FIRST")?,
+    )?;
+    let builder = builder.with_custom_credential_source(
+        "ECScontainer",
+        source_of(alloc, "SECOND")?,
+    )?;
     builder.build(world)
 }
 
@@ -112,12 +117,7 @@ fn set_up_over(alloc: Global, configured: Configured) -> Result<Setup, OutOfMemo
     let region = Region::new(alloc, "eu-west-1")?;
     let chain = chain_of(alloc, config, Some(region), &mut world)?;
     let devices = world.into_devices();
-    let sources = own_sources(alloc)?;
-    Ok(Setup {
-        chain,
-        sources,
-        devices,
-    })
+    Ok(Setup { chain, devices })
 }
 
 /// The chain that a script configures, and the devices that it scripts. None for what is no script.
@@ -155,12 +155,9 @@ pub(crate) fn answer_words(
     }
 }
 
-/// What a call of the chain answers on what is kept, with this metadata client lent. None where what is
-/// kept is not that of a chain with its key.
+/// What a call of the chain answers on what is kept. None where what is kept is not that of a chain with its key.
 pub(crate) fn called(
     chain: &DefaultCredentialsChain,
-    sources: &[CustomSource],
-    imds_client: Option<&Client>,
     kept: &mut Kept,
     world: &mut World<ScriptDevices>,
 ) -> Option<Outcome> {
@@ -168,7 +165,7 @@ pub(crate) fn called(
         return None;
     }
     Some(Outcome {
-        answer: chain.provide_credentials(sources, imds_client, kept, world),
+        answer: chain.provide_credentials(kept, world),
     })
 }
 
@@ -176,12 +173,11 @@ pub(crate) fn called(
 pub(crate) fn answered(
     alloc: Global,
     chain: &DefaultCredentialsChain,
-    sources: &[CustomSource],
     world: &mut World<ScriptDevices>,
 ) -> Result<String, OutOfMemory> {
     let mut kept = chain.new_kept()?;
     let outcome = Outcome {
-        answer: chain.provide_credentials(sources, None, &mut kept, world),
+        answer: chain.provide_credentials(&mut kept, world),
     };
     Ok(answer_words(alloc, &outcome.answer)?)
 }
@@ -190,11 +186,10 @@ pub(crate) fn answered(
 pub(crate) fn followed<A: Asking>(
     alloc: Global,
     chain: &DefaultCredentialsChain,
-    sources: &[CustomSource],
     asking: &mut A,
 ) -> Result<String, OutOfMemory> {
     let mut kept = chain.new_kept()?;
-    match chain.follow(sources, None, &mut kept, asking) {
+    match chain.follow(&mut kept, asking) {
         Ok(answer) => {
             let outcome = Outcome { answer };
             Ok(answer_words(alloc, &outcome.answer)?)

@@ -2,7 +2,7 @@
 #![tactic(auto)]
 
 #[cfg(test)]
-mod causes;
+mod error_report;
 #[cfg(test)]
 mod json;
 #[cfg(test)]

@@ -6,7 +6,7 @@ use Rattle.std.specs.Char.{is_digit, digit_value}
 use Rattle.std.specs.Str.Parse.{AllDigits, IsNumeral, digits_value, without_leading_plus}
 use Rattle.cfg_exchange.specs.Lifetimes.{are_digits, number}
 
-less : (n m : ℕ) → nat_lt n m ≡ true → n < m
+pub less : (n m : ℕ) → nat_lt n m ≡ true → n < m
 less n m h = grind (arith, tests)
 
 both : (a b : Bool) → (a && b) ≡ true → (a ≡ true) × (b ≡ true)
@@ -21,11 +21,12 @@ true_all : (ds : List ℕ) → list_all (λ c. is_digit c 10) ds ≡ true → Al
 true_all [] h = tt
 true_all (c ∷ cs) h = let p = both (nat_lt (digit_value c) 10) (list_all (λ c. is_digit c 10) cs) h in (less (digit_value c) 10 p.0, true_all cs p.1)
 
-digits_are : (ds : List ℕ) → IsNumeral 10 ds → are_digits ds ≡ true
+-- digits alone, one or more, are a numeral, and the other way round
+pub digits_are : (ds : List ℕ) → IsNumeral 10 ds → are_digits ds ≡ true
 digits_are [] h = absurd (omega (arith, h.0))
 digits_are (c ∷ cs) h = all_true (c ∷ cs) h.1
 
-are_numeral : (ds : List ℕ) → are_digits ds ≡ true → IsNumeral 10 ds
+pub are_numeral : (ds : List ℕ) → are_digits ds ≡ true → IsNumeral 10 ds
 are_numeral [] h = absurd cc
 are_numeral (c ∷ cs) h = (omega arith, true_all (c ∷ cs) h)
 

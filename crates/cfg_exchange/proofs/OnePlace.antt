@@ -4,9 +4,9 @@ use Rattle.std.specs.Prelude.{codes}
 use Rattle.std.specs.Str.{bytes_eq, encode_utf8_all}
 use Rattle.std.proofs.lemmas.List.{append_cancel_right}
 use Rattle.http_uri.specs.Grammar.{authority_host}
-use Rattle.cfg_values.specs.Text.{characters}
-use Rattle.cfg_values.specs.declared.address.Address.{Address}
-use Rattle.cfg_values.proofs.AddressLaws.{one_address}
+use Rattle.cfg_base.specs.Text.{characters}
+use Rattle.cfg_base.specs.declared.address.Address.{Address}
+use Rattle.cfg_base.proofs.AddressLaws.{one_address}
 use Rattle.cfg_types.specs.Environment.{Variables, readable}
 use Rattle.cfg_exchange.specs.declared.target.Target.{Target}
 use Rattle.cfg_exchange.specs.declared.full_uri.FullUri.{FullUri}

@@ -5,8 +5,8 @@ use Rattle.std.specs.Str.{bytes_eq}
 use Rattle.std.specs.List.{list_all}
 use Rattle.std.proofs.lemmas.Slice.Eq.{bytes_eq-Decides}
 use Rattle.http_uri.specs.Grammar.{IsUriText, authority_host}
-use Rattle.cfg_values.specs.Text.{characters}
-use Rattle.cfg_values.specs.declared.address.Address.{Address}
+use Rattle.cfg_base.specs.Text.{characters}
+use Rattle.cfg_base.specs.declared.address.Address.{Address}
 use Rattle.cfg_types.specs.declared.errors.container.InvalidFullUriError.{InvalidFullUriError}
 use Rattle.cfg_types.specs.declared.errors.container.InvalidFullUriError.TheVariants as invalid
 use Rattle.cfg_world.specs.declared.ask.Question.TheVariants.{LookUp}

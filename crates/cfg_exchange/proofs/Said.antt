@@ -1,115 +1,21 @@
--- What a document says, by its grammar.
-use Rattle.std.proofs.Common.{◌≡◌, inl, inr, ℕ, List, [], ◌∷◌, Bool, true, false, Option, Some, None, refl, sym, ap, subst, ◌∙◌}
-use Rattle.std.specs.Prelude.{Result, Ok, Err, ◌==◌, if◌then◌else◌, length}
-use Rattle.cfg_types.specs.declared.document.JsonError.{JsonError}
-use Rattle.cfg_types.specs.declared.document.JsonError.TheVariants as json
+-- What a document of credentials says, by its grammar.
+use Rattle.std.proofs.Common.{◌≡◌, ℕ, List, false, refl}
+use Rattle.std.specs.Prelude.{Err}
 use Rattle.cfg_types.specs.declared.document.InvalidJsonCredentials.TheVariants as invalid
-use Rattle.cfg_json.specs.Ascii.{left_curly_bracket}
-use Rattle.cfg_json.specs.Reading.{after_white_space}
-use Rattle.cfg_json.specs.ReadingObjects.{ReadMembers, Answer as Given, answer_of, opened, object_at, object_answer}
-use Rattle.cfg_json.specs.Answers.{Answers, MemberList, only_white_space, only_from, only_answer, with_end, only_list_answer}
-use Rattle.cfg_json.specs.Documents.{Read, document_of, AnswersDocument, IsTable, UnlessMemory}
 use Rattle.cfg_json.specs.declared.credentials.JsonCredentials.{JsonCredentials}
-use Rattle.cfg_json.proofs.AnswerLaws.{only_found_is, only_only_is, only_not_object_is, only_opens_other_is, only_syntax_is, only_broken_is, only_more_is, followed_is}
-use Rattle.cfg_json.proofs.DocumentLaws.{document_fields, fields_answer}
-use Rattle.cfg_exchange.specs.Documents.{is_memory, by_members, document}
+use Rattle.cfg_json.specs.Documents.{Read, document_of, AnswersDocument, IsTable, is_memory}
+use Rattle.cfg_json.proofs.DocumentLaws.{document_fields}
+use Rattle.cfg_json.proofs.SaidLaws as laws
+use Rattle.cfg_exchange.specs.Documents.{document}
 
-abbrev Listed : Type 0
-Listed = Result MemberList JsonError
-
-abbrev failed : JsonError → Listed
-failed e = Err e
-
--- ---- reading a list takes no memory
-
-opened_stays : (total : ℕ) (t : List ℕ) → opened total t ≡ Err json.OutOfMemory → ⊥
-opened_stays total [] e = absurd cc
-opened_stays total (x ∷ t) e = by_brace (x == left_curly_bracket) (object_at total t) e where
-  by_brace : (b : Bool) (o : Option ReadMembers) → (if b then answer_of o else Err json.NotObject) ≡ Err json.OutOfMemory → ⊥
-  by_brace true None e = absurd cc
-  by_brace true (Some r) e = absurd cc
-  by_brace false o e = absurd cc
-
-only_stays : (bytes : List ℕ) (g : Given) → (g ≡ Err json.OutOfMemory → ⊥) → only_from bytes g ≡ Err json.OutOfMemory → ⊥
-only_stays bytes (Err d) n e = n e
-only_stays bytes (Ok r) n e = by_rest (after_white_space r.1) e where
-  by_rest : (u : List ℕ) → only_white_space bytes r u ≡ Err json.OutOfMemory → ⊥
-  by_rest [] e = absurd cc
-  by_rest (x ∷ t) e = absurd cc
-
-end_stays : (total : ℕ) (g : Given) → (g ≡ Err json.OutOfMemory → ⊥) → with_end total g ≡ Err json.OutOfMemory → ⊥
-end_stays total (Ok r) n e = absurd cc
-end_stays total (Err json.NotObject) n e = absurd cc
-end_stays total (Err json.Syntax) n e = absurd cc
-end_stays total (Err json.More) n e = absurd cc
-end_stays total (Err json.OutOfMemory) n e = n refl
-
-list_stays : (bytes : List ℕ) → only_list_answer bytes ≡ Err json.OutOfMemory → ⊥
-unfolding only_list_answer only_answer object_answer
-list_stays bytes e = end_stays (length bytes) _ (only_stays bytes _ (opened_stays (length bytes) (after_white_space bytes))) e
-
--- ---- so the grammar says which list it is
-
-itself : (r : Listed) → Answers (λ x. x) r r
-itself (Ok m) = refl
-itself (Err e) = inr refl
-
-is_answer : (r a : Listed) → (r ≡ Err json.OutOfMemory → ⊥) → Answers (λ x. x) r a → r ≡ a
-is_answer (Ok m) a n h = sym h
-is_answer (Err e) a n h = elim h [
-  | inl out ↦ absurd (n (ap failed out))
-  | inr said ↦ sym said
-]
-
-listed : (bytes : List ℕ) (a : Listed) → Answers (λ x. x) (only_list_answer bytes) a → only_list_answer bytes ≡ a
-listed bytes a h = is_answer (only_list_answer bytes) a (list_stays bytes) h
-
-said_by : (bytes : List ℕ) (a : Listed) → Answers (λ x. x) (only_list_answer bytes) a → by_members a ≡ document bytes
+pub says_one_thing : (bytes : List ℕ) (r : Read JsonCredentials) → AnswersDocument IsTable bytes r → (r ≡ Err invalid.OutOfMemory → ⊥) → r ≡ document bytes
 unfolding document
-said_by bytes a h = ap by_members (sym (listed bytes a h))
-
-abbrev memory : Read JsonCredentials
-memory = Err invalid.OutOfMemory
-
-pub says_one_thing : (bytes : List ℕ) (r : Read JsonCredentials) → AnswersDocument IsTable bytes r → (r ≡ memory → ⊥) → r ≡ document bytes
-says_one_thing bytes (Ok x) h n =
-    h.2 ∙ said_by bytes (Ok (h.0, h.1.0)) (only_only_is (λ x. x) bytes (only_list_answer bytes) (itself _) h.0 h.1.0 h.1.1 h.1.2)
-says_one_thing bytes (Err (invalid.JsonError json.NotObject)) h n =
-    said_by bytes (Err json.NotObject) (only_opens_other_is (λ x. x) bytes (only_list_answer bytes) (itself _) h)
-says_one_thing bytes (Err (invalid.JsonError json.Syntax)) h n =
-    said_by bytes (Err json.Syntax) (only_broken_is (λ x. x) bytes (only_list_answer bytes) (itself _) h.0 h.1)
-says_one_thing bytes (Err (invalid.JsonError json.More)) h n = absurd h
-says_one_thing bytes (Err (invalid.JsonError json.OutOfMemory)) h n = absurd h
-says_one_thing bytes (Err (invalid.MissingField f)) h n =
-    h.2 ∙ said_by bytes (Ok (h.0, h.1.0)) (only_only_is (λ x. x) bytes (only_list_answer bytes) (itself _) h.0 h.1.0 h.1.1 h.1.2)
-says_one_thing bytes (Err (invalid.InvalidField f e)) h n =
-    h.2 ∙ said_by bytes (Ok (h.0, h.1.0)) (only_only_is (λ x. x) bytes (only_list_answer bytes) (itself _) h.0 h.1.0 h.1.1 h.1.2)
-says_one_thing bytes (Err (invalid.Other t)) h n =
-    ap (λ (u : List ℕ). Err (invalid.Other u)) h.1
-    ∙ said_by bytes (Err json.More) (followed_is (λ x. x) bytes (only_list_answer bytes) (itself _) h.0.0 h.0.1 h.0.2 h.0.3)
-says_one_thing bytes (Err invalid.OutOfMemory) h n = absurd (n refl)
-
--- ---- and what is said answers the grammar
-
-unless_itself : (r : Read JsonCredentials) → UnlessMemory r r
-unless_itself (Ok x) = refl
-unless_itself (Err e) = inr refl
-
-by_list : (bytes : List ℕ) (a : Listed) → only_list_answer bytes ≡ a → Answers (λ x. x) a (only_list_answer bytes) → AnswersDocument IsTable bytes (by_members a)
-by_list bytes (Ok m) e h =
-    let has = only_found_is (λ x. x) bytes (Ok m) h in
-    fields_answer IsTable bytes m.0 (document_of m.0) (document_of m.0) (m.1, has.0, has.1) refl (document_fields m.0) (unless_itself (document_of m.0))
-by_list bytes (Err json.NotObject) e h = only_not_object_is (λ x. x) bytes (Err json.NotObject) h refl
-by_list bytes (Err json.Syntax) e h = only_syntax_is (λ x. x) bytes (Err json.Syntax) h refl
-by_list bytes (Err json.More) e h = (only_more_is (λ x. x) bytes (Err json.More) h refl, refl)
-by_list bytes (Err json.OutOfMemory) e h = absurd (list_stays bytes e)
+says_one_thing bytes r h n = laws.says_one_thing IsTable document_of (λ ms r h. h) bytes r h n
 
 pub said_answers : (bytes : List ℕ) → AnswersDocument IsTable bytes (document bytes)
 unfolding document
-said_answers bytes = by_list bytes (only_list_answer bytes) refl (itself _)
-
-memory_is : (r : Read JsonCredentials) → is_memory r ≡ false → r ≡ memory → ⊥
-memory_is r f e = let t = subst (λ (x : Read JsonCredentials). is_memory x ≡ false) e f in absurd cc
+said_answers bytes = laws.said_answers IsTable document_of (λ ms. refl) document_fields bytes
 
 pub says_unless_memory : (bytes : List ℕ) (r : Read JsonCredentials) → AnswersDocument IsTable bytes r → is_memory r ≡ false → r ≡ document bytes
-says_unless_memory bytes r h f = says_one_thing bytes r h (memory_is r f)
+unfolding document
+says_unless_memory bytes r h f = laws.says_unless_memory IsTable document_of (λ ms r h. h) bytes r h f

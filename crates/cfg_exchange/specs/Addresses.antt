@@ -1,8 +1,8 @@
 -- The addresses to which a container's credentials may be asked for without HTTPS.
 use Rattle.std.specs.Prelude.{ℕ, ◌+◌, ◌*◌, ◌/◌, [], ◌∷◌, Bool, ◌||◌, nat_eq}
-use Rattle.cfg_values.specs.Addresses.{number_of}
-use Rattle.cfg_values.specs.declared.address.Address.{Address}
-use Rattle.cfg_values.specs.declared.address.Address.TheVariants.{V4, V6}
+use Rattle.cfg_base.specs.Addresses.{number_of}
+use Rattle.cfg_base.specs.declared.address.Address.{Address}
+use Rattle.cfg_base.specs.declared.address.Address.TheVariants.{V4, V6}
 
 -- the number of the address a.b.c.d
 abbrev pub dotted : ℕ → ℕ → ℕ → ℕ → ℕ

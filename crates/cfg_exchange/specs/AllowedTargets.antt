@@ -2,9 +2,9 @@
 use Rattle.std.specs.Prelude.{◌≡◌, ◌⊎◌, ℕ, List, [], ◌∷◌, true, Some, codes}
 use Rattle.std.specs.List.{list_all}
 use Rattle.http_uri.specs.Grammar.{IsUriText, authority_host}
-use Rattle.cfg_values.specs.Text.{characters}
-use Rattle.cfg_values.specs.Addresses.{IsAddress}
-use Rattle.cfg_values.specs.declared.address.Address.{Address}
+use Rattle.cfg_base.specs.Text.{characters}
+use Rattle.cfg_base.specs.Addresses.{IsAddress}
+use Rattle.cfg_base.specs.declared.address.Address.{Address}
 use Rattle.cfg_world.specs.declared.ask.Question.TheVariants.{LookUp}
 use Rattle.cfg_world.specs.declared.ask.Answer.TheVariants.{Addresses}
 use Rattle.cfg_world.specs.Fits.{Pair}

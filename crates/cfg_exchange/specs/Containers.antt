@@ -1,7 +1,7 @@
 -- Credentials of a container, as the agents of Amazon ECS and EKS give them.
 use Rattle.std.specs.Prelude.{◌≡◌, ◌⊎◌, ℕ, List, [], ◌∷◌, ◌-◌, Bool, Option, Some, None, option_map, Result, Ok, Err, codes, if◌then◌else◌}
 use Rattle.std.specs.Str.{encode_utf8_all}
-use Rattle.cfg_values.specs.Moment.{Moment}
+use Rattle.cfg_base.specs.Moment.{Moment}
 use Rattle.cfg_types.specs.Keys.{Keys}
 use Rattle.cfg_types.specs.Environment.{Variables, readable}
 use Rattle.cfg_types.specs.declared.credentials.AwsCredentialFeature.TheVariants.{CredentialsHttp}
@@ -79,9 +79,17 @@ abbrev pub relative_uri : List ℕ → Option Target → ContainerUri
 relative_uri text None = uri.NoRelative text
 relative_uri text (Some target) = uri.Relative target
 
+-- what the bytes of a relative address name, beside its text
+abbrev pub IsRelativeAt : List ℕ → List ℕ → ContainerUri → Type 0
+IsRelativeAt bytes text named = (target : Option Target) × IsRelativeUri bytes target × (named ≡ relative_uri text target)
+
+-- what the bytes of a full address name, beside its text
+abbrev pub IsFullAt : List ℕ → List ℕ → ContainerUri → Type 0
+IsFullAt bytes text named = (full : FullUriNamed) × IsFullUri bytes full × (named ≡ uri.Full text full)
+
 abbrev pub IsUriBy : Option (List ℕ) → Option (List ℕ) → ContainerUri → Type 0
-IsUriBy (Some text) full named = (target : Option Target) × IsRelativeUri (encode_utf8_all text) target × (named ≡ relative_uri text target)
-IsUriBy None (Some text) named = (full : FullUriNamed) × IsFullUri (encode_utf8_all text) full × (named ≡ uri.Full text full)
+IsUriBy (Some text) full named = IsRelativeAt (encode_utf8_all text) text named
+IsUriBy None (Some text) named = IsFullAt (encode_utf8_all text) text named
 IsUriBy None None named = named ≡ uri.NotSet
 
 -- the relative address where its variable can be read, else the full one, else none
@@ -131,6 +139,10 @@ unfoldable pub answer_keys : Answer → Read Keys
 answer_keys answer = sent_keys (http_of answer)
 
 -- ---- the whole
+
+-- the settings where no limit of time is set: two seconds to connect, and five to read
+abbrev pub default_container : Bool → Bool → ContainerSettings
+default_container dns sleep = record { dns = dns; sleep = sleep; connect_ms = 2000; read_ms = 5000 }
 
 -- the request for the credentials
 abbrev pub credentials_request : ContainerSettings → Option (List ℕ) → Target → Http

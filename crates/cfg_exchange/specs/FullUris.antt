@@ -3,9 +3,9 @@ use Rattle.std.specs.Prelude.{◌≡◌, ℕ, List, [], ◌∷◌, ◌++◌, ◌
 use Rattle.std.specs.Str.{bytes_eq}
 use Rattle.http_uri.specs.Grammar.{IsUriText, path_of, query_of, authority_host}
 use Rattle.http_uri.specs.ByteClasses.{framed_text}
-use Rattle.cfg_values.specs.Text.{characters}
-use Rattle.cfg_values.specs.Addresses.{IsAddress}
-use Rattle.cfg_values.specs.declared.address.Address.{Address}
+use Rattle.cfg_base.specs.Text.{characters}
+use Rattle.cfg_base.specs.Addresses.{IsAddress}
+use Rattle.cfg_base.specs.declared.address.Address.{Address}
 use Rattle.cfg_exchange.specs.declared.target.Target.{Target}
 use Rattle.cfg_exchange.specs.declared.full_uri.FullUri.{FullUri}
 use Rattle.cfg_exchange.specs.declared.full_uri.FullUri.TheVariants.{Unreadable, Hostless, Schemeless, Secure, AtAddress, AtName}

@@ -5,6 +5,7 @@ pub mod Addresses
 pub mod Readings
 pub mod Classifiers
 pub mod Attempts
+pub mod Exchanges
 pub mod FullUris
 pub mod Targets
 pub mod AllowedTargets

@@ -1,7 +1,7 @@
 -- Where a container's credentials are asked for: a full address and what is asked about it.
 use Rattle.std.specs.Prelude.{ℕ, List, Bool, true, false, Result, Ok, Err, if◌then◌else◌}
 use Rattle.std.specs.List.{list_all}
-use Rattle.cfg_values.specs.declared.address.Address.{Address}
+use Rattle.cfg_base.specs.declared.address.Address.{Address}
 use Rattle.cfg_types.specs.declared.reply.FailKind.{FailKind}
 use Rattle.cfg_types.specs.declared.errors.container.InvalidFullUriError.{InvalidFullUriError}
 use Rattle.cfg_types.specs.declared.errors.container.InvalidFullUriError.TheVariants as invalid

@@ -1,13 +1,11 @@
 //! Credentials of a container, as the agents of Amazon ECS and EKS give them.
 ghost use Rattle.std.specs.Prelude.{◌≡◌, IfOk, IfSome, option_map};
-ghost use Rattle.cfg_values.specs.Text.{characters};
+ghost use Rattle.cfg_base.specs.Text.{characters};
 ghost use Rattle.cfg_world.specs.Follows.{Follows};
-ghost use Rattle.cfg_exchange.specs.declared.container.ContainerUri.TheVariants as uri_of;
 ghost use Rattle.cfg_exchange.specs.Attempts.{outcome_of};
 ghost use Rattle.cfg_exchange.specs.Documents.{body_document as body_document_of};
 ghost use Rattle.cfg_exchange.specs.Readings.{IsReadOf};
-ghost use Rattle.cfg_exchange.specs.FullUris.{IsRelativeUri, IsFullUri};
-ghost use Rattle.cfg_exchange.specs.Containers.{checked_token as checked_token_of, token_of_file as token_of_file_of, token_of_bytes as token_of_bytes_of, auth_token as auth_token_of, relative_uri as relative_uri_of, IsContainerUri, or_full_uri as or_full_uri_of, container_target, said_keys as said_keys_of, reply_keys as reply_keys_of, answer_keys as answer_keys_of, credentials_request, credentials_attempts, attempt_limit as attempt_limit_of, fetched_keys, container as container_of, FollowsContainer};
+ghost use Rattle.cfg_exchange.specs.Containers.{checked_token as checked_token_of, token_of_file as token_of_file_of, token_of_bytes as token_of_bytes_of, auth_token as auth_token_of, IsRelativeAt, IsFullAt, IsContainerUri, or_full_uri as or_full_uri_of, container_target, said_keys as said_keys_of, reply_keys as reply_keys_of, answer_keys as answer_keys_of, credentials_request, credentials_attempts, attempt_limit as attempt_limit_of, fetched_keys, container as container_of, FollowsContainer};
 
 use crate::attempts::exchange_and_read;
 use crate::classify::HttpCredentialRetryClassifier;
@@ -25,6 +23,15 @@ use cfg_types::{
 use cfg_world::{Answer, Asking, Receipt, Stop, read_file};
 use std::alloc::Global;
 
+/// The limit of time to connect, where none is set, in milliseconds.
+pub const DEFAULT_CONNECT_TIMEOUT: u64 = 2_000;
+
+/// The limit of time to read, where none is set, in milliseconds.
+pub const DEFAULT_READ_TIMEOUT: u64 = 5_000;
+
+// As many attempts as `RetryConfig::standard()` has, by which the provider of aws-config retries.
+const STANDARD_ATTEMPTS: u32 = 3;
+
 /// How a container's credentials are asked for.
 #[derive(Clone, Copy, Debug, PartialEq, Eq)]
 pub struct ContainerSettings {
@@ -37,6 +44,22 @@ pub struct ContainerSettings {
     pub connect_ms: u64,
     /// The limit of time to read, in milliseconds.
     pub read_ms: u64,
+}
+
+impl ContainerSettings {
+    ghost use Rattle.cfg_exchange.specs.Containers.{default_container};
+
+    /// The settings with the default limits of time: 2,000 milliseconds to connect, and 5,000 to read.
+    pub fn new(dns: bool, sleep: bool) -> ContainerSettings
+        ensures { result ≡ default_container dns sleep }
+    {
+        ContainerSettings {
+            dns,
+            sleep,
+            connect_ms: DEFAULT_CONNECT_TIMEOUT,
+            read_ms: DEFAULT_READ_TIMEOUT,
+        }
+    }
 }
 
 /// Where the variables say that a container's credentials are.
@@ -129,7 +152,7 @@ fn auth_token<A: Asking>(
     match env.readable("AWS_CONTAINER_AUTHORIZATION_TOKEN_FILE") {
         Some(path) => {
             let asked = Text::of(alloc, path)?;
-            let held = read_file(alloc, asked, asking)?;
+            let held = read_file(alloc, &asked, asking)?;
             let token = token_of_file(alloc, path, held)?;
             Ok(token)
         }
@@ -142,7 +165,7 @@ fn auth_token<A: Asking>(
 }
 
 fn relative_uri(alloc: Global, text: &str) -> Result<ContainerUri, OutOfMemory>
-    ensures { IfOk result (λ named. (target : _) × IsRelativeUri text.now target × (named ≡ relative_uri_of (characters text.now) target)) }
+    ensures { IfOk result (IsRelativeAt text.now (characters text.now)) }
 {
     match relative_target(alloc, text)? {
         Some(target) => Ok(ContainerUri::Relative(target)),
@@ -154,7 +177,7 @@ fn relative_uri(alloc: Global, text: &str) -> Result<ContainerUri, OutOfMemory>
 }
 
 fn full_uri(alloc: Global, text: &str) -> Result<ContainerUri, OutOfMemory>
-    ensures { IfOk result (λ uri. (named : _) × IsFullUri text.now named × (uri ≡ uri_of.Full (characters text.now) named)) }
+    ensures { IfOk result (IsFullAt text.now (characters text.now)) }
 {
     let named = read_full_uri(alloc, text)?;
     let uri = Text::of(alloc, text)?;
@@ -339,7 +362,7 @@ fn request(settings: &ContainerSettings, token: Option<Bytes>, target: Target) -
 fn attempt_limit(sleep: bool) -> u32
     ensures { result ≡ attempt_limit_of sleep }
 {
-    if sleep { 3 } else { 1 }
+    if sleep { STANDARD_ATTEMPTS } else { 1 }
 }
 
 // The attempts of the request, and what the last reply's document says, where they read it.

@@ -1,8 +1,8 @@
 ghost use Rattle.std.specs.Prelude.{◌≡◌, IfOk};
 ghost use Rattle.std.specs.Str.{is_utf8 as is_utf8_of};
-ghost use Rattle.cfg_exchange.specs.Documents.{is_memory as is_memory_of, document as document_of, body_document as body_document_of};
+ghost use Rattle.cfg_exchange.specs.Documents.{document as document_of, body_document as body_document_of};
 
-use cfg_json::{JsonCredentials, parse_json_credentials};
+use cfg_json::{JsonCredentials, is_memory, parse_json_credentials};
 use cfg_types::{InvalidJsonCredentials, OutOfMemory, UnhandledCause};
 use std::alloc::Global;
 
@@ -18,16 +18,6 @@ pub fn is_utf8(bytes: &[u8]) -> bool
     }
 }
 
-/// Whether memory ran out as the document was read.
-pub fn is_out_of_memory(said: &Result<JsonCredentials, InvalidJsonCredentials>) -> bool
-    ensures { result ≡ is_memory_of said.now }
-{
-    match said {
-        Err(InvalidJsonCredentials::OutOfMemory) => true,
-        _ => false,
-    }
-}
-
 // What a document of credentials says, or why the text is none.
 fn document(
     alloc: Global,
@@ -36,7 +26,7 @@ fn document(
     ensures { IfOk result (λ said. said ≡ document_of text.now) }
 {
     let said = parse_json_credentials(alloc, text);
-    if is_out_of_memory(&said) {
+    if is_memory(&said) {
         return Err(OutOfMemory);
     }
     Ok(said)

@@ -1,6 +1,6 @@
 //! Full addresses of a container's credentials, and which of them may be asked.
 ghost use Rattle.std.specs.Prelude.{◌≡◌, IfOk, true, false, Some, option_copied};
-ghost use Rattle.cfg_values.specs.Text.{characters};
+ghost use Rattle.cfg_base.specs.Text.{characters};
 ghost use Rattle.http_uri.specs.Grammar.{authority_host};
 ghost use Rattle.http_uri.specs.Uri.{uri_scheme, uri_authority, uri_data};
 ghost use Rattle.cfg_world.specs.Follows.{Follows};

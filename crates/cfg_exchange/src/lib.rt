@@ -6,26 +6,23 @@
 #![tactic(auto)]
 
 mod addresses;
-pub mod attempts;
-pub mod classify;
+mod attempts;
+mod classify;
 mod container;
 mod documents;
 mod full_uri;
 mod header_value;
 pub mod laws;
-pub mod lifetime;
-pub mod reading;
+mod lifetime;
+mod reading;
+pub mod steps;
 mod target;
 
 pub use addresses::is_full_uri_ip_allowed;
 pub use attempts::exchange;
 pub use cfg_types::{CredentialsError, InvalidFullUriError, OutOfMemory};
 pub use classify::{ClassifyRetry, HttpCredentialRetryClassifier, ImdsResponseRetryClassifier};
-pub use container::{
-    ContainerSettings, ContainerUri, container_credentials, container_uri, follow_container,
-};
-pub use documents::is_out_of_memory;
-pub use full_uri::{FullUri, read_full_uri, validate_full_uri};
+pub use full_uri::validate_full_uri;
 pub use header_value::is_header_value;
 pub use reading::{Reading, ReplyKind};
 pub use target::{Target, relative_target};

@@ -6,7 +6,7 @@ use cfg_types::{HttpReply, OutOfMemory, Text};
 use std::alloc::Global;
 
 /// The whole number of 64 bits without sign that the text is, in decimal digits. A plus may stand before
-/// them. None where it is no such number.
+/// them, as aws-config parses it: `+1` is one, and ` 1` is none. None where it is no such number.
 pub fn number(text: &str) -> Option<u64>
     ensures { result ≡ number_of text.now }
 {

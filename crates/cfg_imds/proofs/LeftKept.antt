@@ -16,7 +16,7 @@ use Rattle.cfg_imds.specs.Clients.{ClientRules, place_of, endpoint_fault, path_f
 use Rattle.cfg_imds.specs.Left.{LeftBy}
 use Rattle.cfg_imds.specs.Requests.{Service}
 use Rattle.cfg_imds.specs.SettledParts.{SettledBy}
-use Rattle.cfg_imds.specs.Settles.{Given, Settled, is_good, renewed, renewal, with_kept}
+use Rattle.cfg_imds.specs.Settles.{Given, Settled, has_time_left, renewed, renewal, with_kept}
 use Rattle.cfg_imds.specs.Tokens.{Token, ReceiptedToken, bare_token, read_token}
 use Rattle.cfg_imds.proofs.Shapes.{settle_shape}
 
@@ -48,7 +48,7 @@ by_good s endpoint kept false rest out h = ap (λ o. is_memory (o.0)) (sym h.is)
 no_memory : (client : ClientRules) (kept : Option Token) (part : List Pair) (out : Settled) → Reads (settle client kept) part out → is_memory (out.0) ≡ false
 no_memory client kept part out h =
     let s = settle_shape client.service (place_of client.endpoint) kept part out h in
-    by_good client.service (place_of client.endpoint) kept (is_good kept (moment_of s.first.1)) s.rest out s.then
+    by_good client.service (place_of client.endpoint) kept (has_time_left kept (moment_of s.first.1)) s.rest out s.then
 
 pub settle_stays : {W : Type 0} (w : Ghosts W) (old new : W) (client : ClientRules) (kept left : Option Token) (r : Result Given Stop) (P : Type 0) →
     Follows w (settle client kept) old new (with_kept left r) → OnErr r P → is_memory (or_memory r) ≡ true → P

@@ -1,5 +1,5 @@
 pub mod Hosting
-pub mod Steps
+pub mod SaidSteps
 pub mod Pathing
 pub mod Shapes
 pub mod WhyNot
@@ -8,3 +8,4 @@ pub mod Quiet
 pub mod Over
 pub mod LeftKept
 pub mod Located
+pub mod NoMemory

@@ -11,7 +11,7 @@ use Rattle.cfg_world.specs.Leaves.{moment_of}
 use Rattle.cfg_imds.specs.Clients.{ClientRules, place_of, why_unusable, settle, with_token, unless_unusable, get}
 use Rattle.cfg_imds.specs.Requests.{Service}
 use Rattle.cfg_imds.specs.SettledParts.{SettledBy}
-use Rattle.cfg_imds.specs.Settles.{Settled, Given, is_good, kept_value, renewed, renewal}
+use Rattle.cfg_imds.specs.Settles.{Settled, Given, has_time_left, kept_value, renewed, renewal}
 use Rattle.cfg_imds.specs.Tokens.{Token, read_token}
 use Rattle.cfg_imds.proofs.Shapes.{settle_shape}
 
@@ -60,4 +60,4 @@ settled_none s endpoint kept false rest e left h = renewal_none h.reply h.readin
 pub refusal_keeps_nothing : (client : ClientRules) (kept : Option Token) (part : List Pair) (e : ImdsError) (left : Option Token) → Reads (settle client kept) part (refused e left) → left ≡ None
 refusal_keeps_nothing client kept part e left h =
     let s = settle_shape client.service (place_of client.endpoint) kept part (refused e left) h in
-    settled_none client.service (place_of client.endpoint) kept (is_good kept (moment_of s.first.1)) s.rest e left s.then
+    settled_none client.service (place_of client.endpoint) kept (has_time_left kept (moment_of s.first.1)) s.rest e left s.then

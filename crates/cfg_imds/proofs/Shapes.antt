@@ -17,7 +17,7 @@ use Rattle.cfg_exchange.proofs.Pieces.{attempts_piece}
 use Rattle.cfg_imds.specs.Fetches.{fetched, fetch_at}
 use Rattle.cfg_imds.specs.Requests.{Service, tries, token_request, get_request, token_attempts, get_attempts}
 use Rattle.cfg_imds.specs.SettledParts.{Renewed, SettledBy, SettledPart}
-use Rattle.cfg_imds.specs.Settles.{Settled, is_good, kept_value, renewal, renew, settle_at}
+use Rattle.cfg_imds.specs.Settles.{Settled, has_time_left, kept_value, renewal, renew, settle_at}
 use Rattle.cfg_imds.specs.Tokens.{Token}
 
 pub done_is : {R : Type 0} (r : R) (journal : List Pair) (out : R) → Reads (Done r) journal out → (journal ≡ []) × (r ≡ out)
@@ -74,7 +74,7 @@ settle_shape s endpoint kept (e ∷ rest) out h = record {
   rest = rest;
   parts = refl;
   asks = h.0;
-  then = by_good s endpoint kept (is_good kept (moment_of e.1)) rest out h.1;
+  then = by_good s endpoint kept (has_time_left kept (moment_of e.1)) rest out h.1;
 }
 
 -- attempts at a path, and the last entry decides

@@ -18,7 +18,7 @@ use Rattle.cfg_imds.specs.Clients.{ClientRules, place_of, why_unusable, settle, 
 use Rattle.cfg_imds.specs.Fetches.{entry_fault, unless_fault, fetched}
 use Rattle.cfg_imds.specs.Requests.{Service, get_request}
 use Rattle.cfg_imds.specs.SettledParts.{Renewed, SettledBy, SettledPart}
-use Rattle.cfg_imds.specs.Settles.{Given, Settled, is_good, renewed, renewal}
+use Rattle.cfg_imds.specs.Settles.{Given, Settled, has_time_left, renewed, renewal}
 use Rattle.cfg_imds.specs.Tokens.{Token, read_token}
 use Rattle.cfg_imds.proofs.Shapes.{done_is, nothing_after, settle_shape, fetch_shape}
 
@@ -61,7 +61,7 @@ settled_by s endpoint kept true first rest out h = ap settled_error (sym h.1) �
 settled_by s endpoint kept false first rest out h = renewed_fault s endpoint first rest out h
 
 part_fault : (s : Service) (endpoint : List ℕ) (kept : Option Token) (part : List Pair) (out : Settled) → SettledPart s endpoint kept part out → settled_error out ≡ why_asked part
-part_fault s endpoint kept part out h = settled_by s endpoint kept (is_good kept (moment_of h.first.1)) h.first h.rest out h.then ∙ sym (ap why_asked h.parts)
+part_fault s endpoint kept part out h = settled_by s endpoint kept (has_time_left kept (moment_of h.first.1)) h.first h.rest out h.then ∙ sym (ap why_asked h.parts)
 
 pub settle_fault : (client : ClientRules) (kept : Option Token) (part : List Pair) (out : Settled) → Reads (settle client kept) part out → settled_error out ≡ why_asked part
 settle_fault client kept part out h = part_fault client.service (place_of client.endpoint) kept part out (settle_shape client.service (place_of client.endpoint) kept part out h)
@@ -115,7 +115,7 @@ asked_fault : (client : ClientRules) (kept : Option Token) (path : List ℕ) (pa
 asked_fault client kept path part out h =
     let p = split_after (settle client kept) (with_token client path) part out h in
     let s = settle_shape client.service (place_of client.endpoint) kept p.part p.middle p.first in
-    let e = settled_by client.service (place_of client.endpoint) kept (is_good kept (moment_of s.first.1)) s.first s.rest p.middle s.then in
+    let e = settled_by client.service (place_of client.endpoint) kept (has_time_left kept (moment_of s.first.1)) s.first s.rest p.middle s.then in
     settled_text client path s.first s.rest p.rest p.middle out e p.then ∙ sym (ap why_asked (p.parts ∙ ap (λ t. t ++ p.rest) s.parts))
 
 by_usable : (client : ClientRules) (kept : Option Token) (path : List ℕ) (fault : Option UnexpectedCause) (part : List Pair) (out : Settled) →

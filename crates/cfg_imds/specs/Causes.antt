@@ -7,7 +7,7 @@ use Rattle.cfg_types.specs.declared.errors.imds.ImdsError.TheVariants as imds
 use Rattle.cfg_world.specs.declared.ask.Question.{Question}
 use Rattle.cfg_world.specs.declared.ask.Question.TheVariants.{Send}
 use Rattle.cfg_world.specs.Fits.{Pair}
-use Rattle.cfg_imds.specs.Clients.{ClientRules, why_unusable}
+use Rattle.cfg_imds.specs.Clients.{ClientRules, usable_error}
 use Rattle.cfg_imds.specs.Fetches.{entry_fault}
 use Rattle.cfg_imds.specs.Settles.{Settled}
 use Rattle.cfg_imds.specs.Tokens.{read_token}
@@ -31,7 +31,7 @@ abbrev pub why_asked : List Pair → Option ImdsError
 why_asked [] = None
 why_asked (a ∷ part) = fault_after a part
 
--- Why no session token is settled: the last two entries give none. None where a kept one is good.
+-- Why no session token is settled: the last two entries give none. None where enough of a kept one is left.
 abbrev pub why_unsettled : List Pair → Option ImdsError
 why_unsettled part = why_asked part
 
@@ -46,7 +46,7 @@ why_unfetched part = last_fault part
 
 -- Why a get gives no text: the path, else the endpoint, else what is wrong at the end of the part.
 abbrev pub why_no_text : ClientRules → List ℕ → List Pair → Option ImdsError
-why_no_text client path part = option_or (option_map imds.Unexpected (why_unusable client.endpoint path)) (why_asked part)
+why_no_text client path part = option_or (usable_error client path) (why_asked part)
 
 -- the error of a call that leaves a token kept
 abbrev pub settled_error : Settled → Option ImdsError

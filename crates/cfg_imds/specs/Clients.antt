@@ -1,9 +1,9 @@
 -- What a client asks, and what it is set to.
-use Rattle.std.specs.Prelude.{ℕ, List, Bool, Option, Some, None, is_none, Result, Ok, Err, if◌then◌else◌}
+use Rattle.std.specs.Prelude.{ℕ, List, Bool, Option, Some, None, is_none, option_map, Result, Ok, Err, if◌then◌else◌}
 use Rattle.std.specs.Option.{option_or}
 use Rattle.std.specs.declared.alloc.Global.{Global}
 use Rattle.std.specs.declared.dyn_box.DynBox.{DynBox}
-use Rattle.cfg_values.specs.Text.{characters}
+use Rattle.cfg_base.specs.Text.{characters}
 use Rattle.cfg_types.specs.declared.errors.imds.BuildError.TheVariants.{InvalidEndpointMode, InvalidEndpointUri}
 use Rattle.cfg_types.specs.declared.errors.imds.InvalidEndpointMode.TheVariants as mode
 use Rattle.cfg_types.specs.declared.errors.imds.ImdsError.{ImdsError}
@@ -13,7 +13,7 @@ use Rattle.cfg_types.specs.declared.errors.imds.UnexpectedCause.TheVariants as u
 use Rattle.cfg_world.specs.Fits.{Pair}
 use Rattle.cfg_world.specs.Inquiry.{Inquiry, Done, after}
 use Rattle.cfg_exchange.specs.Classifiers.{Repeats}
-use Rattle.cfg_imds.specs.declared.client.Client.{Client}
+use Rattle.cfg_imds.specs.declared.imds.client.Client.{Client}
 use Rattle.cfg_imds.specs.declared.endpoint.Endpoint.{Endpoint}
 use Rattle.cfg_imds.specs.declared.endpoint.Endpoint.TheVariants.{At, NoUri, NoMode}
 use Rattle.cfg_imds.specs.Classifiers.{repeated_by}
@@ -57,11 +57,15 @@ path_fault path = if is_path path then None else Some (unexpected.Path (characte
 unfoldable pub why_unusable : Endpoint → List ℕ → Option UnexpectedCause
 why_unusable endpoint path = option_or (path_fault path) (endpoint_fault endpoint)
 
+-- the error of a path that a client does not ask for
+abbrev pub usable_error : ClientRules → List ℕ → Option ImdsError
+usable_error client path = option_map Unexpected (why_unusable client.endpoint path)
+
 -- the path may be asked for at this endpoint
 abbrev pub is_usable : Endpoint → List ℕ → Bool
 is_usable endpoint path = is_none (why_unusable endpoint path)
 
--- a session token of a client: a kept one that is good, else a new one
+-- a session token of a client: a kept one of which enough is left, else a new one
 abbrev pub settle : ClientRules → Option Token → Inquiry Settled
 settle client kept = settle_at client.service (place_of client.endpoint) kept
 

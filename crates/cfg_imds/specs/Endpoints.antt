@@ -4,7 +4,7 @@ use Rattle.std.specs.FinMap.{get}
 use Rattle.std.specs.Option.{option_or}
 use Rattle.std.specs.Str.{encode_utf8_all, str_eq_ignore_ascii_case}
 use Rattle.http_uri.specs.Grammar.{IsUriText}
-use Rattle.cfg_values.specs.Text.{characters}
+use Rattle.cfg_base.specs.Text.{characters}
 use Rattle.cfg_types.specs.declared.errors.imds.EndpointMode.{EndpointMode}
 use Rattle.cfg_types.specs.declared.errors.imds.EndpointMode.TheVariants.{IpV4, IpV6}
 use Rattle.cfg_profile.specs.Configuration.{Configuration}

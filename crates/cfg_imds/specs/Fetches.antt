@@ -1,6 +1,6 @@
 -- What stands at a path, or why it is not had.
 use Rattle.std.specs.Prelude.{ℕ, List, [], Bool, true, false, Option, Some, None, Result, Ok, Err, if◌then◌else◌}
-use Rattle.cfg_values.specs.Text.{characters}
+use Rattle.cfg_base.specs.Text.{characters}
 use Rattle.cfg_types.specs.declared.errors.imds.ImdsError.{ImdsError}
 use Rattle.cfg_types.specs.declared.errors.imds.ImdsError.TheVariants as imds
 use Rattle.cfg_types.specs.declared.errors.imds.UnexpectedCause.TheVariants.{NotUtf8, Dispatch}

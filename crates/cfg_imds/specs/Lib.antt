@@ -12,6 +12,7 @@ pub mod Defaults
 pub mod Uris
 pub mod Setups
 pub mod Causes
+pub mod ClientCalls
 pub mod SettledParts
 pub mod Calls
 pub mod Left

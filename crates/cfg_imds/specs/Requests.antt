@@ -1,15 +1,14 @@
 -- What the instance metadata service is sent.
-use Rattle.std.specs.Prelude.{ℕ, ◌-◌, List}
-use Rattle.cfg_values.specs.Text.{characters}
+use Rattle.std.specs.Prelude.{ℕ, List}
+use Rattle.cfg_base.specs.Text.{characters}
 use Rattle.cfg_types.specs.declared.request.Request.{Request}
 use Rattle.cfg_types.specs.declared.request.Request.TheVariants as request
-use Rattle.cfg_world.specs.declared.ask.Question.TheVariants.{Send}
 use Rattle.cfg_world.specs.Fits.{Pair}
 use Rattle.cfg_world.specs.Inquiry.{Inquiry}
 use Rattle.cfg_exchange.specs.declared.reading.ReplyKind.{ReplyKind}
 use Rattle.cfg_exchange.specs.declared.reading.ReplyKind.TheVariants as kind
-use Rattle.cfg_exchange.specs.Attempts.{attempts}
-use Rattle.cfg_exchange.specs.Classifiers.{Repeats, is_repeated}
+use Rattle.cfg_exchange.specs.Classifiers.{Repeats}
+use Rattle.cfg_exchange.specs.Exchanges.{exchange}
 use Rattle.cfg_imds.specs.declared.requests.ImdsSettings.{ImdsSettings}
 
 -- how the service is asked, and which attempts are repeated
@@ -30,7 +29,7 @@ get_request settings endpoint path token = request.MetadataGet (record { endpoin
 
 -- one request in attempts
 unfoldable pub tries : Service → ReplyKind → Request → Inquiry Pair
-tries s kind asked = attempts (s.settings.max_attempts - 1) (Send asked) (is_repeated kind s.repeats)
+tries s kind asked = exchange s.settings.max_attempts asked kind s.repeats
 
 -- the attempts at a session token
 abbrev pub token_attempts : Service → List ℕ → Inquiry Pair

@@ -1,13 +1,15 @@
 -- How a session token is had: a kept one, or a new one.
 use Rattle.std.specs.Prelude.{ℕ, List, [], Bool, false, Option, Some, None, Result, Ok, Err, if◌then◌else◌}
-use Rattle.cfg_values.specs.Instant.{is_later_by}
-use Rattle.cfg_values.specs.Moment.{Moment}
+use Rattle.cfg_base.specs.Instant.{is_later_by}
+use Rattle.cfg_base.specs.Moment.{Moment}
 use Rattle.cfg_types.specs.declared.errors.imds.ImdsError.{ImdsError}
 use Rattle.cfg_types.specs.declared.errors.imds.ImdsError.TheVariants as imds
 use Rattle.cfg_types.specs.declared.errors.imds.FailedToLoadToken.{FailedToLoadToken}
 use Rattle.cfg_world.specs.declared.ask.Question.TheVariants.{Now}
+use Rattle.cfg_world.specs.declared.asking.Asking.{Ghosts}
 use Rattle.cfg_world.specs.declared.asking.Stop.{Stop}
 use Rattle.cfg_world.specs.Fits.{Pair}
+use Rattle.cfg_world.specs.Follows.{Follows}
 use Rattle.cfg_world.specs.Inquiry.{Inquiry, Done, after}
 use Rattle.cfg_world.specs.Leaves.{clock}
 use Rattle.cfg_exchange.specs.Attempts.{asked}
@@ -22,10 +24,10 @@ Given = Result (List ℕ) ImdsError
 abbrev pub Settled : Type 0
 Settled = Given × Option Token
 
--- a kept token is good while more than 120 seconds of it are left
-abbrev pub is_good : Option Token → Moment → Bool
-is_good None now = false
-is_good (Some token) now = is_later_by token.expiry now 120
+-- enough of a kept token is left: more than 120 seconds
+abbrev pub has_time_left : Option Token → Moment → Bool
+has_time_left None now = false
+has_time_left (Some token) now = is_later_by token.expiry now 120
 
 abbrev pub kept_value : Option Token → List ℕ
 kept_value None = []
@@ -44,11 +46,15 @@ renewal reply reading = renewed (read_token reply reading)
 unfoldable pub renew : Service → List ℕ → Inquiry Settled
 renew s endpoint = after (token_attempts s endpoint) (λ reply. after (asked Now) (λ reading. Done (renewal reply reading)))
 
--- First a reading of the clock. A kept token that is good is used and kept; else a new one is asked for.
+-- First a reading of the clock. A kept token of which enough is left is used and kept; else a new one is asked for.
 unfoldable pub settle_at : Service → List ℕ → Option Token → Inquiry Settled
-settle_at s endpoint kept = after clock (λ now. if is_good kept now then Done (Ok (kept_value kept), kept) else renew s endpoint)
+settle_at s endpoint kept = after clock (λ now. if has_time_left kept now then Done (Ok (kept_value kept), kept) else renew s endpoint)
 
 -- a call's outcome together with what it leaves kept
 abbrev pub with_kept : {R V : Type 0} → V → Result R Stop → Result (R × V) Stop
 with_kept kept (Ok r) = Ok (r, kept)
 with_kept kept (Err stop) = Err stop
+
+-- a call that follows the inquiry, and leaves this kept
+abbrev pub FollowsKept : {A R V : Type 0} → Ghosts A → Inquiry (R × V) → A → A → V → Result R Stop → Type 0
+FollowsKept a inquiry old new left out = Follows a inquiry old new (with_kept left out)

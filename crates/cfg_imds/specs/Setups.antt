@@ -1,15 +1,19 @@
 -- What a client is set up with.
-use Rattle.std.specs.Prelude.{◌≡◌, ℕ, List, true, false, Option, None}
+use Rattle.std.specs.Prelude.{◌≡◌, ℕ, List, true, false, Option, Some, None, option_map}
 use Rattle.std.specs.declared.alloc.Global.{Global}
 use Rattle.std.specs.declared.dyn_box.DynBox.{DynBox}
 use Rattle.cfg_types.specs.declared.errors.imds.EndpointMode.{EndpointMode}
 use Rattle.cfg_types.specs.declared.settings.Timeouts.{Timeouts}
 use Rattle.cfg_profile.specs.Configuration.{Configuration, nothing_configured}
 use Rattle.cfg_exchange.specs.Classifiers.{Repeats, metadata_repeats}
-use Rattle.cfg_imds.specs.declared.builder.Builder.{Builder}
+use Rattle.cfg_imds.specs.declared.imds.builder.Builder.{Builder}
+use Rattle.cfg_imds.specs.declared.asked.AskedClient.{AskedClient}
+use Rattle.cfg_imds.specs.declared.asked.AskedClient.TheVariants as asked
+use Rattle.cfg_imds.specs.declared.endpoint.Endpoint.{Endpoint}
+use Rattle.cfg_imds.specs.declared.imds.client.Client.{Client}
 use Rattle.cfg_imds.specs.declared.requests.ImdsSettings.{ImdsSettings}
 use Rattle.cfg_imds.specs.Classifiers.{repeated_by}
-use Rattle.cfg_imds.specs.Clients.{ClientRules}
+use Rattle.cfg_imds.specs.Clients.{ClientRules, rules_of, client_rules}
 use Rattle.cfg_imds.specs.Defaults.{default_settings}
 use Rattle.cfg_imds.specs.Endpoints.{IsEndpoint}
 use Rattle.cfg_imds.specs.Requests.{service}
@@ -55,6 +59,10 @@ configured conf = record {
   repeats = default_setup.repeats;
 }
 
+-- the client that asks at this endpoint, with nothing else set
+abbrev pub client_of : Endpoint → ClientRules
+client_of endpoint = record { endpoint = endpoint; service = service default_settings default_setup.repeats }
+
 -- the settings of a setup changed alone
 abbrev pub with_settings : (ImdsSettings → ImdsSettings) → ClientSetup → ClientSetup
 with_settings change setup = record {
@@ -73,3 +81,22 @@ with_limits change s = record { ttl_seconds = s.ttl_seconds; max_attempts = s.ma
 pub record IsClient (setup : ClientSetup) (client : ClientRules) : Type 0 where
   pub endpoint : IsEndpoint setup.configuration setup.endpoint setup.mode client.endpoint
   pub service : client.service ≡ service setup.settings setup.repeats
+
+-- the client that a provider asks by: the one that was given, else the one that its configuration names
+abbrev pub IsAskedClient : Option ClientRules → Configuration → ClientRules → Type 0
+IsAskedClient (Some given) conf client = client ≡ given
+IsAskedClient None conf client = IsClient (configured conf) client
+
+module _ {V : Type 0} {I : V → Type 0} where
+  -- the client that a provider asks by, by the meaning of a classifier that was handed in
+  abbrev pub asked_rules : (DynBox V Global I → Repeats) → AskedClient V I → ClientRules
+  asked_rules boxed (asked.Given client) = rules_of boxed client
+  asked_rules boxed (asked.Own endpoint) = client_of endpoint
+
+  -- the same, as the crates above say it: by the meaning of a value that is a classifier
+  abbrev pub asked_client : ((v : V) × I v → Repeats) → AskedClient V I → ClientRules
+  asked_client repeated client = asked_rules (λ b. repeated (b.vtable, b.value)) client
+
+  -- the client that was given, where one was, by the same meaning
+  abbrev pub given_client : ((v : V) × I v → Repeats) → Option (Client V I) → Option ClientRules
+  given_client repeated client = option_map (client_rules repeated) client

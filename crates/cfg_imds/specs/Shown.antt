@@ -1,7 +1,7 @@
 -- What Debug texts show.
 use Rattle.std.specs.Prelude.{ℕ, List, ◌++◌, codes}
 use Rattle.std.specs.Fmt.{decimal, signed_decimal}
-use Rattle.cfg_values.specs.Moment.{Moment}
+use Rattle.cfg_base.specs.Moment.{Moment}
 
 -- the Debug text of a metadata token: when it ends
 abbrev pub shown_metadata_token : Moment → List ℕ

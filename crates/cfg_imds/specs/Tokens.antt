@@ -1,6 +1,6 @@
 -- A session token of the instance metadata service, and the rule by which it is read from two receipts.
-use Rattle.std.specs.Prelude.{◌≡◌, ℕ, pos, ◌+ℤ◌, List, nat_eq, int_lt, Option, Some, None, ok_or, option_and_then, Result, Ok, Err, if◌then◌else◌}
-use Rattle.cfg_values.specs.Moment.{Moment}
+use Rattle.std.specs.Prelude.{◌≡◌, ℕ, pos, ◌+ℤ◌, List, nat_eq, int_lt, Option, Some, None, ok_or, option_and_then, option_map, Result, Ok, Err, if◌then◌else◌}
+use Rattle.cfg_base.specs.Moment.{Moment}
 use Rattle.cfg_types.specs.Headers.{header}
 use Rattle.cfg_types.specs.declared.errors.imds.TokenError.{TokenError}
 use Rattle.cfg_types.specs.declared.errors.imds.TokenError.TheVariants.{InvalidToken, NoTtl, InvalidTtl, InvalidParameters, Forbidden}
@@ -29,6 +29,10 @@ pub record ReceiptedToken : Type 0 where
 -- its receipts are left aside
 abbrev pub bare_token : ReceiptedToken → Token
 bare_token t = record { value = t.value; expiry = t.expiry }
+
+-- the same of what is kept
+abbrev pub bare_kept : Option ReceiptedToken → Option Token
+bare_kept kept = option_map bare_token kept
 
 -- so many seconds later, unless the seconds pass the last ones of 64 bits
 abbrev pub later : Moment → ℕ → Option Moment

@@ -1,7 +1,7 @@
 //! Where the instance metadata service is asked.
 ghost use Rattle.std.specs.Prelude.{◌≡◌, ◌≢◌, Option, Bool, true, false, Ok as ok, Err as err, option_map, IfOk, IfErr, codes, is_some, Some as some, None as none, ◌&&◌};
 ghost use Rattle.http_uri.specs.Uri.{uri_scheme, uri_authority};
-ghost use Rattle.cfg_values.specs.Text.{characters};
+ghost use Rattle.cfg_base.specs.Text.{characters};
 ghost use Rattle.cfg_types.specs.declared.errors.imds.InvalidEndpointMode.TheVariants as invalid;
 ghost use Rattle.cfg_imds.specs.Endpoints.{mode_in, mode_endpoint as mode_endpoint_of, key_in, setting as setting_of, mode_by, by_mode as by_mode_of, or_mode as or_mode_of, endpoint_text, IsEndpointAt, IsEndpointBy, IsEndpoint};
 ghost use Rattle.cfg_profile.specs.Selected.{selected_name as selected_name_of};

@@ -4,11 +4,11 @@ ghost use Rattle.cfg_world.specs.Follows.{Follows};
 ghost use Rattle.cfg_world.specs.Leaves.{http_of};
 ghost use Rattle.cfg_imds.specs.Requests.{service};
 ghost use Rattle.cfg_imds.specs.Fetches.{is_get, send_error as send_error_of, reply_fault as reply_fault_of, sent_fault, entry_fault as entry_fault_of, fetched as fetched_of, fetch_at as fetch_at_of, entry_text as entry_text_of};
-ghost use Rattle.cfg_values.specs.Text.{characters};
+ghost use Rattle.cfg_base.specs.Text.{characters};
 
 use crate::requests::{ImdsSettings, ask_path};
 use cfg_exchange::ClassifyRetry;
-use cfg_exchange::reading::is_success;
+use cfg_exchange::steps::is_success;
 use cfg_json::utf8_text;
 use cfg_types::imds::{ErrorResponse, ImdsError, UnexpectedCause};
 use cfg_types::{Bytes, FailKind, HttpReply, OutOfMemory, Reply, Text, TryCopy};
@@ -72,7 +72,7 @@ fn fetched(alloc: Global, receipt: Receipt) -> Result<Result<Receipt, ImdsError>
 }
 
 // What stands at a path of the service at this endpoint, in attempts.
-#[tactic(auto, using(crate::proofs::Steps::said_steps), unfolding(crate::specs::Fetches::fetch_at))]
+#[tactic(auto, using(crate::proofs::SaidSteps::said_steps), unfolding(crate::specs::Fetches::fetch_at))]
 pub fn fetch_at<A: Asking, C: ClassifyRetry>(
     alloc: Global,
     settings: &ImdsSettings,
@@ -82,7 +82,9 @@ pub fn fetch_at<A: Asking, C: ClassifyRetry>(
     token: &Bytes,
     asking: &mut A,
 ) -> Result<Result<Receipt, ImdsError>, Stop>
-    ensures follows { Follows ⟦<A as Asking>⟧ (fetch_at_of (service settings.now (C.repeated classifier.now)) endpoint.now path.now token.now) asking.old asking.new result }
+    ensures follows { Follows ⟦<A as Asking>⟧
+        (fetch_at_of (service settings.now (C.repeated classifier.now)) endpoint.now path.now token.now)
+        asking.old asking.new result }
     ensures get { IfOk result (λ r. IfOk r (λ e. is_get e.0 ≡ true)) }
     ensures fine { IfOk result (λ r. IfOk r (λ e. entry_fault_of e ≡ none)) }
 {

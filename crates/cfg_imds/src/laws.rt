@@ -12,7 +12,7 @@ ghost use Rattle.cfg_imds.specs.Clients.{ClientRules, place_of, is_usable, settl
 ghost use Rattle.cfg_imds.specs.Endpoints.{IsEndpoint};
 ghost use Rattle.cfg_imds.specs.Paths.{is_path, IsPath};
 ghost use Rattle.cfg_imds.specs.SettledParts.{SettledPart};
-ghost use Rattle.cfg_imds.specs.Setups.{ClientSetup, IsClient};
+ghost use Rattle.cfg_imds.specs.Setups.{ClientSetup, IsClient, IsAskedClient};
 ghost use Rattle.cfg_imds.specs.Settles.{Settled};
 ghost use Rattle.cfg_imds.specs.Tokens.{Token};
 
@@ -41,11 +41,14 @@ pub fn a_path_is_a_uri()
     ensures { (text : List ℕ) → (is_path text ≡ true) ↔ IsPath text }
 {}
 
-/// A configuration, and what was given in place of it, name one endpoint, and a setup one client.
+/// A configuration, and what was given in place of it, name one endpoint, and a setup one client. So do a
+/// provider's configuration and the client that it was given, if any.
 pub fn a_client_has_one_endpoint()
     ensures endpoint { (conf : Configuration) (given : Option (List ℕ)) (mode : Option Mode) (a b : Place) →
         IsEndpoint conf given mode a → IsEndpoint conf given mode b → a ≡ b }
     ensures client { (setup : ClientSetup) (a b : ClientRules) → IsClient setup a → IsClient setup b → a ≡ b }
+    ensures asked { (given : Option ClientRules) (conf : Configuration) (a b : ClientRules) →
+        IsAskedClient given conf a → IsAskedClient given conf b → a ≡ b }
 {}
 
 /// The error of a settle, of a fetch and of a get is the one that their part shows, and there is none

@@ -4,28 +4,23 @@
 //! its tree of questions, and that its error has its cause in the part of the journal that it added.
 #![tactic(auto)]
 
-pub mod builder;
-pub mod classifier;
-pub mod client;
-pub mod endpoint;
-pub mod fetch;
+mod asked;
+mod classifier;
+mod endpoint;
+mod fetch;
+pub mod imds;
 pub mod laws;
-pub mod path;
-pub mod region;
-pub mod requests;
+mod path;
+mod region;
+mod requests;
 mod settle;
-pub mod state;
-pub mod token;
+mod state;
+pub mod steps;
+mod token;
 
-pub use builder::Builder;
 pub use cfg_types::OutOfMemory;
-pub use cfg_types::imds::{BuildError, FailedToLoadToken, ImdsError, InvalidEndpointMode};
-pub use classifier::{BoxedClassifier, Classifier};
-pub use client::Client;
-pub use endpoint::{Endpoint, endpoint_mode, endpoint_of};
-pub use fetch::entry_text;
-pub use path::is_path;
-pub use region::{follow_region, is_disabled};
-pub use requests::ImdsSettings;
+pub use classifier::BoxedClassifier;
+pub use endpoint::endpoint_mode;
+pub use imds::{Builder, Client};
 pub use state::ImdsTokenState;
 pub use token::MetadataToken;

@@ -1,12 +1,11 @@
 //! The region that the instance metadata service tells.
 ghost use Rattle.std.specs.Prelude.{◌≡◌, option_map, IfOk};
-ghost use Rattle.cfg_world.specs.Follows.{Follows};
 ghost use Rattle.cfg_imds.specs.Clients.{rules_of};
 ghost use Rattle.cfg_imds.specs.Regions.{is_true_text as is_true_text_of, is_disabled as is_disabled_of, region_in, region as region_of};
-ghost use Rattle.cfg_imds.specs.Settles.{with_kept};
-ghost use Rattle.cfg_imds.specs.Tokens.{bare_token};
+ghost use Rattle.cfg_imds.specs.Settles.{FollowsKept};
+ghost use Rattle.cfg_imds.specs.Tokens.{bare_kept};
 
-use crate::client::Client;
+use crate::imds::client::{Client, follow_get};
 use crate::token::MetadataToken;
 use cfg_types::imds::ImdsError;
 use cfg_types::{Env, OutOfMemory, Region, SensitiveString};
@@ -48,7 +47,7 @@ fn region_of_text(
 
 /// The region of the machine: the text at `/latest/meta-data/placement/region`, as it stands. None where
 /// metadata is switched off, and nothing is asked then; none, too, after each error but that memory ran
-/// out, which is a stop. What is kept is as [`Client::follow_get`] leaves it, and as it was where metadata
+/// out, which is a stop. What is kept is as [`follow_get`] leaves it, and as it was where metadata
 /// is switched off.
 #[tactic(auto, using(crate::proofs::Located::located_steps), unfolding(crate::specs::Regions::region))]
 pub fn follow_region<A: Asking>(
@@ -58,12 +57,14 @@ pub fn follow_region<A: Asking>(
     kept: &mut Option<MetadataToken>,
     asking: &mut A,
 ) -> Result<Option<Region>, Stop>
-    ensures { Follows ⟦<A as Asking>⟧ (region_of (is_disabled_of env.now) (rules_of repeated client.now) (option_map bare_token kept.old)) asking.old asking.new (with_kept (option_map bare_token kept.new) result) }
+    ensures { FollowsKept ⟦<A as Asking>⟧
+        (region_of (is_disabled_of env.now) (rules_of repeated client.now) (bare_kept kept.old))
+        asking.old asking.new (bare_kept kept.new) result }
 {
     if is_disabled(env) {
         return Ok(None);
     }
-    let got = client.follow_get(kept, "/latest/meta-data/placement/region", asking)?;
+    let got = follow_get(client, kept, "/latest/meta-data/placement/region", asking)?;
     let region = region_of_text(alloc, got)?;
     Ok(region)
 }

@@ -5,7 +5,8 @@ ghost use Rattle.cfg_world.specs.Follows.{Follows};
 ghost use Rattle.cfg_imds.specs.Fetches.{is_get};
 ghost use Rattle.cfg_imds.specs.Requests.{service, tries as tries_of, token_request, get_request, token_attempts, get_attempts};
 
-use cfg_exchange::{ClassifyRetry, ReplyKind, exchange};
+use cfg_exchange::steps::follow_exchange;
+use cfg_exchange::{ClassifyRetry, ReplyKind};
 use cfg_types::{
     Bytes, MetadataGet, MetadataToken as TokenRequest, OutOfMemory, Request, Text, Timeouts,
     TryCopy,
@@ -72,7 +73,7 @@ fn tries<A: Asking, C: ClassifyRetry>(
     ensures follows { Follows ⟦<A as Asking>⟧ (tries_of (service settings.now (C.repeated classifier.now)) kind request.now) asking.old asking.new result }
     ensures asks { IfOk result (λ e. e.0 ≡ Send request.now) }
 {
-    exchange(
+    follow_exchange(
         alloc,
         request,
         settings.max_attempts,
@@ -109,7 +110,9 @@ pub fn ask_path<A: Asking, C: ClassifyRetry>(
     token: &Bytes,
     asking: &mut A,
 ) -> Result<Receipt, Stop>
-    ensures follows { Follows ⟦<A as Asking>⟧ (get_attempts (service settings.now (C.repeated classifier.now)) endpoint.now path.now token.now) asking.old asking.new result }
+    ensures follows { Follows ⟦<A as Asking>⟧
+        (get_attempts (service settings.now (C.repeated classifier.now)) endpoint.now path.now token.now)
+        asking.old asking.new result }
     ensures get { IfOk result (λ e. is_get e.0 ≡ true) }
 {
     let request = make_get_request(alloc, settings, endpoint, path, token)?;

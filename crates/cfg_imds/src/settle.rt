@@ -1,11 +1,11 @@
 //! How a session token is had: a kept one, or a new one.
-ghost use Rattle.std.specs.Prelude.{◌≡◌, IfOk, OnErr, option_map};
+ghost use Rattle.std.specs.Prelude.{◌≡◌, IfOk, OnErr};
 ghost use Rattle.cfg_world.specs.Follows.{Follows};
 ghost use Rattle.cfg_exchange.specs.Attempts.{asked};
 ghost use Rattle.cfg_world.specs.declared.ask.Question.TheVariants.{Now};
 ghost use Rattle.cfg_imds.specs.Requests.{service};
-ghost use Rattle.cfg_imds.specs.Tokens.{bare_token};
-ghost use Rattle.cfg_imds.specs.Settles.{is_good as is_good_of, kept_value as kept_value_of, renewal, renew as renew_of, settle_at as settle_at_of, with_kept};
+ghost use Rattle.cfg_imds.specs.Tokens.{bare_kept};
+ghost use Rattle.cfg_imds.specs.Settles.{has_time_left as has_time_left_of, kept_value as kept_value_of, renewal, renew as renew_of, settle_at as settle_at_of, FollowsKept};
 
 use crate::requests::{ImdsSettings, ask_token};
 use crate::token::MetadataToken;
@@ -15,18 +15,21 @@ use cfg_types::{Bytes, Instant, OutOfMemory, Text, TryCopy};
 use cfg_world::{Asking, Question, Receipt, Stop, read_clock};
 use std::alloc::Global;
 
-// Whether more than 120 seconds of a kept token are left.
-fn is_good(kept: &Option<MetadataToken>, now: Instant) -> bool
-    ensures { result ≡ is_good_of (option_map bare_token kept.now) now }
+// A kept token is used while more than so many seconds of it are left.
+const TOKEN_REFRESH_BUFFER: u64 = 120;
+
+// Whether enough of a kept token is left.
+fn has_time_left(kept: &Option<MetadataToken>, now: Instant) -> bool
+    ensures { result ≡ has_time_left_of (bare_kept kept.now) now }
 {
     match kept {
         None => false,
-        Some(token) => token.expiry().is_later_by(120, now),
+        Some(token) => token.expiry().is_later_by(TOKEN_REFRESH_BUFFER, now),
     }
 }
 
 fn kept_value(alloc: Global, kept: &Option<MetadataToken>) -> Result<Bytes, OutOfMemory>
-    ensures { IfOk result (λ value. value ≡ kept_value_of (option_map bare_token kept.now)) }
+    ensures { IfOk result (λ value. value ≡ kept_value_of (bare_kept kept.now)) }
 {
     match kept {
         None => Bytes::of(alloc, b""),
@@ -43,7 +46,7 @@ fn keep_read(
     reading: Receipt,
 ) -> Result<Result<Bytes, ImdsError>, OutOfMemory>
     requires { reading.0 ≡ Now }
-    ensures kept { IfOk result (λ r. renewal reply reading ≡ (r, option_map bare_token kept.new)) }
+    ensures kept { IfOk result (λ r. renewal reply reading ≡ (r, bare_kept kept.new)) }
     ensures stays { OnErr result (kept.new ≡ kept.old) }
 {
     match MetadataToken::read(alloc, reply, reading)? {
@@ -69,7 +72,7 @@ fn read_again<A: Asking>(asking: &mut A) -> Result<Receipt, Stop>
 }
 
 // A token request, and a reading of the clock after it.
-#[tactic(auto, using(crate::proofs::Steps::said_steps), unfolding(crate::specs::Settles::renew))]
+#[tactic(auto, using(crate::proofs::SaidSteps::said_steps), unfolding(crate::specs::Settles::renew))]
 fn renew<A: Asking, C: ClassifyRetry>(
     alloc: Global,
     settings: &ImdsSettings,
@@ -78,7 +81,9 @@ fn renew<A: Asking, C: ClassifyRetry>(
     kept: &mut Option<MetadataToken>,
     asking: &mut A,
 ) -> Result<Result<Bytes, ImdsError>, Stop>
-    ensures follows { Follows ⟦<A as Asking>⟧ (renew_of (service settings.now (C.repeated classifier.now)) endpoint.now) asking.old asking.new (with_kept (option_map bare_token kept.new) result) }
+    ensures follows { FollowsKept ⟦<A as Asking>⟧
+        (renew_of (service settings.now (C.repeated classifier.now)) endpoint.now)
+        asking.old asking.new (bare_kept kept.new) result }
     ensures stays { OnErr result (kept.new ≡ kept.old) }
 {
     let reply = ask_token(alloc, settings, classifier, endpoint, asking)?;
@@ -97,11 +102,13 @@ pub fn settle_at<A: Asking, C: ClassifyRetry>(
     kept: &mut Option<MetadataToken>,
     asking: &mut A,
 ) -> Result<Result<Bytes, ImdsError>, Stop>
-    ensures follows { Follows ⟦<A as Asking>⟧ (settle_at_of (service settings.now (C.repeated classifier.now)) endpoint.now (option_map bare_token kept.old)) asking.old asking.new (with_kept (option_map bare_token kept.new) result) }
+    ensures follows { FollowsKept ⟦<A as Asking>⟧
+        (settle_at_of (service settings.now (C.repeated classifier.now)) endpoint.now (bare_kept kept.old))
+        asking.old asking.new (bare_kept kept.new) result }
     ensures stays { OnErr result (kept.new ≡ kept.old) }
 {
     let now = read_clock(asking)?;
-    if is_good(kept, now) {
+    if has_time_left(kept, now) {
         let value = kept_value(alloc, kept)?;
         return Ok(Ok(value));
     }

@@ -6,7 +6,7 @@ ghost use Rattle.cfg_exchange.specs.Lifetimes.{number as number_of};
 ghost use Rattle.cfg_imds.specs.Tokens.{bare_token, in_ok, later as later_of, reply_expiry as reply_expiry_of, reply_token as reply_token_of, sent_token, read_token, IsRead};
 
 use cfg_exchange::is_header_value;
-use cfg_exchange::lifetime::number;
+use cfg_exchange::steps::number;
 use cfg_types::imds::{FailedToLoadToken, TokenError};
 use cfg_types::{Bytes, FailKind, HttpReply, Instant, OutOfMemory, Reply, Text, TryCopy};
 use cfg_world::{Answer, Receipt};

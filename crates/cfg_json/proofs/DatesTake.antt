@@ -7,9 +7,9 @@ use Rattle.jiff_core.proofs.CalendarLemmas.{days_in_month_bounds}
 use Rattle.std.proofs.lemmas.Bool.{and_parts, eqb-true, eqb-false, or_cases}
 use Rattle.std.proofs.lemmas.Str.{IsAscii-append, chars-IsAscii, encodes-IsAscii}
 use borrow.Author.Tests.{ltb-true, leb-true}
-use Rattle.cfg_values.specs.Moment.{Moment}
-use Rattle.cfg_values.specs.Text.{characters}
-use Rattle.cfg_values.proofs.TextLemmas.{characters-chars, characters-encodes, encodes-chars}
+use Rattle.cfg_base.specs.Moment.{Moment}
+use Rattle.cfg_base.specs.Text.{characters}
+use Rattle.cfg_base.proofs.TextLemmas.{characters-chars, characters-encodes, encodes-chars}
 use Rattle.cfg_json.specs.Ascii.{plus_sign, hyphen_minus, full_stop, digit_zero, digit_nine, colon, capital_t, capital_z, small_t, small_z}
 use Rattle.cfg_json.specs.Reads.{◌>>=◌}
 use Rattle.cfg_json.specs.Numbers.{AllDigits}

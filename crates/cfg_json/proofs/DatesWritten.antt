@@ -9,9 +9,9 @@ use Rattle.std.proofs.lemmas.Str.{IsUtf8-from_ascii, chars-IsAscii}
 use Rattle.jiff_core.specs.Calendar.{days_from_civil, day_count, days_of_years, days_of_months, IsCivilDate}
 use Rattle.jiff_core.proofs.CalendarLemmas.{days_in_month_bounds, day_count-lt_year, day_count-lt_month, day_count-day, day_count_bounds, days_from_civil-day_count}
 use Rattle.jiff_core.proofs.SignedLemmas.{signed_arith}
-use Rattle.cfg_values.specs.Moment.{Moment}
-use Rattle.cfg_values.specs.Text.{characters}
-use Rattle.cfg_values.proofs.TextLemmas.{characters-chars}
+use Rattle.cfg_base.specs.Moment.{Moment}
+use Rattle.cfg_base.specs.Text.{characters}
+use Rattle.cfg_base.proofs.TextLemmas.{characters-chars}
 use Rattle.cfg_json.specs.Ascii.{full_stop, digit_zero, digit_nine, capital_t, capital_z}
 use Rattle.cfg_json.specs.Numbers.{AllDigits, AreDigits}
 use Rattle.cfg_json.specs.declared.dates.local.LocalTime.{LocalTime}

@@ -4,8 +4,8 @@ use Rattle.std.specs.Option.{option_or}
 use Rattle.std.specs.Prelude.{Ok, Err, ℤ, pos, codes}
 use Rattle.std.specs.Ordering.{int_eq}
 use Rattle.std.specs.Str.{bytes_eq}
-use Rattle.cfg_values.specs.Gives.{◌>>=◌}
-use Rattle.cfg_values.specs.Moment.{Moment}
+use Rattle.cfg_base.specs.Gives.{◌>>=◌}
+use Rattle.cfg_base.specs.Moment.{Moment}
 use Rattle.cfg_types.specs.Keys.{Keys}
 use Rattle.cfg_types.specs.declared.document.Field.TheVariants as field
 use Rattle.cfg_types.specs.declared.document.FieldFault.TheVariants as fault
@@ -27,7 +27,7 @@ text_fails Table bytes (invalid.Other t) h = h
 text_fails Table bytes invalid.OutOfMemory h = tt
 
 -- an error is the fault of a field
-abbrev OnlyFields : {A : Type 0} → Read A → Type 0
+abbrev pub OnlyFields : {A : Type 0} → Read A → Type 0
 OnlyFields (Ok x) = Unit {0}
 OnlyFields (Err (invalid.JsonError e)) = ⊥
 OnlyFields (Err (invalid.MissingField f)) = Unit {0}

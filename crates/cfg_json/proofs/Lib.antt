@@ -24,5 +24,6 @@ pub mod WriterSteps
 pub mod LookupSteps
 pub mod LookupLaws
 pub mod DocumentLaws
+pub mod SaidLaws
 pub mod WrittenStrings
 pub mod WrittenObjectLaws

@@ -4,8 +4,8 @@ use Rattle.std.specs.Prelude.{◌||◌, ◌==◌, codes, Ok}
 use Rattle.std.proofs.lemmas.Bool.{or_from}
 use Rattle.std.proofs.lemmas.Str.{IsUtf8-from_ascii, chars-IsAscii}
 use Rattle.std.proofs.lemmas.List.{take_at}
-use Rattle.cfg_values.specs.Text.{characters}
-use Rattle.cfg_values.proofs.TextLemmas.{characters-chars}
+use Rattle.cfg_base.specs.Text.{characters}
+use Rattle.cfg_base.proofs.TextLemmas.{characters-chars}
 use Rattle.cfg_json.specs.Ascii.{quotation_mark, comma, left_square_bracket, small_f, small_n, small_t, left_curly_bracket, right_curly_bracket}
 use Rattle.cfg_json.specs.WhiteSpace.{IsWhiteSpace}
 use Rattle.cfg_json.specs.Numbers.{IsNumber}

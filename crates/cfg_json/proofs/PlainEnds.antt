@@ -4,7 +4,7 @@ use Rattle.std.specs.Prelude.{◌==◌, option_map}
 use Rattle.std.specs.List.{list_all}
 use Rattle.std.proofs.lemmas.Bool.{and_parts, ne_eqb, not-true}
 use Rattle.std.proofs.lemmas.List.{drop_all}
-use Rattle.cfg_values.specs.Text.{characters}
+use Rattle.cfg_base.specs.Text.{characters}
 use Rattle.cfg_json.specs.Ascii.{quotation_mark, backslash}
 use Rattle.cfg_json.specs.Characters.{is_plain}
 use Rattle.cfg_json.specs.Reads.{◌>>=◌}

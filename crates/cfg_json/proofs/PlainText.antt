@@ -7,8 +7,8 @@ use Rattle.std.specs.Char.{encode_utf8}
 use Rattle.std.proofs.lemmas.Bool.{and_parts, and_from, cases_lt, le-leb, ne_eqb, not-true, not_from_false}
 use Rattle.std.proofs.lemmas.List.Folds.{list_all-append}
 use Rattle.std.proofs.lemmas.Str.{encode_ascii}
-use Rattle.cfg_values.specs.Text.{characters}
-use Rattle.cfg_values.proofs.TextLemmas.{encodes-chars}
+use Rattle.cfg_base.specs.Text.{characters}
+use Rattle.cfg_base.proofs.TextLemmas.{encodes-chars}
 use Rattle.cfg_json.specs.Ascii.{quotation_mark, backslash}
 use Rattle.cfg_json.specs.Characters.{is_plain}
 use Rattle.cfg_json.specs.Reads.{◌>>=◌}

@@ -8,8 +8,8 @@ use Rattle.std.proofs.lemmas.Bool.{eqb-true, and_parts, and_from, ne_eqb, not_fr
 use Rattle.std.proofs.lemmas.List.{append-nil}
 use Rattle.std.proofs.lemmas.Str.{encode_ascii, inside_one, scalars-chars, IsUtf8-from_is_utf8}
 use Rattle.std.specs.Str.{is_utf8}
-use Rattle.cfg_values.specs.Text.{characters}
-use Rattle.cfg_values.proofs.TextLemmas.{characters-chars, characters-encodes, encodes-chars}
+use Rattle.cfg_base.specs.Text.{characters}
+use Rattle.cfg_base.proofs.TextLemmas.{characters-chars, characters-encodes, encodes-chars}
 use Rattle.cfg_json.specs.Ascii.{quotation_mark, solidus, backslash, small_b, small_f, small_n, small_r, small_t, small_u}
 use Rattle.cfg_json.specs.Characters.{is_plain, short_escape, hex_digit, code_unit}
 use Rattle.cfg_json.specs.Reads.{◌>>=◌}

@@ -7,8 +7,8 @@ use Rattle.std.proofs.lemmas.Bool.{eqb-true, true≢false}
 use Rattle.std.proofs.lemmas.List.{nil_from_length}
 use Rattle.std.proofs.lemmas.Str.{chars-append}
 use lib.Utf8.{scalar}
-use Rattle.cfg_values.specs.Text.{characters}
-use Rattle.cfg_values.proofs.TextLemmas.{characters-chars, encodes-chars}
+use Rattle.cfg_base.specs.Text.{characters}
+use Rattle.cfg_base.proofs.TextLemmas.{characters-chars, encodes-chars}
 use Rattle.cfg_json.specs.Ascii.{comma}
 use Rattle.cfg_json.specs.Writing.{before_next}
 use Rattle.cfg_json.proofs.StringSteps.{pushed}

@@ -1,6 +1,6 @@
 -- What the readers of whole objects answer.
 use Rattle.std.specs.Prelude.{◌≡◌, ◌≢◌, ℕ, ◌-◌, length, ◌⊎◌, List, [], ◌∷◌, ◌++◌, false, drop, Result, Ok, Err}
-use Rattle.cfg_values.specs.Gives.{Gives, IsSaid}
+use Rattle.cfg_base.specs.Gives.{Gives, IsSaid}
 use Rattle.cfg_types.specs.declared.document.JsonError.{JsonError}
 use Rattle.cfg_types.specs.declared.document.JsonError.TheVariants as json
 use Rattle.cfg_json.specs.Ascii.{left_curly_bracket}

@@ -1,12 +1,12 @@
 -- Documents of credentials: their fields, over the last text of a name.
 use Rattle.std.specs.Option.{option_or}
-use Rattle.std.specs.Prelude.{◌≡◌, ℕ, ◌⊎◌, List, [], true, false, Option, Some, None, Result, Ok, Err, codes, unwrap_or, if◌then◌else◌, ℤ, FitsSigned, pos}
+use Rattle.std.specs.Prelude.{◌≡◌, ℕ, ◌⊎◌, List, [], true, false, Option, Some, None, Result, Ok, Err, codes, unwrap_or, if◌then◌else◌, ℤ, FitsSigned, pos, Bool}
 use Rattle.std.specs.Int.{w32}
 use Rattle.std.specs.Ordering.{int_eq}
 use Rattle.std.specs.Str.{encode_utf8_all, bytes_eq}
 use Rattle.std.specs.Str.Parse.{IsNumeral, without_leading_sign, signed_digits_value}
-use Rattle.cfg_values.specs.Gives.{Gives, IsSaid, ◌>>=◌}
-use Rattle.cfg_values.specs.Moment.{Moment}
+use Rattle.cfg_base.specs.Gives.{Gives, IsSaid, ◌>>=◌}
+use Rattle.cfg_base.specs.Moment.{Moment}
 use Rattle.cfg_types.specs.Keys.{Keys}
 use Rattle.cfg_types.specs.Field.{field_name}
 use Rattle.cfg_types.specs.declared.document.JsonError.{JsonError}
@@ -21,7 +21,7 @@ use Rattle.cfg_types.specs.declared.document.InvalidJsonCredentials.TheVariants 
 use Rattle.cfg_json.specs.declared.member.Member.{Member}
 use Rattle.cfg_json.specs.declared.member.Members.{Members}
 use Rattle.cfg_json.specs.Objects.{HasObject}
-use Rattle.cfg_json.specs.Answers.{OpensObject, OpensOther, HasNoObject, OnlyWhiteSpaceFrom}
+use Rattle.cfg_json.specs.Answers.{MemberList, OpensObject, OpensOther, HasNoObject, OnlyWhiteSpaceFrom, only_list_answer}
 use Rattle.cfg_json.specs.Lookups.{last_text, last_number}
 use Rattle.cfg_json.specs.ReadingDates.{moment_at}
 
@@ -31,6 +31,10 @@ Read A = Result A InvalidJsonCredentials
 -- the last text of a field, or of another one
 abbrev pub field_text : List Member → Field → Field → Option (List ℕ)
 field_text ms f other = last_text (field_name f) (field_name other) ms
+
+-- the account that the members name
+abbrev pub account_text : List Member → Option (List ℕ)
+account_text ms = field_text ms field.AccountId field.AccountId
 
 abbrev pub required : Field → Option (List ℕ) → Read (List ℕ)
 required f None = Err (invalid.MissingField f)
@@ -55,7 +59,7 @@ refreshable ms =
     required field.Token (field_text ms field.Token field.SessionToken) >>= λ token.
     required field.Expiration (field_text ms field.Expiration field.ExpiresAt) >>= λ end.
     dated field.Expiration (date_in end) >>= λ moment.
-    Ok (document.RefreshableCredentials id secret token (field_text ms field.AccountId field.AccountId) moment)
+    Ok (document.RefreshableCredentials id secret token (account_text ms) moment)
 
 abbrev pub refused : List Member → List ℕ → JsonCredentials
 refused ms code = document.Error code (unwrap_or (field_text ms field.Message field.Message) (codes "no message"))
@@ -112,6 +116,21 @@ AnswersDocument Table bytes (Err (invalid.InvalidField f e)) = (ms : List Member
 AnswersDocument Table bytes (Err (invalid.Other t)) = IsFollowed bytes × (t ≡ more_tokens)
 AnswersDocument Table bytes (Err invalid.OutOfMemory) = Unit {0}
 
+-- what a text is read as, by what a table says of the members of an object
+abbrev pub by_members : {A : Type 0} → (List Member → Read A) → Result MemberList JsonError → Read A
+by_members table (Ok members) = table members.0
+by_members table (Err json.More) = Err (invalid.Other more_tokens)
+by_members table (Err e) = Err (invalid.JsonError e)
+
+-- what a text says whose members have this table
+unfoldable pub said_by : {A : Type 0} → (List Member → Read A) → List ℕ → Read A
+said_by table text = by_members table (only_list_answer text)
+
+-- whether memory ran out
+abbrev pub is_memory : {A : Type 0} → Read A → Bool
+is_memory (Err invalid.OutOfMemory) = true
+is_memory _ = false
+
 -- the table of a document of credentials
 abbrev pub IsTable : List Member → Read JsonCredentials → Type 0
 IsTable ms answer = answer ≡ document_of ms
@@ -157,7 +176,7 @@ process_of ms version account =
       secret_access_key = secret;
       session_token = field_text ms field.SessionToken field.SessionToken;
       expiry = end;
-      account_id = option_or (field_text ms field.AccountId field.AccountId) account;
+      account_id = option_or (account_text ms) account;
       provider_name = codes "CredentialProcess";
       features = [];
     })

@@ -1,7 +1,7 @@
 -- Reading a date from left to right.
 use Rattle.std.specs.Prelude.{ℕ, ◌+◌, ◌-◌, ◌*◌, ◌/◌, List, [], ◌∷◌, Bool, ◌&&◌, ◌||◌, nat_lt, nat_le, ◌==◌, Option, Some, None, if◌then◌else◌, ℤ, pos, neg_ℤ, ◌-ℤ◌}
 use Rattle.jiff_core.specs.Calendar.{days_in_month}
-use Rattle.cfg_values.specs.Moment.{Moment}
+use Rattle.cfg_base.specs.Moment.{Moment}
 use Rattle.cfg_json.specs.Ascii.{plus_sign, hyphen_minus, full_stop, digit_zero, digit_nine, colon, capital_t, capital_z, small_t, small_z}
 use Rattle.cfg_json.specs.Reads.{◌>>=◌}
 use Rattle.cfg_json.specs.Reading.{mark_at}

@@ -1,7 +1,7 @@
 -- Reading the outer object from left to right. Places are told by how many bytes are left, of the total.
 use Rattle.std.specs.Option.{option_or}
 use Rattle.std.specs.Prelude.{ℕ, zero, suc, ◌-◌, List, [], ◌∷◌, ◌++◌, length, take, Bool, true, false, ◌||◌, ◌==◌, Option, Some, None, Result, Ok, Err, if◌then◌else◌}
-use Rattle.cfg_values.specs.Text.{characters}
+use Rattle.cfg_base.specs.Text.{characters}
 use Rattle.cfg_types.specs.declared.document.JsonError.{JsonError}
 use Rattle.cfg_types.specs.declared.document.JsonError.TheVariants as json
 use Rattle.cfg_json.specs.Ascii.{quotation_mark, comma, left_square_bracket, left_curly_bracket, right_curly_bracket}

@@ -1,6 +1,6 @@
 -- What a reader of the code answers, by what reading a list gives.
 use Rattle.std.specs.Prelude.{Option, Some, None, Result}
-use Rattle.cfg_values.specs.Gives.{Gives, IsRead}
+use Rattle.cfg_base.specs.Gives.{Gives, IsRead}
 use Rattle.cfg_types.specs.declared.document.JsonError.{JsonError}
 use Rattle.cfg_types.specs.declared.document.JsonError.TheVariants as json
 

@@ -2,7 +2,7 @@
 use Rattle.std.specs.Prelude.{ℕ, List, ◌++◌, codes}
 use Rattle.std.specs.Str.{encode_utf8_all}
 use Rattle.std.specs.Fmt.{decimal, signed_decimal}
-use Rattle.cfg_types.specs.Shown.{shown_account}
+use Rattle.cfg_types.specs.DebugTexts.{shown_account}
 use Rattle.cfg_json.specs.declared.credentials.JsonCredentials.{JsonCredentials}
 use Rattle.cfg_json.specs.declared.credentials.JsonCredentials.TheVariants as document
 

@@ -1,8 +1,8 @@
 //! Documents of credentials, as instance metadata, containers and endpoints answer them.
 ghost use Rattle.std.specs.Prelude.{◌≡◌, IfOk, option_map, Ok, unwrap_or, codes};
 ghost use Rattle.cfg_json.specs.declared.credentials.JsonCredentials.TheVariants as document;
-ghost use Rattle.cfg_values.specs.Gives.{IsSaid};
-ghost use Rattle.cfg_json.specs.Documents.{UnlessMemory, AnswersDocument, field_text, required as required_text, dated as dated_at, refreshable as refreshable_of, refused as refused_of, document_of, IsTable, ReadsDocument, fault_of};
+ghost use Rattle.cfg_base.specs.Gives.{IsSaid};
+ghost use Rattle.cfg_json.specs.Documents.{UnlessMemory, AnswersDocument, field_text, account_text, required as required_text, dated as dated_at, refreshable as refreshable_of, refused as refused_of, document_of, IsTable, ReadsDocument, fault_of, is_memory as is_memory_of};
 
 use crate::dates::reading::parse_date;
 use crate::lookup::last_text;
@@ -59,6 +59,13 @@ fn more_fault(alloc: Global) -> InvalidJsonCredentials
         Ok(text) => InvalidJsonCredentials::Other(text),
         Err(_) => InvalidJsonCredentials::OutOfMemory,
     }
+}
+
+/// Whether memory ran out as a document was read.
+pub fn is_memory<T>(said: &Result<T, InvalidJsonCredentials>) -> bool
+    ensures { result ≡ is_memory_of said.now }
+{
+    matches!(said, Err(InvalidJsonCredentials::OutOfMemory))
 }
 
 /// The members of a text that is an object and nothing else.
@@ -137,7 +144,7 @@ fn with_keys(
     token: &Text,
     expiration: Instant,
 ) -> Result<JsonCredentials, OutOfMemory>
-    ensures { IfOk result (λ d. d ≡ document.RefreshableCredentials id.now secret.now token.now (field_text members.now Field.AccountId Field.AccountId) expiration) }
+    ensures { IfOk result (λ d. d ≡ document.RefreshableCredentials id.now secret.now token.now (account_text members.now) expiration) }
 {
     let access_key_id = id.copy(alloc)?;
     let secret_access_key = secret.copy(alloc)?;

@@ -2,7 +2,7 @@
 ghost use Rattle.std.specs.Prelude.{◌≡◌, ◌↔◌, ℕ, ◌-◌, List, Some, ◌∷◌, ◌++◌, map, length, true, None, All};
 ghost use Rattle.std.specs.Str.{encode_utf8_all, all_scalars};
 ghost use Rattle.cfg_json.specs.declared.member.Member.{Member};
-ghost use Rattle.cfg_values.specs.Moment.{Moment};
+ghost use Rattle.cfg_base.specs.Moment.{Moment};
 ghost use Rattle.cfg_json.specs.Dates.{IsDateText, IsOffsetDateText, IsWrittenDate};
 ghost use Rattle.cfg_json.specs.Documents.{date_in, offset_date_in};
 ghost use Rattle.cfg_json.specs.Strings.{IsString};
@@ -66,8 +66,11 @@ pub fn written_objects_are_read_back()
 /// The text under a name, or under another one, is that of the last member of these names whose
 /// value is a text, and there is none exactly where no such member has one. The number alike.
 pub fn the_last_of_a_name_counts()
-    ensures text { (name other : List ℕ) (members : List Member) (text : List ℕ) → (last_text name other members ≡ Some text) ↔ IsLastGiven (text_under name other) members text }
-    ensures no_text { (name other : List ℕ) (members : List Member) → (last_text name other members ≡ None) ↔ All (GivesNothing (text_under name other)) members }
-    ensures number { (name : List ℕ) (members : List Member) (number : List ℕ) → (last_number name members ≡ Some number) ↔ IsLastGiven (number_under name) members number }
+    ensures text { (name other : List ℕ) (members : List Member) (text : List ℕ)
+        → (last_text name other members ≡ Some text) ↔ IsLastGiven (text_under name other) members text }
+    ensures no_text { (name other : List ℕ) (members : List Member)
+        → (last_text name other members ≡ None) ↔ All (GivesNothing (text_under name other)) members }
+    ensures number { (name : List ℕ) (members : List Member) (number : List ℕ)
+        → (last_number name members ≡ Some number) ↔ IsLastGiven (number_under name) members number }
     ensures no_number { (name : List ℕ) (members : List Member) → (last_number name members ≡ None) ↔ All (GivesNothing (number_under name)) members }
 {}

@@ -43,6 +43,7 @@ pub fn last_text<'a>(members: &'a [Member], name: &str, other: &str) -> Option<&
 {
     let mut found = None;
     for member in members {
+        // A later member of another kind leaves it: the last text counts, and not the last member.
         found = text_of(member, name, other).or(found);
     }
     found

@@ -4,14 +4,15 @@ ghost use Rattle.cfg_json.specs.Reads.{Reads};
 ghost use Rattle.cfg_json.specs.ReadingObjects.{text_from, number_value_at, text_value_at, nested_value_at, word_value_at, member_value_at, member_at, member_turn_at, members_at, object_at};
 
 use crate::member::{Member, MemberValue};
+use crate::nesting::{read_key, skip_value};
 use crate::numbers::{skip_number, skip_word};
 use crate::strings::{read_string, utf8_text};
-use crate::values::{read_key, skip_value};
 use crate::white_space::skip_white_space;
 use cfg_types::{JsonError, Text};
 use std::alloc::Global;
 
-/// How deep values nest inside the outer object: 128 levels in all, its own taken.
+/// How deep values nest inside the outer object: 128 levels in all, its own taken. Each level is a call, so that the
+/// depth of a text has to have an end.
 const INNER_DEPTH: u8 = 127;
 
 #[tactic(auto, unfolding(crate::specs::ReadingObjects::text_from))]

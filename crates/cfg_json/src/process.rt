@@ -3,8 +3,8 @@ ghost use Rattle.std.specs.Option.{option_or};
 ghost use Rattle.std.specs.Prelude.{◌≡◌, IfOk, option_map, codes, []};
 ghost use Rattle.cfg_types.specs.Field.{field_name};
 ghost use Rattle.cfg_json.specs.Lookups.{last_number as last_number_of};
-ghost use Rattle.cfg_values.specs.Gives.{IsSaid};
-ghost use Rattle.cfg_json.specs.Documents.{UnlessMemory, AnswersDocument, ReadsWhole, ReadsVersion, field_text, known_version, optional_end as end_of, process_of, IsProcessTable};
+ghost use Rattle.cfg_base.specs.Gives.{IsSaid};
+ghost use Rattle.cfg_json.specs.Documents.{UnlessMemory, AnswersDocument, ReadsWhole, ReadsVersion, field_text, account_text, known_version, optional_end as end_of, process_of, IsProcessTable};
 
 use crate::credentials::{dated, document_members, find_text, optional, required};
 use crate::dates::reading::parse_offset_date;
@@ -67,7 +67,7 @@ fn account_of(
     members: &[Member],
     profile: Option<&AccountId>,
 ) -> Result<Option<AccountId>, OutOfMemory>
-    ensures { IfOk result (λ o. o ≡ option_or (field_text members.now Field.AccountId Field.AccountId) (option_map (λ a. a.now) profile.entry)) }
+    ensures { IfOk result (λ o. o ≡ option_or (account_text members.now) (option_map (λ a. a.now) profile.entry)) }
 {
     if let Some(text) = find_text(members, Field::AccountId, Field::AccountId) {
         let account = AccountId::new(alloc, text.as_str())?;
@@ -95,7 +95,7 @@ fn with_keys(
       secret_access_key = secret.now;
       session_token = field_text members.now Field.SessionToken Field.SessionToken;
       expiry = end;
-      account_id = option_or (field_text members.now Field.AccountId Field.AccountId) (option_map (λ a. a.now) profile.entry);
+      account_id = option_or (account_text members.now) (option_map (λ a. a.now) profile.entry);
       provider_name = codes "CredentialProcess";
       features = [];
     }) }

@@ -87,14 +87,16 @@ pub fn members(alloc: Global, bytes: &[u8]) -> Result<Members, JsonError>
 /// Those of [`members`], and `More`: an object stands first, and more than white space follows.
 pub fn only_members(alloc: Global, bytes: &[u8]) -> Result<Members, JsonError>
     ensures found { IfOk result (λ m. HasObject bytes.now m.list m.end × OnlyWhiteSpaceFrom bytes.now m.end) }
-    ensures only { (list : List Member) (end : ℕ) → HasObject bytes.now list end → OnlyWhiteSpaceFrom bytes.now end → Answers member_list result (Ok (list, end)) }
+    ensures only { (list : List Member) (end : ℕ) → HasObject bytes.now list end → OnlyWhiteSpaceFrom bytes.now end
+        → Answers member_list result (Ok (list, end)) }
 
     ensures not_object { IsErrOf result JsonError.NotObject → OpensOther bytes.now }
     ensures opens_other { OpensOther bytes.now → Answers member_list result (Err JsonError.NotObject) }
     ensures syntax { IsErrOf result JsonError.Syntax → OpensObject bytes.now × HasNoObject bytes.now }
     ensures broken { OpensObject bytes.now → HasNoObject bytes.now → Answers member_list result (Err JsonError.Syntax) }
     ensures more { IsErrOf result JsonError.More → (list : List Member) × (end : ℕ) × HasObject bytes.now list end × ¬ (OnlyWhiteSpaceFrom bytes.now end) }
-    ensures followed { (list : List Member) (end : ℕ) → HasObject bytes.now list end → ¬ (OnlyWhiteSpaceFrom bytes.now end) → Answers member_list result (Err JsonError.More) }
+    ensures followed { (list : List Member) (end : ℕ) → HasObject bytes.now list end → ¬ (OnlyWhiteSpaceFrom bytes.now end)
+        → Answers member_list result (Err JsonError.More) }
 {
     only_list(alloc, bytes)
 }

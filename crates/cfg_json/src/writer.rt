@@ -2,7 +2,7 @@
 ghost use Rattle.std.specs.Prelude.{◌≡◌, ◌++◌, ◌∷◌, [], ◌<◌, ◌/◌, ◌%◌, true, false, OnOk, IfOk};
 ghost use Rattle.std.specs.List.{flat_map};
 ghost use Rattle.std.specs.Char.{digit_char, encode_utf8};
-ghost use Rattle.cfg_values.specs.Text.{characters};
+ghost use Rattle.cfg_base.specs.Text.{characters};
 ghost use Rattle.cfg_json.specs.Ascii.{comma, digit_zero, colon, backslash, small_u};
 ghost use Rattle.cfg_json.specs.Writing.{escape_letter, escape, quoted, braced, before_next, with_member};
 
@@ -20,7 +20,7 @@ struct Written {
 impl Model for Written {
     ghost use Rattle.std.specs.Prelude.{List, ℕ};
     ghost use Rattle.std.specs.String.{string_bytes};
-    ghost use Rattle.cfg_values.specs.Text.{characters};
+    ghost use Rattle.cfg_base.specs.Text.{characters};
 
     ghost Value = { List ℕ };
 

@@ -1,8 +1,5 @@
-pub mod LoginTexts
-pub mod Files
-pub mod Inner
-pub mod ObjectTexts
-pub mod Documents
-pub mod TextFields
-pub mod FirstObject
-pub mod ReadBack
+pub mod SignInSteps
+pub mod SignInCauses
+pub mod LastReadings
+pub mod InTime
+pub mod SessionKeys

@@ -1,8 +1,7 @@
-pub mod ShownTokens
-pub mod Paths
-pub mod DpopKeys
-pub mod Access
-pub mod LoginFile
-pub mod LoginText
-pub mod LoginTokens
-pub mod LoginTells
+pub mod SignIns
+pub mod SignInCauses
+pub mod Endings
+pub mod InNoWay
+pub mod Provides
+pub mod SignInSetups
+pub mod SessionKeys

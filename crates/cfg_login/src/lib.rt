@@ -1,22 +1,15 @@
-//! Tokens of sign-in sessions (`aws login`): the cached token, its file, and its rules, by which a
-//! section of cfg_token hands it out or refreshes it. It stands on cfg_token and cfg_json. The layers
-//! above may use that a file is read and written exactly as its format says, and that sections and
-//! states of cfg_token serve this token with their history.
+//! Credentials of sign-in sessions (`aws login`). It stands on cfg_login_token, cfg_kept and cfg_profile.
+//! The layers above may use that credentials are those of one section of the session's token; that
+//! each answer has its cause; and that no credentials are handed out that have expired by the last
+//! reading of their section.
 #![tactic(auto)]
 
-mod access;
-mod dpop_key;
+mod asked_by;
 pub mod laws;
-mod login;
-mod login_file;
-mod login_token;
-mod login_writing;
-mod lookup;
-mod paths;
-mod renewal;
+pub mod login;
+mod section;
+pub mod steps;
 
-pub use cfg_types::{Field, IoStep, LoginJsonFault, LoginTokenError, OutOfMemory};
-pub use login_file::parse_cached_login_token;
-pub use login_token::LoginToken;
-pub use login_writing::write_cached_login_token;
-pub use paths::cached_login_token_path;
+pub use asked_by::AskedBy;
+pub use cfg_types::{CredentialsError, OutOfMemory};
+pub use login::LoginCredentialsProvider;

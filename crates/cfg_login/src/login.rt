@@ -1,164 +1,196 @@
-ghost use Rattle.std.specs.Prelude.{◌≡◌, ◌≢◌, IfOk, option_map};
-ghost use Rattle.std.specs.Str.{encode_utf8_all};
-ghost use Rattle.cfg_login.specs.LoginText.{login_text};
-ghost use Rattle.cfg_login.specs.LoginTokens.{first_moment};
+//! Credentials of sign-in sessions.
+ghost use Rattle.std.specs.Prelude.{◌≡◌, IfOk, Some, true, false};
+ghost use Rattle.std.specs.Option.{option_copied};
+ghost use Rattle.cfg_base.specs.Text.{characters};
+ghost use Rattle.cfg_token.specs.declared.token_key.TokenKey.TheVariants.{Login};
+ghost use Rattle.cfg_kept.specs.Holds.{HoldsFollows, HoldsBreaks};
+ghost use Rattle.cfg_profile.specs.Configuration.{nothing_configured};
+ghost use Rattle.cfg_types.specs.Classes.{is_memory};
+ghost use Rattle.cfg_login.specs.SignIns.{sign_in_credentials};
+ghost use Rattle.cfg_login.specs.SignInSetups.{session_alone};
+ghost use Rattle.cfg_login.specs.Provides.{ProvidesSignIn};
 
-use crate::login_file::parse_cached_login_token;
-use crate::login_token::LoginToken;
-use crate::login_writing::write_cached_login_token;
-use crate::paths::{cache_directory, cached_login_token_path};
-use crate::renewal::{by_refusal, by_reply, failed};
+use crate::asked_by::AskedBy;
+use crate::steps::follow_login;
+use cfg_kept::Keeper;
+use cfg_profile::ProviderConfig;
 use cfg_token::TokenKey;
-use cfg_token::file_token::{FileToken, Renewal, Unsaved};
-use cfg_types::{
-    Bytes, CallSettings, CreateOAuth2Token, Env, Instant, IoStep, LoginTokenError, OutOfMemory,
-    Reply, Request, Text, TryCopy,
-};
-use cfg_world::Answer;
+use cfg_types::{Credentials, CredentialsError, OutOfMemory, Text, TryCopy};
+use cfg_world::{Asking, Devices, Stop, World};
 use std::alloc::Global;
+use std::marker::Model;
 
-impl FileToken for LoginToken {
-    ghost use Rattle.cfg_login.specs.LoginTokens.{login_rules};
-    ghost use Rattle.cfg_login.specs.LoginTells.{login_tells};
+/// Sets up a provider of a session's credentials. Contracts see its configuration and its session.
+pub struct Builder {
+    alloc: Global,
+    config: ProviderConfig,
+    session: Text,
+}
 
-    type Error = LoginTokenError;
+impl Drop for Builder {
+    fn drop(self) {
+        let Builder {
+            alloc: _,
+            config: _,
+            session: _,
+        } = self;
+    }
+}
 
-    ghost rules = { login_rules };
+impl Model for Builder {
+    ghost use Rattle.cfg_login.specs.SignInSetups.{SignInSetup, sign_in_setup_code};
 
-    ghost tells = { login_tells };
+    ghost Value = { SignInSetup };
 
-    fn expires_at(&self) -> Instant {
-        match self.access_token.expiry() {
-            Some(end) => end,
-            None => first_instant(),
-        }
+    ghost coded = { sign_in_setup_code };
+
+    ghost view = { λ b. record { configuration = b.config; session = b.session } };
+}
+
+impl Builder {
+    /// With a copy of this configuration, in place of the one that it had. `OutOfMemory` where memory runs
+    /// out; the builder is given up then.
+    pub fn configure(mut self, config: &ProviderConfig) -> Result<Builder, OutOfMemory>
+        ensures { IfOk result (λ b. b ≡ record self { configuration = config.now }) }
+    {
+        self.config = config.copy(self.alloc)?;
+        Ok(self)
     }
 
-    fn can_refresh(&self, _now: Instant) -> bool {
-        true
-    }
-
-    fn path(
-        alloc: Global,
-        key: &TokenKey,
-        env: &Env,
-    ) -> Result<Result<Text, LoginTokenError>, OutOfMemory> {
-        let TokenKey::Login { session } = key else {
-            unreachable!()
+    /// The provider. `OutOfMemory` where memory runs out.
+    pub fn build(self) -> Result<LoginCredentialsProvider, OutOfMemory>
+        ensures { IfOk result (λ p. p ≡ self) }
+    {
+        let Builder {
+            alloc,
+            config,
+            session,
+        } = self;
+        let key = TokenKey::Login {
+            session: session.copy(alloc)?,
         };
-        match cache_directory(alloc, env)? {
-            Ok(cache) => {
-                let path = cached_login_token_path(alloc, cache.as_str(), session.as_str())?;
-                Ok(Ok(path))
-            }
-            Err(error) => Ok(Err(error)),
-        }
+        Ok(LoginCredentialsProvider {
+            alloc,
+            config,
+            session,
+            key,
+        })
     }
+}
 
-    fn parse(
-        alloc: Global,
-        bytes: &[u8],
-    ) -> Result<Result<LoginToken, LoginTokenError>, OutOfMemory> {
-        match parse_cached_login_token(alloc, bytes) {
-            Ok(token) => Ok(Ok(token)),
-            Err(error) => {
-                let error = unless_memory(error)?;
-                Ok(Err(error))
-            }
-        }
+/// Credentials of a sign-in session, as `aws login` begins one. Contracts see its configuration and its
+/// session. It keeps nothing between its calls.
+pub struct LoginCredentialsProvider {
+    alloc: Global,
+    config: ProviderConfig,
+    session: Text,
+    key: TokenKey,
+}
+
+impl Drop for LoginCredentialsProvider {
+    fn drop(self) {
+        let LoginCredentialsProvider {
+            alloc: _,
+            config: _,
+            session: _,
+            key: _,
+        } = self;
     }
+}
 
-    fn read_error(alloc: Global, path: &Text) -> Result<LoginTokenError, OutOfMemory> {
-        let path = path.copy(alloc)?;
-        Ok(LoginTokenError::IoError {
-            what: IoStep::Read,
-            path,
+impl Model for LoginCredentialsProvider {
+    ghost use Rattle.std.specs.Prelude.{◌≡◌};
+    ghost use Rattle.cfg_token.specs.declared.token_key.TokenKey.TheVariants.{Login};
+    ghost use Rattle.cfg_login.specs.SignInSetups.{SignInSetup, sign_in_setup_code};
+
+    ghost Value = { SignInSetup };
+
+    ghost coded = { sign_in_setup_code };
+
+    ghost view = { λ p. record { configuration = p.config; session = p.session } };
+
+    ghost invariant = { λ p. p.key ≡ Login p.session };
+}
+
+impl LoginCredentialsProvider {
+    /// A builder for this session, which is named by an ARN like `arn:aws:iam::123456789012:user/Admin`.
+    /// It has no variables and no region of its calls, so that no folder of the token's file is known
+    /// before [`Builder::configure`]. `OutOfMemory` where memory runs out.
+    pub fn builder(alloc: Global, session: &str) -> Result<Builder, OutOfMemory>
+        ensures { IfOk result (λ b. b ≡ session_alone (nothing_configured true) (characters session.now)) }
+    {
+        Ok(Builder {
+            alloc,
+            config: ProviderConfig::without_region(alloc)?,
+            session: Text::of(alloc, session)?,
         })
     }
 
-    fn expired_error() -> LoginTokenError {
-        LoginTokenError::ExpiredToken
+    /// Whose token is needed: the session's. It is there.
+    pub fn token_key(&self) -> Option<&TokenKey>
+        ensures { option_copied result ≡ Some (Login self.now.session) }
+    {
+        Some(&self.key)
     }
 
-    fn refresh_request(
+    /// The body of [`Self::provide_credentials`], over anything that can be asked. Where a question is
+    /// left open it stops there with `Open`, and taken up again with one answer more it comes to the next.
+    /// `OutOfMemory` where memory runs out. What is kept is as there.
+    pub fn follow<P: Keeper, A: Asking>(
         &self,
-        alloc: Global,
-        _key: &TokenKey,
-        settings: &CallSettings,
-    ) -> Result<Request, OutOfMemory> {
-        let client_id = self.client_id.copy(alloc)?;
-        let refresh_token = self.refresh_token.copy(alloc)?;
-        let dpop_key = self.dpop_key.copy(alloc)?;
-        let settings = settings.copy(alloc)?;
-        Ok(Request::CreateOAuth2Token(CreateOAuth2Token {
-            client_id,
-            refresh_token,
-            dpop_key,
-            settings,
-        }))
+        keeper: &mut P,
+        asking: &mut A,
+    ) -> Result<Result<Credentials, CredentialsError>, Stop>
+        requires { P.key_held keeper.old ≡ Some (Login self.now.session) }
+        ensures follows { HoldsFollows ⟦<A as Asking>⟧ (sign_in_credentials self.now.configuration self.now.session AskedBy.Caller)
+            asking.old (P.holdings keeper.old) asking.new (P.holdings keeper.new) result }
+        ensures key { P.key_held keeper.new ≡ P.key_held keeper.old }
+    {
+        let by = AskedBy::Caller;
+        follow_login(self.alloc, &self.config, &self.session, by, keeper, asking)
     }
 
-    fn renew(
+    /// The credentials of one section of the keeper's token, whose key has to be [`Self::token_key`].
+    /// The value that was found is added to the keeper's list, and what comes of the section is kept in
+    /// its place. The file of the token stands in the folder that `AWS_LOGIN_CACHE_DIRECTORY` names, or
+    /// else in `.aws/login/cache` below `HOME`.
+    ///
+    /// A kept token is handed out while more than 300 seconds of it are left. Else its file is read, and
+    /// the token there is refreshed where at most 300 seconds of it are left, unless a refresh was granted
+    /// less than 30 seconds ago.
+    ///
+    /// The credentials are named `Login`, and have the token's expiry, session token and account. That
+    /// a new token could not be written to its file is no error.
+    ///
+    /// # Errors
+    ///
+    /// They hold the section's error, as `LoginToken`.
+    ///
+    /// - `InvalidConfiguration`: the file lacks a member (`MissingField`).
+    /// - `ProviderError`: a refresh that was due failed (`RefreshFailed`), with what the user can do
+    ///   where the refusal tells it.
+    /// - `Unhandled`: no folder is known (`NoHomeDirectory`), the file could not be read (`IoError`)
+    ///   or holds no token (`JsonError`, `Other`), or the token has expired and the last refresh that
+    ///   was granted is less than 30 seconds ago (`ExpiredToken`).
+    /// - `OutOfMemory` where memory runs out. The journal then has gained the beginning of such a part,
+    ///   and what is kept is as it was, or as the finished section left it.
+    pub fn provide_credentials<P: Keeper, D: Devices>(
         &self,
-        alloc: Global,
-        _key: &TokenKey,
-        now: Instant,
-        answer: &Answer,
-    ) -> Result<Renewal<LoginToken, LoginTokenError>, OutOfMemory> {
-        match answer {
-            Answer::Replied(Reply::SignIn(reply)) => by_reply(alloc, self, now, &reply.token),
-            Answer::Replied(Reply::Refused(refusal)) => by_refusal(alloc, refusal.kind),
-            _ => Ok(failed(None)),
+        keeper: &mut P,
+        world: &mut World<D>,
+    ) -> Result<Credentials, CredentialsError>
+        requires { P.key_held keeper.old ≡ Some (Login self.now.session) }
+        ensures provides { is_memory result ≡ false →
+            ProvidesSignIn ⟦<World<D> as Asking>⟧ self.now.configuration self.now.session AskedBy.Caller
+            world.old (P.holdings keeper.old) world.new (P.holdings keeper.new) result }
+        ensures stays { is_memory result ≡ true →
+            HoldsBreaks ⟦<World<D> as Asking>⟧ (sign_in_credentials self.now.configuration self.now.session AskedBy.Caller)
+            world.old (P.holdings keeper.old) world.new (P.holdings keeper.new) }
+        ensures key { P.key_held keeper.new ≡ P.key_held keeper.old }
+    {
+        match self.follow(keeper, world) {
+            Ok(outcome) => outcome,
+            Err(_) => Err(CredentialsError::OutOfMemory),
         }
-    }
-
-    fn to_bytes(&self, alloc: Global) -> Result<Option<Bytes>, OutOfMemory> {
-        text_bytes(alloc, self)
-    }
-
-    fn save_error(_fault: Unsaved) -> Option<LoginTokenError> {
-        None
-    }
-
-    fn out_of_memory() -> LoginTokenError {
-        LoginTokenError::OutOfMemory
-    }
-}
-
-// The first moment of all, before which no clock reads.
-fn first_instant() -> Instant
-    ensures { result ≡ first_moment }
-{
-    match Instant::new(i64::MIN, 0) {
-        Some(first) => first,
-        None => unreachable!(),
-    }
-}
-
-// The bytes of a token's file, where its end has a text.
-#[tactic(auto, using(crate::proofs::LoginTexts::login_texts))]
-fn text_bytes(alloc: Global, token: &LoginToken) -> Result<Option<Bytes>, OutOfMemory>
-    ensures { IfOk result (λ t. t ≡ option_map encode_utf8_all (login_text token.now)) }
-{
-    match write_cached_login_token(alloc, token) {
-        Ok(text) => {
-            let bytes = Bytes::of(alloc, text.as_str().as_bytes())?;
-            Ok(Some(bytes))
-        }
-        Err(error) => match &error {
-            LoginTokenError::FailedToFormatDateTime => Ok(None),
-            _ => Err(OutOfMemory),
-        },
-    }
-}
-
-// An error of the file, unless memory ran out.
-fn unless_memory(error: LoginTokenError) -> Result<LoginTokenError, OutOfMemory>
-    ensures ok { IfOk result (λ e. e ≡ error) }
-    ensures memory { IfOk result (λ e. e ≢ LoginTokenError.OutOfMemory) }
-{
-    match &error {
-        LoginTokenError::OutOfMemory => Err(OutOfMemory),
-        _ => Ok(error),
     }
 }

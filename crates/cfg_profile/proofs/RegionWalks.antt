@@ -3,7 +3,7 @@ use Rattle.std.proofs.Common.{◌≡◌, ℕ, zero, suc, ◌+◌, ◌-◌, ◌�
 use Rattle.std.specs.Prelude.{slice_get, is_some, option_and_then, codes}
 use Rattle.std.specs.FinMap.{get, len, contains_key}
 use Rattle.std.proofs.lemmas.Bool.{cases_lt}
-use Rattle.cfg_values.specs.TextMap.{Named}
+use Rattle.cfg_base.specs.TextMap.{Named}
 use Rattle.cfg_profile.specs.SectionParts.{SectionParts}
 use Rattle.cfg_profile.specs.Sections.{property}
 use Rattle.cfg_profile.specs.Regions.{HasRegion, itself, by_source}

@@ -4,8 +4,8 @@ use Rattle.cfg_profile.specs.Seen.{IsShown}
 use Rattle.cfg_profile.specs.Plans.{text_or_none}
 use Rattle.std.specs.Prelude.{◌⊎◌, is_some, is_none, ◌&&◌, not, codes, if◌then◌else◌}
 use Rattle.std.specs.FinMap.{get}
-use Rattle.cfg_values.specs.TextMap.{Named}
-use Rattle.cfg_values.specs.Text.{characters}
+use Rattle.cfg_base.specs.TextMap.{Named}
+use Rattle.cfg_base.specs.Text.{characters}
 use Rattle.cfg_types.specs.declared.errors.ProfileFileError.TheVariants.{ProfileDidNotContainCredentials, OutOfMemory}
 use Rattle.cfg_profile.specs.Properties.{has_key}
 use Rattle.cfg_types.specs.Keys.{Keys}

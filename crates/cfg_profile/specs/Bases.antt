@@ -1,6 +1,6 @@
 -- What a section gives credentials by, where it takes none from another profile.
 use Rattle.std.specs.Prelude.{ℕ, List, Option, Some, None, Result, Ok, Err, codes, if◌then◌else◌}
-use Rattle.cfg_values.specs.TextMap.{Named}
+use Rattle.cfg_base.specs.TextMap.{Named}
 use Rattle.cfg_types.specs.Keys.{Keys}
 use Rattle.cfg_types.specs.declared.errors.ProfileFileError.{ProfileFileError}
 use Rattle.cfg_profile.specs.declared.chain.BaseProvider.{BaseProvider}

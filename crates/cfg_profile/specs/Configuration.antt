@@ -2,7 +2,7 @@
 use Rattle.std.specs.Prelude.{ℕ, List, Bool, Option, None, refl, codes}
 use Rattle.std.specs.Coded.{Coded, code_by, coded×, coded_ℕ, coded_bool, coded_list, coded_option}
 use Rattle.std.specs.FinMap.{empty}
-use Rattle.cfg_values.specs.TextMap.{Named, named_code}
+use Rattle.cfg_base.specs.TextMap.{Named, named_code}
 use Rattle.cfg_types.specs.declared.environment.EnvText.{EnvText}
 use Rattle.cfg_types.specs.contracts.environment.EnvText as variable
 use Rattle.cfg_types.specs.declared.settings.BehaviorVersion.{BehaviorVersion}

@@ -2,7 +2,7 @@
 use Rattle.std.specs.Prelude.{ℕ, zero, suc, ◌+◌, ◌-◌, ◌^◌, List, [], ◌∷◌, ◌++◌, false, codes}
 use Rattle.std.specs.Fmt.{decimal, padded_integral, format_spec}
 use Rattle.cfg_profile.specs.SectionParts.{SectionParts}
-use Rattle.cfg_profile.specs.SectionSets.{SectionSets, sections_by_name}
+use Rattle.cfg_profile.specs.SectionSets.{SectionSets, set_of}
 
 -- a number in at least twelve digits, as `{:012}` writes it
 abbrev pub in_twelve_digits : ℕ → List ℕ
@@ -35,8 +35,4 @@ generated_roles (suc i) = generated_roles i ++ generated_role (suc i) ∷ []
 
 -- The profiles `p1` to `pn`, of which `p1` is selected and `pn` has keys.
 abbrev pub generated : ℕ → SectionSets
-generated n = record {
-  profiles = sections_by_name (generated_roles (n - 1) ++ generated_keys n ∷ []);
-  sessions = sections_by_name [];
-  selected = codes "p1";
-}
+generated n = set_of (generated_roles (n - 1) ++ generated_keys n ∷ []) [] (codes "p1")

@@ -2,7 +2,7 @@
 use Rattle.std.specs.Prelude.{◌≡◌, ◌⊎◌, ◌↔◌, ℕ, ◌≤◌, List, length, Some, Result, Ok, Err, IsSome, slice_get, true}
 use Rattle.std.specs.FinMap.{get, len}
 use Rattle.std.specs.Str.{encode_utf8_all, str_to_ascii_lowercase}
-use Rattle.cfg_values.specs.TextMap.{Named}
+use Rattle.cfg_base.specs.TextMap.{Named}
 use Rattle.cfg_types.specs.ErrorTexts.{profile_text}
 use Rattle.cfg_types.specs.declared.errors.ProfileFileError.{ProfileFileError}
 use Rattle.cfg_profile.specs.declared.chain.ProfileChain.{ProfileChain}

@@ -3,7 +3,7 @@ use Rattle.std.specs.Prelude.{◌≡◌, ℕ, suc, List, [], ◌∷◌, ◌++◌
 use Rattle.std.specs.List.{list_any}
 use Rattle.std.specs.Str.{bytes_eq}
 use Rattle.std.specs.FinMap.{get, contains_key}
-use Rattle.cfg_values.specs.TextMap.{Named}
+use Rattle.cfg_base.specs.TextMap.{Named}
 use Rattle.cfg_profile.specs.SectionParts.{SectionParts}
 use Rattle.cfg_profile.specs.Properties as properties
 use Rattle.cfg_profile.specs.Properties.{Source, Both, Neither, Own, has_both_keys, is_role, source}

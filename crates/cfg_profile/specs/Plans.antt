@@ -3,8 +3,8 @@ use Rattle.std.specs.Prelude.{◌≡◌, ℕ, List, [], ◌∷◌, ◌++◌, map
 use Rattle.std.specs.List.{flat_map}
 use Rattle.std.specs.FinMap.{get, len}
 use Rattle.std.specs.Str.{bytes_eq}
-use Rattle.cfg_values.specs.TextMap.{Named}
-use Rattle.cfg_values.specs.Text.{characters}
+use Rattle.cfg_base.specs.TextMap.{Named}
+use Rattle.cfg_base.specs.Text.{characters}
 use Rattle.cfg_types.specs.ErrorTexts.{profile_text}
 use Rattle.cfg_types.specs.declared.errors.ProfileFileError.{ProfileFileError}
 use Rattle.cfg_types.specs.declared.errors.ProfileFileError.TheVariants.{NoProfilesDefined, CredentialLoop, MissingProfile}

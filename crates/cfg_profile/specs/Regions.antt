@@ -1,8 +1,8 @@
 -- The region of a profile.
 use Rattle.std.specs.Prelude.{◌≡◌, ℕ, List, Option, Some, None, codes}
 use Rattle.std.specs.FinMap.{get}
-use Rattle.cfg_values.specs.TextMap.{Named}
-use Rattle.cfg_values.specs.Text.{characters}
+use Rattle.cfg_base.specs.TextMap.{Named}
+use Rattle.cfg_base.specs.Text.{characters}
 use Rattle.cfg_profile.specs.SectionParts.{SectionParts}
 use Rattle.cfg_profile.specs.Sections.{property}
 

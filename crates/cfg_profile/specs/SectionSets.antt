@@ -2,8 +2,8 @@
 use Rattle.std.specs.Prelude.{ℕ, List, map, Option, refl, option_and_then}
 use Rattle.std.specs.Coded.{Coded, code_by, coded×, coded_ℕ, coded_list}
 use Rattle.std.specs.FinMap.{get}
-use Rattle.cfg_values.specs.TextMap.{Named, named_code}
-use Rattle.cfg_values.specs.Entries.{each_set}
+use Rattle.cfg_base.specs.TextMap.{Named, named_code}
+use Rattle.cfg_base.specs.Entries.{each_set}
 use Rattle.cfg_profile.specs.SectionParts.{SectionParts}
 use Rattle.cfg_profile.specs.Sections.{property, named_section}
 
@@ -23,6 +23,10 @@ sets_code = code_by (Named SectionParts × (Named SectionParts × List ℕ)) (co
 -- the sections by their names; of two of one name the later counts
 abbrev pub sections_by_name : List SectionParts → Named SectionParts
 sections_by_name sections = each_set (map named_section sections)
+
+-- the profiles and sessions of these sections, of which the profile of this name is selected
+abbrev pub set_of : List SectionParts → List SectionParts → List ℕ → SectionSets
+set_of profiles sessions selected = record { profiles = sections_by_name profiles; sessions = sections_by_name sessions; selected = selected }
 
 -- a key of the selected profile
 abbrev pub selected_property : SectionSets → List ℕ → Option (List ℕ)

@@ -1,7 +1,7 @@
 -- Look-up of keys in sections.
 use Rattle.std.specs.Prelude.{ℕ, List, Option, Some, None, fold, option_map, if◌then◌else◌}
 use Rattle.std.specs.Str.{str_eq_ignore_ascii_case}
-use Rattle.cfg_values.specs.Text.{characters}
+use Rattle.cfg_base.specs.Text.{characters}
 use Rattle.cfg_profile.specs.SectionParts.{SectionParts}
 pub use Rattle.cfg_profile.specs.SectionParts.{bytes_of}
 

@@ -4,7 +4,7 @@ use Rattle.std.specs.Str.{bytes_eq}
 use Rattle.std.specs.FinMap.{get}
 use Rattle.std.specs.HashSet.{HashSet, contains_by}
 use denote.Ref.{Bor}
-use Rattle.cfg_values.specs.TextMap.{Named}
+use Rattle.cfg_base.specs.TextMap.{Named}
 use Rattle.cfg_profile.specs.declared.keys.Source as found
 use Rattle.cfg_profile.specs.declared.keys.Source.TheVariants as origin
 use Rattle.cfg_profile.specs.declared.walk.End as ended

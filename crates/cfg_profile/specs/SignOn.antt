@@ -1,8 +1,8 @@
 -- Single sign-on in a section, with the session that it names.
 use Rattle.std.specs.Prelude.{ℕ, List, Bool, ◌&&◌, ◌||◌, not, Option, Some, None, Result, Ok, Err, codes, if◌then◌else◌}
 use Rattle.std.specs.FinMap.{get}
-use Rattle.cfg_values.specs.Text.{characters}
-use Rattle.cfg_values.specs.TextMap.{Named}
+use Rattle.cfg_base.specs.Text.{characters}
+use Rattle.cfg_base.specs.TextMap.{Named}
 use Rattle.cfg_types.specs.declared.errors.ProfileFileError.{ProfileFileError}
 use Rattle.cfg_types.specs.declared.errors.ProfileFileError.TheVariants.{MissingProfile, MissingSsoSession, InvalidSsoConfig}
 use Rattle.cfg_profile.specs.declared.chain.BaseProvider.{BaseProvider}
@@ -35,6 +35,10 @@ sign_on_by section session (Some region) None = Err (missing_setting section (co
 sign_on_by section session (Some region) (Some url) =
     Ok (Sso session region url (text_property section (codes "sso_account_id")) (text_property section (codes "sso_role_name")))
 
+-- region and start URL stand in this place
+abbrev pub sign_on_from : SectionParts → SectionParts → Option (List ℕ) → Result BaseProvider ProfileFileError
+sign_on_from section place session = sign_on_by section session (text_property place (codes "sso_region")) (text_property place (codes "sso_start_url"))
+
 -- an account and the name of a role stand together or not at all
 abbrev pub sign_on_at : SectionParts → SectionParts → Option (List ℕ) → Result BaseProvider ProfileFileError
 sign_on_at section place session =
@@ -42,7 +46,7 @@ sign_on_at section place session =
     then Err (invalid_sign_on section (codes "if `sso_account_id` is set, then `sso_role_name` must also be set"))
     else if has_key section (codes "sso_role_name") && not (has_key section (codes "sso_account_id"))
     then Err (invalid_sign_on section (codes "if `sso_role_name` is set, then `sso_account_id` must also be set"))
-    else sign_on_by section session (text_property place (codes "sso_region")) (text_property place (codes "sso_start_url"))
+    else sign_on_from section place session
 
 abbrev pub sign_on_by_session : SectionParts → List ℕ → Option SectionParts → Result BaseProvider ProfileFileError
 sign_on_by_session section session None = Err (missing_session section session)

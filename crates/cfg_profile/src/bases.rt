@@ -1,6 +1,6 @@
 //! What a section gives credentials by, where it takes none from another profile.
 ghost use Rattle.std.specs.Prelude.{◌≡◌, codes};
-ghost use Rattle.cfg_values.specs.Gives.{Gives};
+ghost use Rattle.cfg_base.specs.Gives.{Gives};
 ghost use Rattle.cfg_types.specs.declared.errors.ProfileFileError.TheVariants.{OutOfMemory as memory};
 ghost use Rattle.cfg_profile.specs.Sections.{text_property as text_of};
 ghost use Rattle.cfg_profile.specs.Bases.{web_identity as web_identity_of, key_base as key_base_of, local_base as local_base_of, base_by_file as base_by_file_of, base as base_of};

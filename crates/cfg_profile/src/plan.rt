@@ -1,6 +1,6 @@
 //! Plans: what a profile gives credentials by, where its source is there.
 ghost use Rattle.std.specs.Prelude.{◌≡◌, IfOk, Ok};
-ghost use Rattle.cfg_values.specs.Gives.{Gives};
+ghost use Rattle.cfg_base.specs.Gives.{Gives};
 ghost use Rattle.cfg_types.specs.declared.errors.ProfileFileError.TheVariants.{OutOfMemory as memory, UnknownProvider};
 ghost use Rattle.cfg_profile.specs.NamedSources.{IsPlan, is_alike as alike, is_named as named, is_custom as custom, is_built_in as built_in, is_known as known, gives_token as token, planned};
 
@@ -36,11 +36,11 @@ pub fn plan_of_profile(
     ensures { Gives memory result (IsPlan set.now name.now sources.now) }
 {
     let chain = chain_of_profile(alloc, set, name)?;
-    checked(alloc, chain, sources)
+    with_known_source(alloc, chain, sources)
 }
 
 // The chain, where its base gives credentials by a source that is there.
-fn checked(
+fn with_known_source(
     alloc: Global,
     chain: ProfileChain,
     sources: &[Text],

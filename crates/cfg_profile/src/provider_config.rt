@@ -1,7 +1,7 @@
 //! What providers are given.
 ghost use Rattle.std.specs.Prelude.{◌≡◌, IfOk, Some, None, true, false, [], option_map, MatchOption};
 ghost use Rattle.std.specs.FinMap.{empty};
-ghost use Rattle.cfg_values.specs.Text.{characters};
+ghost use Rattle.cfg_base.specs.Text.{characters};
 ghost use Rattle.cfg_profile.specs.Configuration.{nothing_configured};
 ghost use Rattle.cfg_profile.specs.Selected.{selected_name as selected_name_of};
 

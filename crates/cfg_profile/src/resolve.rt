@@ -2,7 +2,7 @@
 //! aws-config 1.13.0 (`profile/credentials/repr.rs`).
 ghost use Rattle.std.specs.Prelude.{◌≡◌, ◌++◌, IfOk, IsTrue, is_some, map, reverse, string_bytes};
 ghost use Rattle.std.specs.List.{flat_map};
-ghost use Rattle.cfg_values.specs.Gives.{Gives};
+ghost use Rattle.cfg_base.specs.Gives.{Gives};
 ghost use Rattle.cfg_types.specs.ErrorTexts.{profile_text};
 ghost use Rattle.cfg_types.specs.declared.errors.ProfileFileError.TheVariants.{OutOfMemory as memory};
 ghost use Rattle.cfg_profile.specs.Properties.{source as source_by_keys};
@@ -115,13 +115,13 @@ fn base_of_last(
         Ok(_) => answer,
         Err(ProfileFileError::OutOfMemory) => answer,
         Err(_) if is_first => answer,
-        Err(error) => Err(wrapped(alloc, section, error)?),
+        Err(error) => Err(error_of_source(alloc, section, error)?),
     }
 }
 
 // An error of the base of another profile than the first.
 #[tactic(auto, unfolding(crate::specs::Plans::wrapped_error))]
-fn wrapped(
+fn error_of_source(
     alloc: Global,
     section: &Section,
     error: &ProfileFileError,

@@ -2,8 +2,8 @@
 ghost use Rattle.std.specs.Prelude.{◌≡◌, ◌↔◌, IsTrue, IfOk, map, option_map, string_bytes};
 ghost use Rattle.std.specs.Option.{option_copied};
 ghost use Rattle.std.specs.FinMap.{get as entry_of, len};
-ghost use Rattle.cfg_values.specs.Entries.{each_set};
-ghost use Rattle.cfg_values.specs.Text.{characters};
+ghost use Rattle.cfg_base.specs.Entries.{each_set};
+ghost use Rattle.cfg_base.specs.Text.{characters};
 ghost use Rattle.std.specs.Str.{str_eq_ignore_ascii_case};
 ghost use Rattle.cfg_profile.specs.Sections.{bytes_of, property, text_property as text_property_of, named_section, last_match};
 
@@ -133,7 +133,8 @@ fn copy_properties(
     Ok(copied)
 }
 
-// The value of the last of these whose key is this one.
+// The value of the last of these whose key is this one. A call asks for a few keys: an index for each section would
+// cost more than its scans.
 fn last_value<'a>(properties: &'a [(String, String)], key: &str) -> Option<&'a str>
     ensures { option_map (λ v. v.now) result ≡ last_match key.now (map bytes_of properties.now) }
 {
@@ -183,7 +184,7 @@ impl Model for ProfileSet {
 }
 
 impl ProfileSet {
-    ghost use Rattle.cfg_profile.specs.SectionSets.{sections_by_name, selected_property};
+    ghost use Rattle.cfg_profile.specs.SectionSets.{set_of, selected_property};
 
     /// The profiles and sessions of these sections, with the profile of this name selected, which need not
     /// be there. `OutOfMemory` where memory runs out.
@@ -193,7 +194,7 @@ impl ProfileSet {
         sessions: Vec<Section>,
         selected: &str,
     ) -> Result<ProfileSet, OutOfMemory>
-        ensures { IfOk result (λ set. set ≡ record { profiles = sections_by_name profiles.items; sessions = sections_by_name sessions.items; selected = selected.now }) }
+        ensures { IfOk result (λ set. set ≡ set_of profiles.items sessions.items selected.now) }
     {
         let profiles = by_name(alloc, profiles)?;
         let sessions = by_name(alloc, sessions)?;

@@ -1,9 +1,8 @@
 //! Single sign-on by the settings of a section.
-ghost use Rattle.std.specs.Prelude.{◌≡◌, IfOk, codes};
-ghost use Rattle.cfg_values.specs.Gives.{Gives};
+ghost use Rattle.std.specs.Prelude.{◌≡◌, IfOk};
+ghost use Rattle.cfg_base.specs.Gives.{Gives};
 ghost use Rattle.cfg_types.specs.declared.errors.ProfileFileError.TheVariants.{OutOfMemory as memory};
-ghost use Rattle.cfg_profile.specs.Sections.{text_property as text_of};
-ghost use Rattle.cfg_profile.specs.SignOn.{has_sign_on as by_sign_on, invalid_sign_on as invalid_sign_on_of, missing_setting as missing_of, missing_session as missing_session_of, sign_on_by as sign_on_of_settings, sign_on_at as sign_on_in, sign_on_of_session as sign_on_of, single_sign_on as single_sign_on_of};
+ghost use Rattle.cfg_profile.specs.SignOn.{has_sign_on as by_sign_on, invalid_sign_on as invalid_sign_on_of, missing_setting as missing_of, missing_session as missing_session_of, sign_on_from, sign_on_at as sign_on_in, sign_on_of_session as sign_on_of, single_sign_on as single_sign_on_of};
 
 use crate::chain::BaseProvider;
 use crate::keys::has_key;
@@ -102,7 +101,7 @@ fn sign_on_by(
     place: &Section,
     sso_session_name: Option<Text>,
 ) -> Result<BaseProvider, ProfileFileError>
-    ensures { Gives memory result (λ answer. answer ≡ sign_on_of_settings section.now sso_session_name (text_of place.now (codes "sso_region")) (text_of place.now (codes "sso_start_url"))) }
+    ensures { Gives memory result (λ answer. answer ≡ sign_on_from section.now place.now sso_session_name) }
 {
     let Some(sso_region) = place.text_property(alloc, "sso_region")? else {
         return Err(missing_setting(alloc, section, "`sso_region` was missing")?);

@@ -1,5 +1,5 @@
 ghost use Rattle.std.specs.Prelude.{◌≡◌, IfOk};
-ghost use Rattle.cfg_values.specs.Gives.{Gives};
+ghost use Rattle.cfg_base.specs.Gives.{Gives};
 ghost use Rattle.cfg_types.specs.declared.errors.ProfileFileError.TheVariants.{OutOfMemory as memory};
 ghost use Rattle.cfg_profile.specs.StaticKeys.{invalid as invalid_of, without_access_key as lacks_access_key, static_keys as keys_of};
 
@@ -13,6 +13,7 @@ use std::alloc::Global;
 pub(crate) fn static_keys(alloc: Global, section: &Section) -> Result<Credentials, ProfileFileError>
     ensures { Gives memory result (λ answer. answer ≡ keys_of section.now) }
 {
+    // An empty key counts: the crate tests only whether it is there.
     let Some(id) = section.get("aws_access_key_id") else {
         return Err(without_access_key(alloc, section)?);
     };

@@ -94,6 +94,8 @@ fn next_step<'a>(
 ) -> Step<'a>
     ensures { IsStep set.now.profiles (on_set visited.now) is_first section.now result }
 {
+    // In a profile that another one names as its source, static keys come before a role; in the first profile the
+    // role comes first.
     if !is_first && has_both_keys(section) {
         return Step::EndsAt(End::Keys);
     }

@@ -9,18 +9,18 @@ use Rattle.cfg_world.specs.Held.{Held}
 use Rattle.cfg_world.specs.Script.{Script, Allows, Stands, start}
 use Rattle.cfg_profile.specs.Configuration.{Configuration}
 use Rattle.cfg_providers.specs.CustomSources.{Answer, NamedAnswer}
-use Rattle.cfg_keeping.specs.Kinds.{Value, States, no_states}
-use Rattle.cfg_chain.specs.Settings.{lends}
+use Rattle.cfg_kept.specs.Kinds.{Value, States, no_states}
+use Rattle.cfg_chain.specs.Settings.{ChainSetting}
 use Rattle.cfg_chain.specs.Provides.{IsCall}
 use Rattle.cfg_program.specs.declared.lines.LineForm.{LineForm}
 use Rattle.cfg_program.specs.Lines.{shown_as}
 use Rattle.cfg_program.specs.Calls.{Made, InTurn, asked_by, lines_of, last_is_ok, MakesCall, AnswersOver}
 
 -- one call, made and told
-pub one_call : (conf : Configuration) (sources : List NamedAnswer) (form : LineForm) (old new : States) (found : List Value) (before cleared later : Held Script) (part : List Pair) (out : Answer) (ok : Bool) (lines more : List ℕ)
+pub one_call : (over : ChainSetting) (form : LineForm) (old new : States) (found : List Value) (before cleared later : Held Script) (part : List Pair) (out : Answer) (ok : Bool) (lines more : List ℕ)
     → cleared ≡ record before { journal = [] } → later.journal ≡ cleared.journal ++ part → Same (Allows cleared.devices) (Allows later.devices) → StandsOn (Stands cleared.devices) (Stands later.devices) part
-    → IsCall conf (lends sources None) old new found part out → ok ≡ is_ok out → more ≡ lines ++ shown_as form out later.journal → MakesCall conf sources form old new before.devices later.devices ok lines more
-one_call conf sources form old new found before cleared later part out ok lines more empty grows same stands call credentials shows =
+    → IsCall over old new found part out → ok ≡ is_ok out → more ≡ lines ++ shown_as form out later.journal → MakesCall over form old new before.devices later.devices ok lines more
+one_call over form old new found before cleared later part out ok lines more empty grows same stands call credentials shows =
     let devices : cleared.devices ≡ before.devices = ap (λ w. w.devices) empty in
     let journal : later.journal ≡ part = grows ∙ ap (λ w. w.journal ++ part) empty in
     record {
@@ -34,10 +34,10 @@ one_call conf sources form old new found before cleared later part out ok lines 
     }
 
 -- So many calls were made over the devices since they were such, one after another, with these lines.
-pub record HaveBeenMade (conf : Configuration) (sources : List NamedAnswer) (form : LineForm) (was now : Script) (kept : States) (count : ℕ) (is_credentials : Bool) (lines : List ℕ) : Type 0 where
+pub record HaveBeenMade (over : ChainSetting) (form : LineForm) (was now : Script) (kept : States) (count : ℕ) (is_credentials : Bool) (lines : List ℕ) : Type 0 where
   pub calls : List Made
   pub counted : length calls ≡ count
-  pub made : InTurn conf sources no_states calls kept
+  pub made : InTurn over no_states calls kept
   pub same : Same (Allows was) (Allows now)
   pub stands : Stands now (asked_by calls)
   pub credentials : is_credentials ≡ last_is_ok calls
@@ -51,13 +51,13 @@ last_behind call [] = refl
 last_behind call (c ∷ []) = refl
 last_behind call (c ∷ d ∷ calls) = last_behind call (d ∷ calls)
 
-module _ (conf : Configuration) (sources : List NamedAnswer) (form : LineForm) (was : Script) where
-  in_turn_behind : (before between after : States) (calls : List Made) (call : Made) → InTurn conf sources before calls between → InTurn conf sources between (call ∷ []) after → InTurn conf sources before (behind call calls) after
-  in_turn_behind before between after [] call made next = subst (λ k. InTurn conf sources k (call ∷ []) after) made next
+module _ (over : ChainSetting) (form : LineForm) (was : Script) where
+  in_turn_behind : (before between after : States) (calls : List Made) (call : Made) → InTurn over before calls between → InTurn over between (call ∷ []) after → InTurn over before (behind call calls) after
+  in_turn_behind before between after [] call made next = subst (λ k. InTurn over k (call ∷ []) after) made next
   in_turn_behind before between after (c ∷ calls) call made next = (made.0, in_turn_behind c.kept between after calls call made.1 next)
 
   -- before the first
-  pub none_made : (kept : States) (lines : List ℕ) → was.place ≡ start → kept ≡ no_states → lines ≡ [] → HaveBeenMade conf sources form was was kept 0 false lines
+  pub none_made : (kept : States) (lines : List ℕ) → was.place ≡ start → kept ≡ no_states → lines ≡ [] → HaveBeenMade over form was was kept 0 false lines
   none_made kept lines fresh nothing empty = record {
     calls = [];
     counted = refl;
@@ -69,8 +69,8 @@ module _ (conf : Configuration) (sources : List NamedAnswer) (form : LineForm) (
   }
 
   -- one more
-  pub one_more : (now later : Script) (kept left : States) (count : ℕ) (ok next : Bool) (lines more : List ℕ) → HaveBeenMade conf sources form was now kept count ok lines
-      → MakesCall conf sources form kept left now later next lines more → HaveBeenMade conf sources form was later left (count + 1) next more
+  pub one_more : (now later : Script) (kept left : States) (count : ℕ) (ok next : Bool) (lines more : List ℕ) → HaveBeenMade over form was now kept count ok lines
+      → MakesCall over form kept left now later next lines more → HaveBeenMade over form was later left (count + 1) next more
   one_more now later kept left count ok next lines more so_far makes =
       let call = makes.call in
       let asked : asked_by so_far.calls ++ call.journal ≡ asked_by (behind call so_far.calls) =
@@ -89,7 +89,7 @@ module _ (conf : Configuration) (sources : List NamedAnswer) (form : LineForm) (
       }
 
   -- behind the last
-  pub all_made : (now : Script) (kept : States) (count : ℕ) (ok : Bool) (lines : List ℕ) → HaveBeenMade conf sources form was now kept count ok lines → AnswersOver conf sources was.lists count form ok lines
+  pub all_made : (now : Script) (kept : States) (count : ℕ) (ok : Bool) (lines : List ℕ) → HaveBeenMade over form was now kept count ok lines → AnswersOver over was.lists count form ok lines
   all_made now kept count ok lines made = record {
     calls = made.calls;
     kept = kept;

@@ -1,9 +1,9 @@
 -- What a script configures, one step after another.
 use Rattle.std.proofs.Common.{◌≡◌, ℕ, List, Bool, Option, Some, Result, true, IfOk, subst, refl}
-use Rattle.cfg_values.specs.TextMap.{Named}
-use Rattle.cfg_values.specs.Entries.{each_set}
+use Rattle.cfg_base.specs.TextMap.{Named}
+use Rattle.cfg_base.specs.Entries.{each_set}
 use Rattle.cfg_types.specs.declared.environment.EnvText.{EnvText}
-use Rattle.cfg_values.specs.declared.memory.OutOfMemory.{OutOfMemory}
+use Rattle.cfg_base.specs.declared.memory.OutOfMemory.{OutOfMemory}
 use Rattle.cfg_profile.specs.declared.sections.ProfileSource.{ProfileSource}
 use Rattle.cfg_profile.specs.Configuration.{Configuration, nothing_configured}
 use Rattle.cfg_program.specs.Calls.{configured_by}

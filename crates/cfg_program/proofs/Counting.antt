@@ -5,8 +5,7 @@ use Rattle.std.specs.Str.{all_ascii_digits}
 use Rattle.std.specs.Str.Parse.{ParsesUnsigned}
 use Rattle.std.proofs.lemmas.Str.Parse.{IsNumeralModel, numerals_by_fold, parse_plain}
 use Rattle.std.proofs.lemmas.Bool.{ltb-false, le-ltb, lt-ltb, ne_eqb, and_parts, and_from}
-use Rattle.cfg_program.specs.declared.words.TheConstants.{MOST_PROFILES}
-use Rattle.cfg_program.specs.Words.{number_after, is_numeral, up_to_most, count_of}
+use Rattle.cfg_program.specs.Commands.{number_after, is_numeral, most_profiles, up_to_most, count_of}
 
 own : IsNumeralModel (λ ds. all_ascii_digits ds ≡ true) (number_after 0)
 own = numerals_by_fold _ (search rules) number_after (search rules)
@@ -19,16 +18,16 @@ counted (Err e) = None
 numeral_is : (d : ℕ) (ds : List ℕ) → d ≢ 48 → all_ascii_digits (d ∷ ds) ≡ true → is_numeral (d ∷ ds) ≡ true
 numeral_is d ds ne all = and_from (not (d == 48)) (all_ascii_digits (d ∷ ds)) (ap not (ne_eqb d 48 ne)) all
 
-too_much : (v : ℕ) → ¬ (v < 2 ^ 64) → (b : Bool) → nat_lt MOST_PROFILES v ≡ b → cond b None (Some v) ≡ None
+too_much : (v : ℕ) → ¬ (v < 2 ^ 64) → (b : Bool) → nat_lt most_profiles v ≡ b → cond b None (Some v) ≡ None
 too_much v h true e = refl
-too_much v h false e = absurd (h (let most = ltb-false MOST_PROFILES v e in omega (arith, most)))
+too_much v h false e = absurd (h (let most = ltb-false most_profiles v e in omega (arith, most)))
 
 unread : (d : ℕ) (ds : List ℕ) → ¬ ((all_ascii_digits (d ∷ ds) ≡ true) × (0 < length (d ∷ ds)) × (number_after 0 (d ∷ ds) < 2 ^ 64))
     → (b : Bool) → is_numeral (d ∷ ds) ≡ b → cond b (up_to_most (number_after 0 (d ∷ ds))) None ≡ None
 unread d ds h false e = refl
 unread d ds h true e =
     let digits = and_parts (not (d == 48)) (all_ascii_digits (d ∷ ds)) e in
-    too_much (number_after 0 (d ∷ ds)) (λ small. h (digits.1, omega arith, small)) (nat_lt MOST_PROFILES (number_after 0 (d ∷ ds))) refl
+    too_much (number_after 0 (d ∷ ds)) (λ small. h (digits.1, omega arith, small)) (nat_lt most_profiles (number_after 0 (d ∷ ds))) refl
 
 read_is : {E : Type 0} (d : ℕ) (ds : List ℕ) (r : Result ℕ E) → ParsesUnsigned 64 10 (d ∷ ds) r → d ≢ 48 → d ≢ 43 → count_of (d ∷ ds) ≡ counted r
 read_is {E} d ds (Ok n) h zero_first plus_first =
@@ -43,8 +42,8 @@ count_is (d ∷ ds) first r e h zero_first plus_first =
     let same : first ≡ d = cc in
     read_is d ds r h (λ is. zero_first (same ∙ is)) (λ is. plus_first (same ∙ is))
 
-pub is_up_to_most : (n : ℕ) → n ≤ MOST_PROFILES → up_to_most n ≡ Some n
-is_up_to_most n h = ap (λ b. cond b None (Some n)) (le-ltb MOST_PROFILES n h)
+pub is_up_to_most : (n : ℕ) → n ≤ most_profiles → up_to_most n ≡ Some n
+is_up_to_most n h = ap (λ b. cond b None (Some n)) (le-ltb most_profiles n h)
 
-pub is_too_much : (n : ℕ) → MOST_PROFILES < n → up_to_most n ≡ None
-is_too_much n h = ap (λ b. cond b None (Some n)) (lt-ltb MOST_PROFILES n h)
+pub is_too_much : (n : ℕ) → most_profiles < n → up_to_most n ≡ None
+is_too_much n h = ap (λ b. cond b None (Some n)) (lt-ltb most_profiles n h)

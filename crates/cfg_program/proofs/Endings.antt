@@ -10,17 +10,18 @@ use Rattle.cfg_script.specs.Script.{Plain}
 use Rattle.cfg_program.specs.declared.status.Status.{Status}
 use Rattle.cfg_program.specs.declared.status.Status.TheVariants as status
 use Rattle.cfg_program.specs.Local.{Handed, LocalAnswers, LeavesWorld}
+use Rattle.cfg_program.specs.Streams.{SourceSeen, SinkSeen}
 use Rattle.cfg_program.specs.Written.{LinesWritten}
 use Rattle.cfg_program.specs.Generated.{GeneratedAnswers, GeneratedLineWritten, GeneratedWritten}
-use Rattle.cfg_program.specs.Run.{SourceSeen, SinkSeen, WorldSeen, IsScript, WritesNothing, EndsUnread, EndsReading, LocalLineWritten, EndsLocal}
+use Rattle.cfg_program.specs.Run.{WorldSeen, IsScript, WritesNothing, EndsUnread, EndsReading, LocalLineWritten, EndsLocal}
 
 module _ (source : SourceSeen) (sink : SinkSeen) (reads : List ℕ → Option Plain) (answers : Plain → Bool → List ℕ → Type 0) where
   -- the lines were written, as far as the sink took them
   pub lines_end : (p : Plain) (b : Bool) (lines : List ℕ) (ended : Status) → IsScript source reads p → answers p b lines
-      → LinesWritten sink.written sink.written_after sink.faults sink.faults_after b lines ended → EndsReading source sink reads answers ended
+      → LinesWritten sink b lines ended → EndsReading source sink reads answers ended
   lines_end p b lines status.Done i a w = record { p = p; input = i; lines = lines; answered = subst (λ x. answers p x lines) w.0 a; written = w.1 }
   lines_end p b lines status.Refused i a w = record { p = p; input = i; lines = lines; answered = subst (λ x. answers p x lines) w.0 a; written = w.1 }
-  lines_end p b lines status.Words i a w = w
+  lines_end p b lines status.UnknownCommand i a w = w
   lines_end p b lines status.NoScript i a w = absurd w
   lines_end p b lines status.SourceFault i a w = absurd w
   lines_end p b lines status.SinkFault i a w = (w.0, record { p = p; input = i; is_ok = b; lines = lines; answered = a; written = w.1 })
@@ -33,7 +34,7 @@ module _ (source : SourceSeen) (sink : SinkSeen) (reads : List ℕ → Option Pl
   pub unread_ends : (ended : Status) → EndsUnread source reads ended → WritesNothing sink → EndsReading source sink reads answers ended
   unread_ends status.Done h w = absurd h
   unread_ends status.Refused h w = absurd h
-  unread_ends status.Words h w = h
+  unread_ends status.UnknownCommand h w = h
   unread_ends status.NoScript h w = (h, w)
   unread_ends status.SourceFault h w = (h, w)
   unread_ends status.SinkFault h w = absurd h
@@ -42,14 +43,14 @@ module _ (source : SourceSeen) (sink : SinkSeen) (reads : List ℕ → Option Pl
   unread_ends status.HistoryDiffers h w = h
   unread_ends status.NotBuilt h w = h
 
-module _ (before after : Option (List ℕ)) (faults faults_after n : ℕ) (b : Bool) (line : List ℕ) (a : GeneratedAnswers n b line) where
-  generated_line : (ended : Status) → LinesWritten before after faults faults_after b line ended → GeneratedLineWritten before after faults faults_after n ended
+module _ (sink : SinkSeen) (n : ℕ) (b : Bool) (line : List ℕ) (a : GeneratedAnswers n b line) where
+  generated_line : (ended : Status) → LinesWritten sink b line ended → GeneratedLineWritten sink n ended
   generated_line ended w = record { is_credentials = b; line = line; answers = a; written = w }
 
-  pub generated_ends : (ended : Status) → LinesWritten before after faults faults_after b line ended → GeneratedWritten before after faults faults_after n ended
+  pub generated_ends : (ended : Status) → LinesWritten sink b line ended → GeneratedWritten sink n ended
   generated_ends status.Done w = generated_line status.Done w
   generated_ends status.Refused w = generated_line status.Refused w
-  generated_ends status.Words w = generated_line status.Words w
+  generated_ends status.UnknownCommand w = generated_line status.UnknownCommand w
   generated_ends status.NoScript w = generated_line status.NoScript w
   generated_ends status.SourceFault w = generated_line status.SourceFault w
   generated_ends status.SinkFault w = generated_line status.SinkFault w
@@ -59,13 +60,13 @@ module _ (before after : Option (List ℕ)) (faults faults_after n : ℕ) (b : B
   generated_ends status.NotBuilt w = generated_line status.NotBuilt w
 
 module _ (sink : SinkSeen) (world : WorldSeen) (handed : Handed) (part : List Pair) (gained : world.journal_after ≡ world.journal ++ part) (b : Bool) (line : List ℕ) (a : LocalAnswers handed part b line) where
-  local_line : (ended : Status) → LinesWritten sink.written sink.written_after sink.faults sink.faults_after b line ended → LocalLineWritten sink world handed ended
+  local_line : (ended : Status) → LinesWritten sink b line ended → LocalLineWritten sink world handed ended
   local_line ended w = record { part = part; gained = gained; is_credentials = b; line = line; answers = a; written = w }
 
-  pub local_ends : (ended : Status) → LinesWritten sink.written sink.written_after sink.faults sink.faults_after b line ended → EndsLocal sink world handed ended
+  pub local_ends : (ended : Status) → LinesWritten sink b line ended → EndsLocal sink world handed ended
   local_ends status.Done w = local_line status.Done w
   local_ends status.Refused w = local_line status.Refused w
-  local_ends status.Words w = local_line status.Words w
+  local_ends status.UnknownCommand w = local_line status.UnknownCommand w
   local_ends status.NoScript w = local_line status.NoScript w
   local_ends status.SourceFault w = local_line status.SourceFault w
   local_ends status.SinkFault w = local_line status.SinkFault w
@@ -94,7 +95,7 @@ module _ {D : Type 0} (d : Ghosts D) where
   pub leaves_world : (part : List Pair) (before later : Held D) (ended : Status) → Grows d part before later → LeavesWorld d before later ended
   leaves_world part before later status.Done g = (part, g)
   leaves_world part before later status.Refused g = (part, g)
-  leaves_world part before later status.Words g = (part, g)
+  leaves_world part before later status.UnknownCommand g = (part, g)
   leaves_world part before later status.NoScript g = (part, g)
   leaves_world part before later status.SourceFault g = (part, g)
   leaves_world part before later status.SinkFault g = (part, g)

@@ -7,22 +7,24 @@ use Rattle.cfg_world.specs.Fits.{Pair}
 use Rattle.cfg_script.specs.Script.{Plain}
 use Rattle.cfg_script.specs.Reading.{script_of}
 use Rattle.cfg_script.specs.Devices.{lists_of}
+use Rattle.cfg_chain.specs.Settings.{alone, with_sources}
 use Rattle.cfg_program.specs.declared.status.Status.{Status}
 use Rattle.cfg_program.specs.declared.status.Status.TheVariants as status
-use Rattle.cfg_program.specs.declared.words.Word.{Word}
-use Rattle.cfg_program.specs.declared.words.Word.TheVariants.{Help, Version, Resolve, Why, Region, Token, Local, Generate}
+use Rattle.cfg_program.specs.declared.commands.Command.{Command}
+use Rattle.cfg_program.specs.declared.commands.Command.TheVariants.{Help, Version, Resolve, Why, Region, Token, Local, Generate}
 use Rattle.cfg_program.specs.declared.lines.LineForm.{LineForm}
 use Rattle.cfg_program.specs.declared.lines.LineForm.TheVariants as form
-use Rattle.cfg_program.specs.declared.input.TheConstants.{LIMIT}
-use Rattle.cfg_program.specs.declared.words.TheConstants.{HELP, VERSION}
-use Rattle.cfg_program.specs.Inputs.{IsTooLong}
+use Rattle.cfg_program.specs.declared.commands.TheConstants.{HELP, VERSION}
+use Rattle.cfg_program.specs.Inputs.{IsTooLong, most_bytes}
 use Rattle.cfg_program.specs.Scripts.{reads_input, script_for, script_of_one_call}
 use Rattle.cfg_program.specs.Regions.{RegionAnswers}
 use Rattle.cfg_program.specs.Tokens.{TokenAnswers}
 use Rattle.cfg_program.specs.Calls.{Answers, configuration_of}
 use Rattle.cfg_program.specs.Local.{Handed, LocalAnswers, local_configuration}
-use Rattle.cfg_program.specs.Generated.{generated_configuration, generated_lists, GeneratedLineWritten}
-use Rattle.cfg_program.specs.Run.{SourceSeen, SinkSeen, WorldSeen, Seen, IsInput, WasRead, IsScript, WritesLines, WritesNothing, EndsReading, EndsForWords, EndsTelling, EndsGenerating, LocalLineWritten, EndsLocal, EndsRun}
+use Rattle.cfg_program.specs.Generated.{generated_configuration, generated_lists, GeneratedLineWritten, GeneratedWritten}
+use Rattle.cfg_program.specs.Streams.{SourceSeen, SinkSeen}
+use Rattle.cfg_program.specs.Written.{TextWritten}
+use Rattle.cfg_program.specs.Run.{WorldSeen, Seen, IsInput, WasRead, IsScript, WritesLines, WritesNothing, EndsReading, EndsUnknown, LocalLineWritten, EndsLocal, EndsRun}
 use Rattle.cfg_program.specs.Exclusion.{depends_on_input, BytesAreKnown, AppendTheSame, GainTheSame, CallsFor, comes}
 use Rattle.cfg_program.proofs.Pieces.{none_grown}
 use Rattle.cfg_program.proofs.OneList.{one_list}
@@ -49,7 +51,7 @@ known_of (Some bytes) h = (bytes, refl)
 was_input : (source : SourceSeen) (bytes : List ℕ) → WasRead source bytes → IsInput source bytes
 was_input source bytes was = record { all = was.all; short = was.short }
 
-is_long : (left left_after : Option (List ℕ)) → IsTooLong left left_after → IfSome left (λ b. LIMIT < length b)
+is_long : (left left_after : Option (List ℕ)) → IsTooLong left left_after → IfSome left (λ b. most_bytes < length b)
 is_long None after h = tt
 is_long (Some bytes) after h = h.0
 
@@ -75,7 +77,7 @@ refusal status.Done = None
 refusal status.Refused = None
 refusal s = Some s
 
--- ---- words that read a script
+-- ---- commands that read a script
 
 module _ (reads : List ℕ → Option Plain) where
   -- the refusal that bytes call for, if they call for one
@@ -84,28 +86,28 @@ module _ (reads : List ℕ → Option Plain) where
   refused_by (Some p) = None
 
   abbrev refused_for : List ℕ → Option Status
-  refused_for bytes = cond (nat_lt LIMIT (length bytes)) (Some status.TooLong) (refused_by (reads bytes))
+  refused_for bytes = cond (nat_lt most_bytes (length bytes)) (Some status.TooLong) (refused_by (reads bytes))
 
   -- the bytes of an input call for what their script calls for
   read_is_refused : (source : SourceSeen) (all : List ℕ) → source.left ≡ Some all → (bytes : List ℕ) → IsInput source bytes → (r : Option Plain) → reads bytes ≡ r → refused_for all ≡ refused_by r
   read_is_refused source all e bytes was r is =
       ap refused_for (known_is source.left all (λ b. b ≡ bytes) e was.all)
-      ∙ ap (λ t. cond t (Some status.TooLong) (refused_by (reads bytes))) (le-ltb LIMIT (length bytes) was.short)
+      ∙ ap (λ t. cond t (Some status.TooLong) (refused_by (reads bytes))) (le-ltb most_bytes (length bytes) was.short)
       ∙ ap refused_by is
 
   script_is_not_refused : (source : SourceSeen) (all : List ℕ) → source.left ≡ Some all → (p : Plain) → IsScript source reads p → refused_for all ≡ None
   script_is_not_refused source all e p is = read_is_refused source all e is.bytes (was_input source is.bytes is.read) (Some p) is.script
 
-  long_is_refused : (source : SourceSeen) (all : List ℕ) → source.left ≡ Some all → IfSome source.left (λ b. LIMIT < length b) → refused_for all ≡ Some status.TooLong
+  long_is_refused : (source : SourceSeen) (all : List ℕ) → source.left ≡ Some all → IfSome source.left (λ b. most_bytes < length b) → refused_for all ≡ Some status.TooLong
   long_is_refused source all e long =
       ap (λ b. cond b (Some status.TooLong) (refused_by (reads all)))
-      (lt-ltb LIMIT (length all) (known_is source.left all (λ b. LIMIT < length b) e long))
+      (lt-ltb most_bytes (length all) (known_is source.left all (λ b. most_bytes < length b) e long))
 
   -- a refusal that the input calls for
   called_is_refused : (seen : Seen) (all : List ℕ) → seen.source.left ≡ Some all → (cause : Status) → CallsFor seen reads cause → refused_for all ≡ Some cause
   called_is_refused seen all e status.Done h = absurd h
   called_is_refused seen all e status.Refused h = absurd h
-  called_is_refused seen all e status.Words h = absurd h
+  called_is_refused seen all e status.UnknownCommand h = absurd h
   called_is_refused seen all e status.NoScript h = read_is_refused seen.source all e h.0 h.1 None h.2
   called_is_refused seen all e status.SourceFault h = absurd h
   called_is_refused seen all e status.SinkFault h = absurd h
@@ -134,7 +136,7 @@ module _ (reads : List ℕ → Option Plain) where
     ends_as : (source : SourceSeen) (sink : SinkSeen) (all : List ℕ) → source.left ≡ Some all → (ended : Status) → IsTrue (depends_on_input ended) → EndsReading source sink reads answers ended → HasLines source sink all ended ⊎ HasRefusal sink all ended
     ends_as source sink all e status.Done t ends = inl (record { is_ok = true; is = refl; lines = ends; called = script_is_not_refused source all e ends.p ends.input })
     ends_as source sink all e status.Refused t ends = inl (record { is_ok = false; is = refl; lines = ends; called = script_is_not_refused source all e ends.p ends.input })
-    ends_as source sink all e status.Words t ends = absurd ends
+    ends_as source sink all e status.UnknownCommand t ends = absurd ends
     ends_as source sink all e status.NoScript t ends = inr (record { is = refl; called = read_is_refused source all e ends.0.0 (was_input source ends.0.0 ends.0.1) None ends.0.2; nothing = ends.1 })
     ends_as source sink all e status.SourceFault t ends = cc
     ends_as source sink all e status.SinkFault t ends = cc
@@ -183,15 +185,15 @@ module _ (reads : List ℕ → Option Plain) where
 
 -- the calls of a script have one list of lines
 one_answer : (handed : Handed) (form : LineForm) (p : Plain) (a b : Bool) (lines other : List ℕ) → Answers handed.sources form p a lines → Answers handed.sources form p b other → (a ≡ b) × (lines ≡ other)
-one_answer handed form p a b lines other x y = one_list (configuration_of p) handed.sources (lists_of p) p.calls form a b lines other x y
+one_answer handed form p a b lines other x y = one_list (with_sources (configuration_of p) handed.sources) (lists_of p) p.calls form a b lines other x y
 
--- ---- the other words
+-- ---- the other commands
 
 -- a text that was told ends as done
-text_is_done : (sink : SinkSeen) (text : List ℕ) (s : Status) → IsTrue (depends_on_input s) → EndsTelling sink text s → (s ≡ status.Done) × Appends sink.written sink.written_after text
+text_is_done : (sink : SinkSeen) (text : List ℕ) (s : Status) → IsTrue (depends_on_input s) → TextWritten sink text s → (s ≡ status.Done) × Appends sink.written sink.written_after text
 text_is_done sink text status.Done t ends = (refl, ends)
 text_is_done sink text status.Refused t ends = absurd ends
-text_is_done sink text status.Words t ends = absurd ends
+text_is_done sink text status.UnknownCommand t ends = absurd ends
 text_is_done sink text status.NoScript t ends = absurd ends
 text_is_done sink text status.SourceFault t ends = absurd ends
 text_is_done sink text status.SinkFault t ends = cc
@@ -200,16 +202,16 @@ text_is_done sink text status.TooLong t ends = absurd ends
 text_is_done sink text status.HistoryDiffers t ends = absurd ends
 text_is_done sink text status.NotBuilt t ends = absurd ends
 
-alike_telling : (one other : SinkSeen) (text : List ℕ) (s t : Status) → IsTrue (depends_on_input s) → IsTrue (depends_on_input t) → EndsTelling one text s → EndsTelling other text t → (s ≡ t) × BothAppend one other
+alike_telling : (one other : SinkSeen) (text : List ℕ) (s t : Status) → IsTrue (depends_on_input s) → IsTrue (depends_on_input t) → TextWritten one text s → TextWritten other text t → (s ≡ t) × BothAppend one other
 alike_telling one other text s t u v a b =
     let first = text_is_done one text s u a in
     let second = text_is_done other text t v b in
     (first.0 ∙ sym second.0, (text, first.1, second.1))
 
-command_is_unknown : (sink : SinkSeen) (s : Status) → EndsForWords sink s → (s ≡ status.Words) × WritesNothing sink
+command_is_unknown : (sink : SinkSeen) (s : Status) → EndsUnknown sink s → (s ≡ status.UnknownCommand) × WritesNothing sink
 command_is_unknown sink status.Done ends = absurd ends
 command_is_unknown sink status.Refused ends = absurd ends
-command_is_unknown sink status.Words ends = (refl, ends)
+command_is_unknown sink status.UnknownCommand ends = (refl, ends)
 command_is_unknown sink status.NoScript ends = absurd ends
 command_is_unknown sink status.SourceFault ends = absurd ends
 command_is_unknown sink status.SinkFault ends = absurd ends
@@ -218,22 +220,22 @@ command_is_unknown sink status.TooLong ends = absurd ends
 command_is_unknown sink status.HistoryDiffers ends = absurd ends
 command_is_unknown sink status.NotBuilt ends = absurd ends
 
-alike_for_words : (one other : SinkSeen) (s t : Status) → EndsForWords one s → EndsForWords other t → (s ≡ t) × BothAppend one other
-alike_for_words one other s t a b =
+alike_unknown : (one other : SinkSeen) (s t : Status) → EndsUnknown one s → EndsUnknown other t → (s ≡ t) × BothAppend one other
+alike_unknown one other s t a b =
     let first = command_is_unknown one s a in
     let second = command_is_unknown other t b in
     (first.0 ∙ sym second.0, both_nothing one other first.1 second.1)
 
 -- a call over generated profiles ends by its line
 record HasGenerated (sink : SinkSeen) (n : ℕ) (ended : Status) : Type 0 where
-  answered : GeneratedLineWritten sink.written sink.written_after sink.faults sink.faults_after n ended
+  answered : GeneratedLineWritten sink n ended
   is : ended ≡ status_of answered.is_credentials
   written : Appends sink.written sink.written_after answered.line
 
-generated_ends : (sink : SinkSeen) (n : ℕ) (s : Status) → IsTrue (depends_on_input s) → EndsGenerating sink n s → HasGenerated sink n s
+generated_ends : (sink : SinkSeen) (n : ℕ) (s : Status) → IsTrue (depends_on_input s) → GeneratedWritten sink n s → HasGenerated sink n s
 generated_ends sink n status.Done t ends = record { answered = ends; is = ap status_of (sym ends.written.0); written = ends.written.1 }
 generated_ends sink n status.Refused t ends = record { answered = ends; is = ap status_of (sym ends.written.0); written = ends.written.1 }
-generated_ends sink n status.Words t ends = absurd ends.written
+generated_ends sink n status.UnknownCommand t ends = absurd ends.written
 generated_ends sink n status.NoScript t ends = absurd ends.written
 generated_ends sink n status.SourceFault t ends = absurd ends.written
 generated_ends sink n status.SinkFault t ends = cc
@@ -242,11 +244,11 @@ generated_ends sink n status.TooLong t ends = absurd ends.written
 generated_ends sink n status.HistoryDiffers t ends = absurd ends.written
 generated_ends sink n status.NotBuilt t ends = absurd ends.written
 
-alike_generating : (one other : SinkSeen) (n : ℕ) (s t : Status) → IsTrue (depends_on_input s) → IsTrue (depends_on_input t) → EndsGenerating one n s → EndsGenerating other n t → (s ≡ t) × BothAppend one other
+alike_generating : (one other : SinkSeen) (n : ℕ) (s t : Status) → IsTrue (depends_on_input s) → IsTrue (depends_on_input t) → GeneratedWritten one n s → GeneratedWritten other n t → (s ≡ t) × BothAppend one other
 alike_generating one other n s t u v a b =
     let x = generated_ends one n s u a in
     let y = generated_ends other n t v b in
-    let same = one_list (generated_configuration n) [] (generated_lists n) 1 (form.Generated n) x.answered.is_credentials y.answered.is_credentials x.answered.line y.answered.line x.answered.answers y.answered.answers in
+    let same = one_list (alone (generated_configuration n)) (generated_lists n) 1 (form.Generated n) x.answered.is_credentials y.answered.is_credentials x.answered.line y.answered.line x.answered.answers y.answered.answers in
     (x.is ∙ ap status_of same.0 ∙ sym y.is, (x.answered.line, x.written, subst (λ l. Appends other.written other.written_after l) (sym same.1) y.written))
 
 -- a call over what is handed in ends by its line
@@ -258,7 +260,7 @@ record HasLocal (sink : SinkSeen) (world : WorldSeen) (handed : Handed) (ended :
 local_ends : (sink : SinkSeen) (world : WorldSeen) (handed : Handed) (s : Status) → IsTrue (depends_on_input s) → EndsLocal sink world handed s → HasLocal sink world handed s
 local_ends sink world handed status.Done t ends = record { answered = ends; is = ap status_of (sym ends.written.0); written = ends.written.1 }
 local_ends sink world handed status.Refused t ends = record { answered = ends; is = ap status_of (sym ends.written.0); written = ends.written.1 }
-local_ends sink world handed status.Words t ends = absurd ends.written
+local_ends sink world handed status.UnknownCommand t ends = absurd ends.written
 local_ends sink world handed status.NoScript t ends = absurd ends.written
 local_ends sink world handed status.SourceFault t ends = absurd ends.written
 local_ends sink world handed status.SinkFault t ends = cc
@@ -274,7 +276,7 @@ alike_locally handed one other world also part s t u v g h a b =
     let y = local_ends other also handed t v b in
     let first = one_part world.journal world.journal_after x.answered.part part x.answered.gained g in
     let second = one_part also.journal also.journal_after y.answered.part part y.answered.gained h in
-    let same = one_line (local_configuration handed.variables) handed.sources part x.answered.is_credentials y.answered.is_credentials x.answered.line y.answered.line
+    let same = one_line (with_sources (local_configuration handed.variables) handed.sources) part x.answered.is_credentials y.answered.is_credentials x.answered.line y.answered.line
     (subst (λ p. LocalAnswers handed p x.answered.is_credentials x.answered.line) first x.answered.answers)
     (subst (λ p. LocalAnswers handed p y.answered.is_credentials y.answered.line) second y.answered.answers) in
     (x.is ∙ ap status_of same.0 ∙ sym y.is, (x.answered.line, x.written, subst (λ l. Appends other.written other.written_after l) (sym same.1) y.written))
@@ -283,12 +285,12 @@ alike_locally handed one other world also part s t u v g h a b =
 gained_by : (sink : SinkSeen) (world : WorldSeen) (handed : Handed) (s : Status) → IsTrue (depends_on_input s) → EndsLocal sink world handed s → (part : List Pair) × (world.journal_after ≡ world.journal ++ part)
 gained_by sink world handed s t ends = let x = local_ends sink world handed s t ends in (x.answered.part, x.answered.gained)
 
--- ---- all words
+-- ---- all commands
 
 module _ (handed : Handed) where
-  pub alike : (one other : Seen) (word : Option Word) (s t : Status) → BytesAreKnown one → one.source.left ≡ other.source.left → GainTheSame one other → IsTrue (depends_on_input s) → IsTrue (depends_on_input t)
-      → EndsRun one handed word s → EndsRun other handed word t → (s ≡ t) × AppendTheSame one other
-  alike one other None s t known same gain u v a b = alike_for_words one.sink other.sink s t a b
+  pub alike : (one other : Seen) (command : Option Command) (s t : Status) → BytesAreKnown one → one.source.left ≡ other.source.left → GainTheSame one other → IsTrue (depends_on_input s) → IsTrue (depends_on_input t)
+      → EndsRun one handed command s → EndsRun other handed command t → (s ≡ t) × AppendTheSame one other
+  alike one other None s t known same gain u v a b = alike_unknown one.sink other.sink s t a b
   alike one other (Some Help) s t known same gain u v a b = alike_telling one.sink other.sink HELP.now s t u v a b
   alike one other (Some Version) s t known same gain u v a b = alike_telling one.sink other.sink VERSION.now s t u v a b
   alike one other (Some Resolve) s t known same gain u v a b = alike_reading script_of (Answers handed.sources form.Call) (one_answer handed form.Call) one other s t known same u v a b
@@ -298,8 +300,8 @@ module _ (handed : Handed) where
   alike one other (Some Local) s t known same gain u v a b = alike_locally handed one.sink other.sink one.world other.world gain.0 s t u v gain.1 gain.2 a b
   alike one other (Some (Generate n)) s t known same gain u v a b = alike_generating one.sink other.sink n s t u v a b
 
-  pub exclude_one_another : (seen : Seen) (word : Option Word) (one other : Status) → BytesAreKnown seen → IsTrue (depends_on_input one) → IsTrue (depends_on_input other) → EndsRun seen handed word one → EndsRun seen handed word other → one ≡ other
-  exclude_one_another seen None one other known t u a b = (alike_for_words seen.sink seen.sink one other a b).0
+  pub exclude_one_another : (seen : Seen) (command : Option Command) (one other : Status) → BytesAreKnown seen → IsTrue (depends_on_input one) → IsTrue (depends_on_input other) → EndsRun seen handed command one → EndsRun seen handed command other → one ≡ other
+  exclude_one_another seen None one other known t u a b = (alike_unknown seen.sink seen.sink one other a b).0
   exclude_one_another seen (Some Help) one other known t u a b = (alike_telling seen.sink seen.sink HELP.now one other t u a b).0
   exclude_one_another seen (Some Version) one other known t u a b = (alike_telling seen.sink seen.sink VERSION.now one other t u a b).0
   exclude_one_another seen (Some Resolve) one other known t u a b = (alike_reading script_of (Answers handed.sources form.Call) (one_answer handed form.Call) seen seen one other known refl t u a b).0
@@ -311,7 +313,7 @@ module _ (handed : Handed) where
       (alike_locally handed seen.sink seen.sink seen.world seen.world gain.0 one other t u gain.1 gain.1 a b).0
   exclude_one_another seen (Some (Generate n)) one other known t u a b = (alike_generating seen.sink seen.sink n one other t u a b).0
 
-  pub comes_where_called_for : (seen : Seen) (word : Word) (cause ended : Status) → BytesAreKnown seen → IsTrue (reads_input word) → CallsFor seen (script_for word) cause → IsTrue (depends_on_input ended) → EndsRun seen handed (Some word) ended → ended ≡ cause
+  pub comes_where_called_for : (seen : Seen) (command : Command) (cause ended : Status) → BytesAreKnown seen → IsTrue (reads_input command) → CallsFor seen (script_for command) cause → IsTrue (depends_on_input ended) → EndsRun seen handed (Some command) ended → ended ≡ cause
   comes_where_called_for seen Help cause ended known r h t ends = cc
   comes_where_called_for seen Version cause ended known r h t ends = cc
   comes_where_called_for seen Resolve cause ended known r h t ends = comes_where_called script_of (Answers handed.sources form.Call) seen cause ended known h t ends
@@ -326,7 +328,7 @@ module _ (handed : Handed) where
 reading_comes : (source : SourceSeen) (sink : SinkSeen) (reads : List ℕ → Option Plain) (answers : Plain → Bool → List ℕ → Type 0) (s : Status) → EndsReading source sink reads answers s → IsTrue (comes s)
 reading_comes source sink reads answers status.Done ends = refl
 reading_comes source sink reads answers status.Refused ends = refl
-reading_comes source sink reads answers status.Words ends = refl
+reading_comes source sink reads answers status.UnknownCommand ends = refl
 reading_comes source sink reads answers status.NoScript ends = refl
 reading_comes source sink reads answers status.SourceFault ends = refl
 reading_comes source sink reads answers status.SinkFault ends = refl
@@ -335,25 +337,25 @@ reading_comes source sink reads answers status.TooLong ends = refl
 reading_comes source sink reads answers status.HistoryDiffers ends = absurd ends
 reading_comes source sink reads answers status.NotBuilt ends = absurd ends
 
-telling_comes : (sink : SinkSeen) (text : List ℕ) (s : Status) → EndsTelling sink text s → IsTrue (comes s)
+telling_comes : (sink : SinkSeen) (text : List ℕ) (s : Status) → TextWritten sink text s → IsTrue (comes s)
 telling_comes sink text status.Done ends = refl
 telling_comes sink text status.SinkFault ends = refl
 telling_comes sink text status.OutOfMemory ends = refl
 telling_comes sink text status.Refused ends = refl
-telling_comes sink text status.Words ends = refl
+telling_comes sink text status.UnknownCommand ends = refl
 telling_comes sink text status.NoScript ends = refl
 telling_comes sink text status.SourceFault ends = refl
 telling_comes sink text status.TooLong ends = refl
 telling_comes sink text status.HistoryDiffers ends = absurd ends
 telling_comes sink text status.NotBuilt ends = absurd ends
 
-words_come : (sink : SinkSeen) (s : Status) → EndsForWords sink s → IsTrue (comes s)
-words_come sink s ends = subst (λ t. IsTrue (comes t)) (sym (command_is_unknown sink s ends).0) refl
+unknown_comes : (sink : SinkSeen) (s : Status) → EndsUnknown sink s → IsTrue (comes s)
+unknown_comes sink s ends = subst (λ t. IsTrue (comes t)) (sym (command_is_unknown sink s ends).0) refl
 
-generating_comes : (sink : SinkSeen) (n : ℕ) (s : Status) → EndsGenerating sink n s → IsTrue (comes s)
+generating_comes : (sink : SinkSeen) (n : ℕ) (s : Status) → GeneratedWritten sink n s → IsTrue (comes s)
 generating_comes sink n status.Done ends = refl
 generating_comes sink n status.Refused ends = refl
-generating_comes sink n status.Words ends = refl
+generating_comes sink n status.UnknownCommand ends = refl
 generating_comes sink n status.NoScript ends = refl
 generating_comes sink n status.SourceFault ends = refl
 generating_comes sink n status.SinkFault ends = refl
@@ -365,7 +367,7 @@ generating_comes sink n status.NotBuilt ends = absurd ends.written
 local_comes : (sink : SinkSeen) (world : WorldSeen) (handed : Handed) (s : Status) → EndsLocal sink world handed s → IsTrue (comes s)
 local_comes sink world handed status.Done ends = refl
 local_comes sink world handed status.Refused ends = refl
-local_comes sink world handed status.Words ends = refl
+local_comes sink world handed status.UnknownCommand ends = refl
 local_comes sink world handed status.NoScript ends = refl
 local_comes sink world handed status.SourceFault ends = refl
 local_comes sink world handed status.SinkFault ends = refl
@@ -374,8 +376,8 @@ local_comes sink world handed status.TooLong ends = refl
 local_comes sink world handed status.HistoryDiffers ends = absurd ends.written
 local_comes sink world handed status.NotBuilt ends = absurd ends.written
 
-pub run_comes : (seen : Seen) (handed : Handed) (word : Option Word) (s : Status) → EndsRun seen handed word s → IsTrue (comes s)
-run_comes seen handed None s ends = words_come seen.sink s ends
+pub run_comes : (seen : Seen) (handed : Handed) (command : Option Command) (s : Status) → EndsRun seen handed command s → IsTrue (comes s)
+run_comes seen handed None s ends = unknown_comes seen.sink s ends
 run_comes seen handed (Some Help) s ends = telling_comes seen.sink HELP.now s ends
 run_comes seen handed (Some Version) s ends = telling_comes seen.sink VERSION.now s ends
 run_comes seen handed (Some Resolve) s ends = reading_comes seen.source seen.sink script_of (Answers handed.sources form.Call) s ends

@@ -2,18 +2,18 @@
 use Rattle.std.proofs.Common.{◌≡◌, ℕ, List, [], ◌++◌, ◌-◌, length, length-append, take, drop, arith, Bool, true, false, None, Result, Ok, Err, OnErr, refl, sym, ap, subst, ◌∙◌, inl, inr}
 use Rattle.std.specs.Prelude.{is_ok}
 use Rattle.std.proofs.Math.Seq.{drop-append_seam, take-length}
-use Rattle.cfg_values.specs.TextMap.{Named}
-use Rattle.cfg_values.specs.Entries.{each_set}
+use Rattle.cfg_base.specs.TextMap.{Named}
+use Rattle.cfg_base.specs.Entries.{each_set}
 use Rattle.cfg_types.specs.declared.environment.EnvText.{EnvText}
 use Rattle.cfg_world.specs.declared.devices.Devices.{Ghosts}
 use Rattle.cfg_world.specs.Fits.{Pair}
 use Rattle.cfg_world.specs.Grows.{Stopped}
 use Rattle.cfg_world.specs.Held.{Held}
 use Rattle.cfg_profile.specs.Configuration.{Configuration, nothing_configured}
-use Rattle.cfg_keeping.specs.Kinds.{Value, States, no_states}
+use Rattle.cfg_kept.specs.Kinds.{Value, States, no_states}
 use Rattle.cfg_providers.specs.CustomSources.{Answer, NamedAnswer}
 use Rattle.cfg_types.specs.Classes.{is_memory}
-use Rattle.cfg_chain.specs.Settings.{Lent, lends}
+use Rattle.cfg_chain.specs.Settings.{ChainSetting}
 use Rattle.cfg_chain.specs.Provides.{IsCall, Provides, Interrupted}
 use Rattle.cfg_program.specs.Lines.{shown}
 use Rattle.cfg_program.specs.Local.{local_configuration, GrowsByCall}
@@ -23,17 +23,17 @@ pub on_err : {A E : Type 0} {P : Type 0} (r : Result A E) → P → OnErr r P
 on_err (Ok x) p = tt
 on_err (Err e) p = p
 
-module _ {D : Type 0} (d : Ghosts D) (conf : Configuration) (lent : Lent) (old new : States) (found : List Value) (before later : Held D) where
-  stopped_by : Interrupted d conf lent old new found before later → Stopped d before later
+module _ {D : Type 0} (d : Ghosts D) (over : ChainSetting) (old new : States) (found : List Value) (before later : Held D) where
+  stopped_by : Interrupted d over old new found before later → Stopped d before later
   stopped_by (inl h) = subst (λ (w : Held D). Stopped d before w) (sym h.0) (stopped_before d before)
   stopped_by (inr h) = (h.part, h.stays)
 
-  stopped_as : (out : Answer) (b : Bool) → is_memory out ≡ b → (is_memory out ≡ false → Provides d conf lent old new found before later out) → (is_memory out ≡ true → Interrupted d conf lent old new found before later) → Stopped d before later
+  stopped_as : (out : Answer) (b : Bool) → is_memory out ≡ b → (is_memory out ≡ false → Provides d over old new found before later out) → (is_memory out ≡ true → Interrupted d over old new found before later) → Stopped d before later
   stopped_as out true e p s = stopped_by (s e)
   stopped_as out false e p s = let x = p e in stopped_behind d x.part before later x.grows
 
   -- memory ran out, in the call or behind it
-  pub stopped : (out : Answer) → (is_memory out ≡ false → Provides d conf lent old new found before later out) → (is_memory out ≡ true → Interrupted d conf lent old new found before later) → Stopped d before later
+  pub stopped : (out : Answer) → (is_memory out ≡ false → Provides d over old new found before later out) → (is_memory out ≡ true → Interrupted d over old new found before later) → Stopped d before later
   stopped out p s = stopped_as out (is_memory out) refl p s
 
 -- the entries behind those that were there before
@@ -46,15 +46,15 @@ behind : (start all before later part : List Pair) → start ≡ before → all 
 behind start all before later part s a g =
     ap (λ (l : List Pair). take (length all - length l) (drop (length l) all)) s ∙ ap (λ (l : List Pair). take (length l - length before) (drop (length before) l)) (a ∙ g) ∙ gained before part
 
-pub grows_by_call : {D : Type 0} (d : Ghosts D) (conf : Configuration) (sources : List NamedAnswer) (old new : States) (found : List Value) (before later : Held D) (out : Answer) (start all : List Pair) (ok : Bool) (none lines : List ℕ)
-    → old ≡ no_states → Provides d conf (lends sources None) old new found before later out → start ≡ before.journal → all ≡ later.journal → ok ≡ is_ok out → none ≡ [] → lines ≡ none ++ shown out (take (length all - length start) (drop (length start) all))
-    → GrowsByCall d conf sources before later ok lines
-grows_by_call d conf sources old new found before later out start all ok none lines nothing p s a credentials empty shows = (
+pub grows_by_call : {D : Type 0} (d : Ghosts D) (over : ChainSetting) (old new : States) (found : List Value) (before later : Held D) (out : Answer) (start all : List Pair) (ok : Bool) (none lines : List ℕ)
+    → old ≡ no_states → Provides d over old new found before later out → start ≡ before.journal → all ≡ later.journal → ok ≡ is_ok out → none ≡ [] → lines ≡ none ++ shown out (take (length all - length start) (drop (length start) all))
+    → GrowsByCall d over before later ok lines
+grows_by_call d over old new found before later out start all ok none lines nothing p s a credentials empty shows = (
   p.part,
   p.grows,
   record {
     call = record { found = found; journal = p.part; out = out; kept = new };
-    made = subst (λ (k : States). IsCall conf (lends sources None) k new found p.part out) nothing p.call;
+    made = subst (λ (k : States). IsCall over k new found p.part out) nothing p.call;
     asked = refl;
     credentials = credentials;
     shows = shows ∙ ap (λ (l : List ℕ). l ++ shown out (take (length all - length start) (drop (length start) all))) empty ∙ ap (λ (j : List Pair). shown out j) (behind start all before.journal later.journal p.part s a p.grows.journal);

@@ -5,8 +5,8 @@ use Rattle.cfg_world.specs.Fits.{Pair}
 use Rattle.cfg_world.specs.Script.{Place, Given, place_after, place_left, start}
 use Rattle.cfg_profile.specs.Configuration.{Configuration}
 use Rattle.cfg_providers.specs.CustomSources.{Answer, NamedAnswer}
-use Rattle.cfg_keeping.specs.Kinds.{Value, States, no_states}
-use Rattle.cfg_chain.specs.Settings.{lends}
+use Rattle.cfg_kept.specs.Kinds.{Value, States, no_states}
+use Rattle.cfg_chain.specs.Settings.{ChainSetting}
 use Rattle.cfg_chain.proofs.Calls.{one_call}
 use Rattle.cfg_program.specs.declared.lines.LineForm.{LineForm}
 use Rattle.cfg_program.specs.Calls.{Made, InTurn, asked_by, lines_of, last_is_ok, AnswersOver}
@@ -23,8 +23,8 @@ same_made m n e f g h =
     ∙ ap (λ (x : Answer). record n { out = x; kept = m.kept }) g
     ∙ ap (λ (x : States). record n { kept = x }) h
 
-module _ (conf : Configuration) (sources : List NamedAnswer) (lists : DeviceLists) where
-  same_calls : (place : Place) (before after later : States) (one other : List Made) → length one ≡ length other → InTurn conf sources before one after → InTurn conf sources before other later
+module _ (over : ChainSetting) (lists : DeviceLists) where
+  same_calls : (place : Place) (before after later : States) (one other : List Made) → length one ≡ length other → InTurn over before one after → InTurn over before other later
       → Given lists place (asked_by one) → Given lists place (asked_by other) → one ≡ other
   same_calls place before after later [] [] e a b g h = refl
   same_calls place before after later [] (n ∷ ns) e a b g h = absurd (omega (arith, e))
@@ -32,13 +32,13 @@ module _ (conf : Configuration) (sources : List NamedAnswer) (lists : DeviceList
   same_calls place before after later (m ∷ ms) (n ∷ ns) e a b g h =
       let first = given_behind lists place m.journal (asked_by ms) g in
       let also = given_behind lists place n.journal (asked_by ns) h in
-      let same = one_call conf (lends sources None) lists place before m.kept n.kept m.found n.found m.journal n.journal m.out n.out a.0 b.0 first.0 also.0 in
-      let rest = same_calls (place_left lists place m.journal) m.kept after later ms ns (omega (arith, e)) a.1 (subst (λ k. InTurn conf sources k ns later) (sym same.3) b.1)
+      let same = one_call over lists place before m.kept n.kept m.found n.found m.journal n.journal m.out n.out a.0 b.0 first.0 also.0 in
+      let rest = same_calls (place_left lists place m.journal) m.kept after later ms ns (omega (arith, e)) a.1 (subst (λ k. InTurn over k ns later) (sym same.3) b.1)
       first.1 (subst (λ j. Given lists (place_left lists place j) (asked_by ns)) (sym same.0) also.1) in
       ap (λ (x : Made). x ∷ ms) (same_made m n same.1 same.0 same.2 same.3) ∙ ap (λ (xs : List Made). n ∷ xs) rest
 
-pub one_list : (conf : Configuration) (sources : List NamedAnswer) (lists : DeviceLists) (count : ℕ) (form : LineForm) (a b : Bool) (lines other : List ℕ)
-    → AnswersOver conf sources lists count form a lines → AnswersOver conf sources lists count form b other → (a ≡ b) × (lines ≡ other)
-one_list conf sources lists count form a b lines other x y =
-    let same = same_calls conf sources lists start no_states x.kept y.kept x.calls y.calls (x.counted ∙ sym y.counted) x.made y.made x.agrees y.agrees in
+pub one_list : (over : ChainSetting) (lists : DeviceLists) (count : ℕ) (form : LineForm) (a b : Bool) (lines other : List ℕ)
+    → AnswersOver over lists count form a lines → AnswersOver over lists count form b other → (a ≡ b) × (lines ≡ other)
+one_list over lists count form a b lines other x y =
+    let same = same_calls over lists start no_states x.kept y.kept x.calls y.calls (x.counted ∙ sym y.counted) x.made y.made x.agrees y.agrees in
     (x.credentials ∙ ap last_is_ok same ∙ sym y.credentials, x.shows ∙ ap (lines_of form) same ∙ sym y.shows)

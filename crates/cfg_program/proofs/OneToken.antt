@@ -7,13 +7,13 @@ use Rattle.cfg_world.specs.Fits.{Pair}
 use Rattle.cfg_world.specs.Script.{Script, Allows, Stands, start}
 use Rattle.cfg_world.proofs.Agreeing.{given_alike}
 use Rattle.cfg_profile.specs.Configuration.{Configuration}
-use Rattle.cfg_keeping.specs.Kinds.{Value, States, no_states}
-use Rattle.cfg_keeping.specs.KeptInquiry.{Reads, Runs}
-use Rattle.cfg_keeping.proofs.Agreeing.{one_run}
-use Rattle.cfg_keeping.proofs.Told.{told_back}
+use Rattle.cfg_kept.specs.Kinds.{Value, States, no_states}
+use Rattle.cfg_kept.specs.KeptInquiry.{Reads, Runs}
+use Rattle.cfg_kept.proofs.Agreeing.{one_run}
+use Rattle.cfg_kept.proofs.Told.{told_back}
 use Rattle.cfg_sso.specs.BearerTokens.{Bearer}
-use Rattle.cfg_bearer.specs.ProfileTokens.{default_token, DefaultTokenCause}
-use Rattle.cfg_bearer.specs.Provides.{IsTokenCall}
+use Rattle.cfg_token_chain.specs.ProfileTokens.{default_token, DefaultTokenCause}
+use Rattle.cfg_token_chain.specs.Provides.{IsTokenCall}
 use Rattle.cfg_script.specs.Script.{Plain}
 use Rattle.cfg_script.specs.Devices.{lists_of}
 use Rattle.cfg_program.specs.Calls.{configuration_of}

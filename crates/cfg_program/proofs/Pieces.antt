@@ -4,9 +4,8 @@ use Rattle.std.proofs.lemmas.List.{append-nil, nil_from_length, take-append-drop
 use Rattle.std.specs.Prelude.{IfSome}
 use Rattle.std.specs.Io.KnownBytes.{Appends, Consumes, Keeps, IsAtEnd}
 use Rattle.std.proofs.Math.Seq.{drop-append_seam}
-use Rattle.cfg_program.specs.declared.input.TheConstants.{LIMIT}
 use Rattle.cfg_program.specs.Streams.{GrowsByPrefix}
-use Rattle.cfg_program.specs.Inputs.{IsTooLong}
+use Rattle.cfg_program.specs.Inputs.{IsTooLong, most_bytes}
 
 -- the bytes up to rest were written
 pub record Written (before now : Option (List ℕ)) (bytes rest : List ℕ) : Type 0 where
@@ -74,7 +73,7 @@ gave_more_than n (Some bytes) (Some rest) x p e = (
   ap Some (sym (ap (λ (t : List ℕ). drop (n + 1) t) p ∙ ap (λ (k : ℕ). drop k (x ++ rest)) (sym e) ∙ drop-append_seam x rest)),
 )
 
-pub gave_long : (a b : Option (List ℕ)) (x : List ℕ) → Consumes a b x → LIMIT < length x → length x ≤ LIMIT + 1 → IsTooLong a b
-gave_long a b x p more most = gave_more_than LIMIT a b x p (omega (arith, more, most))
+pub gave_long : (a b : Option (List ℕ)) (x : List ℕ) → Consumes a b x → most_bytes < length x → length x ≤ most_bytes + 1 → IsTooLong a b
+gave_long a b x p more most = gave_more_than most_bytes a b x p (omega (arith, more, most))
 
 pub ruleset pieces = (starts, all_written, part_written, gives_nothing, gives_more, gave_all, none_is_left, gave_long)

@@ -1,8 +1,9 @@
 -- What the calls of a script answer.
-use Rattle.std.specs.Prelude.{◌≡◌, ℕ, List, [], ◌∷◌, ◌++◌, length, Bool, false, Option, None, map, option_map, is_ok, codes}
+use Rattle.std.specs.Prelude.{◌≡◌, ℕ, List, [], ◌∷◌, ◌++◌, length, Bool, false, Option, None, map, option_map, is_ok, codes, String, string_bytes}
 use Rattle.std.specs.List.{flat_map}
-use Rattle.cfg_values.specs.Text.{characters}
-use Rattle.cfg_values.specs.Entries.{each_set}
+use Rattle.std.specs.declared.alloc.Global.{Global}
+use Rattle.cfg_base.specs.Text.{characters}
+use Rattle.cfg_base.specs.Entries.{each_set}
 use Rattle.cfg_types.specs.declared.environment.EnvText.{EnvText}
 use Rattle.cfg_world.specs.declared.script.DeviceLists.{DeviceLists}
 use Rattle.cfg_world.specs.Fits.{Pair}
@@ -15,14 +16,26 @@ use Rattle.cfg_profile.specs.declared.sections.ProfileSource.TheVariants as sour
 use Rattle.cfg_profile.specs.SectionParts.{SectionParts}
 use Rattle.cfg_profile.specs.SectionSets.{sections_by_name}
 use Rattle.cfg_profile.specs.Configuration.{Configuration}
-use Rattle.cfg_keeping.specs.Kinds.{Value, States, no_states}
+use Rattle.cfg_kept.specs.Kinds.{Value, States, no_states}
 use Rattle.cfg_providers.specs.CustomSources.{Answer, NamedAnswer}
-use Rattle.cfg_chain.specs.Settings.{lends}
+use Rattle.cfg_chain.specs.Settings.{ChainSetting, with_sources}
 use Rattle.cfg_chain.specs.Provides.{IsCall}
 use Rattle.cfg_script.specs.Script.{Plain, PlainProfiles, Sections, RefusedSections, Section}
 use Rattle.cfg_script.specs.Devices.{lists_of}
 use Rattle.cfg_program.specs.declared.lines.LineForm.{LineForm}
 use Rattle.cfg_program.specs.Lines.{shown_as}
+
+-- the bytes of a text that may be left out
+abbrev pub bytes_of : Option (String Global) → Option (List ℕ)
+bytes_of text = option_map (λ t. string_bytes t) text
+
+-- the region of such a name
+abbrev pub region_of : Option (String Global) → Option (List ℕ)
+region_of name = option_map characters (bytes_of name)
+
+-- this configuration, with this region in place of its own
+abbrev pub in_region : Configuration → Option (List ℕ) → Configuration
+in_region conf region = record conf { region = region }
 
 -- a section that a script says, as the chain sees it
 abbrev pub section_parts : Section → SectionParts
@@ -58,7 +71,7 @@ configured p = configured_by p.variables (source_of p.profiles) p.selected p.sle
 
 -- what a script configures
 abbrev pub configuration_of : Plain → Configuration
-configuration_of p = record (configured p) { region = option_map characters p.region }
+configuration_of p = in_region (configured p) (option_map characters p.region)
 
 -- scripted devices that nothing was asked of yet
 pub record IsFresh (w : Held devices.Script) : Type 0 where
@@ -73,16 +86,15 @@ pub record Made : Type 0 where
   pub out : Answer
   pub kept : States
 
--- This call of the default chain was made over this configuration and these sources of the caller's own,
--- on what was kept before it.
-abbrev pub IsMade : Configuration → List NamedAnswer → States → Made → Type 0
-IsMade conf sources before call = IsCall conf (lends sources None) before call.kept call.found call.journal call.out
+-- This call of a default chain of this setting was made on what was kept before it.
+abbrev pub IsMade : ChainSetting → States → Made → Type 0
+IsMade over before call = IsCall over before call.kept call.found call.journal call.out
 
 -- These calls were made one after another: the first one over what was kept before, each later one over
 -- what the call before it left, and this is kept behind the last.
-abbrev pub InTurn : Configuration → List NamedAnswer → States → List Made → States → Type 0
-InTurn conf sources before [] after = after ≡ before
-InTurn conf sources before (call ∷ later) after = IsMade conf sources before call × InTurn conf sources call.kept later after
+abbrev pub InTurn : ChainSetting → States → List Made → States → Type 0
+InTurn over before [] after = after ≡ before
+InTurn over before (call ∷ later) after = IsMade over before call × InTurn over call.kept later after
 
 -- the questions of all calls with their answers, in order
 abbrev pub asked_by : List Made → List Pair
@@ -98,24 +110,24 @@ last_is_ok [] = false
 last_is_ok (call ∷ []) = is_ok call.out
 last_is_ok (call ∷ next ∷ later) = last_is_ok (next ∷ later)
 
--- There are so many calls of the default chain over this configuration and these sources of the caller's
--- own, one after another, and nothing is kept before the first. The answers to all of them, taken together,
+-- There are so many calls of a default chain of this setting, one after another, and nothing is kept before the
+-- first. The answers to all of them, taken together,
 -- are those that the lists give. The last one has this outcome, and the calls have these lines, in this
 -- form.
-pub record AnswersOver (conf : Configuration) (sources : List NamedAnswer) (lists : DeviceLists) (count : ℕ) (form : LineForm) (is_credentials : Bool) (lines : List ℕ) : Type 0 where
+pub record AnswersOver (over : ChainSetting) (lists : DeviceLists) (count : ℕ) (form : LineForm) (is_credentials : Bool) (lines : List ℕ) : Type 0 where
   pub calls : List Made
   pub kept : States
   pub counted : length calls ≡ count
-  pub made : InTurn conf sources no_states calls kept
+  pub made : InTurn over no_states calls kept
   pub agrees : Given lists start (asked_by calls)
   pub credentials : is_credentials ≡ last_is_ok calls
   pub shows : lines ≡ lines_of form calls
 
 -- One call more was made over these devices, on what was kept before it. Its journal is its own alone; its
 -- line stands behind the lines before it.
-pub record MakesCall (conf : Configuration) (sources : List NamedAnswer) (form : LineForm) (old new : States) (before later : devices.Script) (is_credentials : Bool) (lines lines_after : List ℕ) : Type 0 where
+pub record MakesCall (over : ChainSetting) (form : LineForm) (old new : States) (before later : devices.Script) (is_credentials : Bool) (lines lines_after : List ℕ) : Type 0 where
   pub call : Made
-  pub made : IsMade conf sources old call
+  pub made : IsMade over old call
   pub left : call.kept ≡ new
   pub same : Same (devices.Allows before) (devices.Allows later)
   pub stands : StandsOn (devices.Stands before) (devices.Stands later) call.journal
@@ -124,4 +136,4 @@ pub record MakesCall (conf : Configuration) (sources : List NamedAnswer) (form :
 
 -- the calls of a script, with these sources of the caller's own and lines in this form
 abbrev pub Answers : List NamedAnswer → LineForm → Plain → Bool → List ℕ → Type 0
-Answers sources form p is_credentials lines = AnswersOver (configuration_of p) sources (lists_of p) p.calls form is_credentials lines
+Answers sources form p is_credentials lines = AnswersOver (with_sources (configuration_of p) sources) (lists_of p) p.calls form is_credentials lines

@@ -1,14 +1,14 @@
--- Which statuses tell of the words and of the input, and what in the input causes a refusal.
+-- Which statuses tell of the command and of the input, and what in the input causes a refusal.
 use Rattle.std.specs.Prelude.{◌≡◌, ℕ, ◌<◌, List, ◌++◌, length, Bool, true, false, Option, None, IsSome, IfSome}
 use Rattle.std.specs.Io.KnownBytes.{Appends}
 use Rattle.cfg_world.specs.Fits.{Pair}
 use Rattle.cfg_script.specs.Script.{Plain}
 use Rattle.cfg_program.specs.declared.status.Status.{Status}
 use Rattle.cfg_program.specs.declared.status.Status.TheVariants as status
-use Rattle.cfg_program.specs.declared.input.TheConstants.{LIMIT}
+use Rattle.cfg_program.specs.Inputs.{most_bytes}
 use Rattle.cfg_program.specs.Run.{Seen, IsInput}
 
--- whether a status depends on the words, the input and the world's answers alone: all but those of a fault and of memory
+-- whether a status depends on the command, the input and the world's answers alone: all but those of a fault and of memory
 abbrev pub depends_on_input : Status → Bool
 depends_on_input status.SourceFault = false
 depends_on_input status.SinkFault = false
@@ -33,8 +33,8 @@ AppendTheSame one other = (bytes : List ℕ) × Appends one.sink.written one.sin
 abbrev pub GainTheSame : Seen → Seen → Type 0
 GainTheSame one other = (part : List Pair) × (one.world.journal_after ≡ one.world.journal ++ part) × (other.world.journal_after ≡ other.world.journal ++ part)
 
--- the bytes of the input call for this refusal by a word that reads them so
+-- the bytes of the input call for this refusal by a command that reads them so
 abbrev pub CallsFor : Seen → (List ℕ → Option Plain) → Status → Type 0
 CallsFor seen reads status.NoScript = (bytes : List ℕ) × IsInput seen.source bytes × (reads bytes ≡ None)
-CallsFor seen reads status.TooLong = IfSome seen.source.left (λ b. LIMIT < length b)
+CallsFor seen reads status.TooLong = IfSome seen.source.left (λ b. most_bytes < length b)
 CallsFor seen reads _ = ⊥

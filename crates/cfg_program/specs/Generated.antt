@@ -1,7 +1,7 @@
 -- The call over a set of profiles that comes from a number.
-use Rattle.std.specs.Prelude.{◌≡◌, ℕ, zero, suc, ◌+◌, ◌-◌, pos, List, [], ◌∷◌, ◌++◌, Bool, true, Option, Some, None, Result, Ok, ◌⊎◌, codes}
+use Rattle.std.specs.Prelude.{◌≡◌, ℕ, zero, suc, ◌+◌, ◌-◌, pos, List, [], ◌∷◌, ◌++◌, Bool, true, Some, None, Result, Ok, ◌⊎◌, codes}
 use Rattle.std.specs.Fmt.{decimal}
-use Rattle.cfg_values.specs.Text.{characters}
+use Rattle.cfg_base.specs.Text.{characters}
 use Rattle.cfg_types.specs.declared.reply.FailKind.{FailKind}
 use Rattle.cfg_types.specs.declared.reply.Reply.{Reply}
 use Rattle.cfg_types.specs.declared.reply.Reply.TheVariants as reply
@@ -9,10 +9,12 @@ use Rattle.cfg_world.specs.declared.script.DeviceLists.{DeviceLists}
 use Rattle.cfg_profile.specs.declared.sections.ProfileSource.TheVariants as source
 use Rattle.cfg_profile.specs.Configuration.{Configuration}
 use Rattle.cfg_profile.specs.Generated.{generated}
+use Rattle.cfg_chain.specs.Settings.{alone}
 use Rattle.cfg_program.specs.declared.lines.LineForm.TheVariants.{Generated}
 use Rattle.cfg_program.specs.declared.status.Status.{Status}
 use Rattle.cfg_program.specs.declared.status.Status.TheVariants as status
 use Rattle.cfg_program.specs.Calls.{configured_by, AnswersOver}
+use Rattle.cfg_program.specs.Streams.{SinkSeen}
 use Rattle.cfg_program.specs.Written.{LinesWritten}
 
 -- the configuration of the set of n profiles, of which `p1` is selected
@@ -58,16 +60,16 @@ generated_lists n = record {
 
 -- the call over the set of n profiles, with no sources of the caller's own
 abbrev pub GeneratedAnswers : ℕ → Bool → List ℕ → Type 0
-GeneratedAnswers n is_credentials line = AnswersOver (generated_configuration n) [] (generated_lists n) 1 (Generated n) is_credentials line
+GeneratedAnswers n is_credentials line = AnswersOver (alone (generated_configuration n)) (generated_lists n) 1 (Generated n) is_credentials line
 
 -- the line of that call was written, or a prefix of it, by the status that says how it ended
-pub record GeneratedLineWritten (before after : Option (List ℕ)) (faults faults_after n : ℕ) (ended : Status) : Type 0 where
+pub record GeneratedLineWritten (sink : SinkSeen) (n : ℕ) (ended : Status) : Type 0 where
   pub is_credentials : Bool
   pub line : List ℕ
   pub answers : GeneratedAnswers n is_credentials line
-  pub written : LinesWritten before after faults faults_after is_credentials line ended
+  pub written : LinesWritten sink is_credentials line ended
 
 -- that line, or nothing where memory ran out before it
-abbrev pub GeneratedWritten : Option (List ℕ) → Option (List ℕ) → ℕ → ℕ → ℕ → Status → Type 0
-GeneratedWritten before after faults faults_after n status.OutOfMemory = (after ≡ before) ⊎ GeneratedLineWritten before after faults faults_after n status.OutOfMemory
-GeneratedWritten before after faults faults_after n ended = GeneratedLineWritten before after faults faults_after n ended
+abbrev pub GeneratedWritten : SinkSeen → ℕ → Status → Type 0
+GeneratedWritten sink n status.OutOfMemory = (sink.written_after ≡ sink.written) ⊎ GeneratedLineWritten sink n status.OutOfMemory
+GeneratedWritten sink n ended = GeneratedLineWritten sink n ended

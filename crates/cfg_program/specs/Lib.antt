@@ -1,8 +1,9 @@
 pub mod Statuses
-pub mod Words
+pub mod Commands
 pub mod Scripts
 pub mod Streams
 pub mod Inputs
+pub mod Escapes
 pub mod CauseLines
 pub mod Lines
 pub mod Calls

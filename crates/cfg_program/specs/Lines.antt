@@ -3,7 +3,7 @@ use Rattle.std.specs.Prelude.{ℕ, ◌+◌, ◌/◌, ◌%◌, Bool, true, false,
 use Rattle.std.specs.List.{flat_map, count_by}
 use Rattle.std.specs.Str.{encode_utf8_all}
 use Rattle.std.specs.Fmt.{decimal, signed_decimal}
-use Rattle.cfg_values.specs.Moment.{Moment}
+use Rattle.cfg_base.specs.Moment.{Moment}
 use Rattle.cfg_types.specs.Keys.{Keys}
 use Rattle.cfg_types.specs.Classes.{class_of, class_name}
 use Rattle.cfg_types.specs.declared.errors.CredentialsError.{CredentialsError}
@@ -14,16 +14,15 @@ use Rattle.cfg_world.specs.declared.ask.Question.TheVariants as question
 use Rattle.cfg_world.specs.declared.ask.Answer.{Answer}
 use Rattle.cfg_world.specs.declared.ask.Answer.TheVariants.{Failed}
 use Rattle.cfg_world.specs.Fits.{Pair}
-use Rattle.percent_encoding.specs.Percent.{percent_encode}
-use Rattle.cfg_causes.specs.CredentialsCauses.{causes_of}
-use Rattle.cfg_program.specs.declared.lines.TheConstants.{ESCAPED}
+use Rattle.cfg_error_report.specs.CredentialsCauses.{causes_of}
+use Rattle.cfg_program.specs.Escapes.{word_byte}
 use Rattle.cfg_program.specs.CauseLines.{shown_causes}
 use Rattle.cfg_program.specs.declared.lines.LineForm.{LineForm}
 use Rattle.cfg_program.specs.declared.lines.LineForm.TheVariants.{Call, Why, Generated}
 
 -- `=`, and the bytes of a text, those that are escaped as `%` and two digits
 abbrev pub shown_text : List ℕ → List ℕ
-shown_text bytes = codes "=" ++ percent_encode ESCAPED bytes
+shown_text bytes = codes "=" ++ flat_map word_byte bytes
 
 -- `0`, from which the ten digits go on
 abbrev pub digit_zero : ℕ

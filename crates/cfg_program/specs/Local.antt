@@ -1,18 +1,19 @@
 -- The call over the variables and the world that are handed in.
 use Rattle.std.specs.Prelude.{◌≡◌, ℕ, List, Bool, true, Option, Some, is_ok}
-use Rattle.cfg_values.specs.Entries.{each_set}
+use Rattle.cfg_base.specs.Entries.{each_set}
 use Rattle.cfg_types.specs.declared.environment.EnvText.{EnvText}
 use Rattle.cfg_world.specs.declared.devices.Devices.{Ghosts}
 use Rattle.cfg_world.specs.Fits.{Pair}
 use Rattle.cfg_world.specs.Grows.{Grows, Stopped}
 use Rattle.cfg_world.specs.Held.{Held}
 use Rattle.cfg_profile.specs.Configuration.{Configuration, nothing_configured}
-use Rattle.cfg_keeping.specs.Kinds.{no_states}
+use Rattle.cfg_kept.specs.Kinds.{no_states}
 use Rattle.cfg_providers.specs.CustomSources.{NamedAnswer}
 use Rattle.cfg_program.specs.declared.status.Status.{Status}
 use Rattle.cfg_program.specs.declared.status.Status.TheVariants as status
-use Rattle.cfg_program.specs.declared.words.Word.{Word}
-use Rattle.cfg_program.specs.declared.words.Word.TheVariants.{Local}
+use Rattle.cfg_program.specs.declared.commands.Command.{Command}
+use Rattle.cfg_program.specs.declared.commands.Command.TheVariants.{Local}
+use Rattle.cfg_chain.specs.Settings.{ChainSetting, with_sources}
 use Rattle.cfg_program.specs.Lines.{shown}
 use Rattle.cfg_program.specs.Calls.{Made, IsMade}
 
@@ -25,22 +26,22 @@ pub record Handed : Type 0 where
 abbrev pub local_configuration : List (List ℕ × EnvText) → Configuration
 local_configuration variables = record (nothing_configured true) { environment = each_set variables }
 
--- One call of the default chain over this configuration and these sources, with this journal, and its
+-- One call of the default chain of this setting, with this journal, and its
 -- line. Nothing is kept before it.
-pub record CallAnswers (conf : Configuration) (sources : List NamedAnswer) (part : List Pair) (is_credentials : Bool) (line : List ℕ) : Type 0 where
+pub record CallAnswers (over : ChainSetting) (part : List Pair) (is_credentials : Bool) (line : List ℕ) : Type 0 where
   pub call : Made
-  pub made : IsMade conf sources no_states call
+  pub made : IsMade over no_states call
   pub asked : call.journal ≡ part
   pub credentials : is_credentials ≡ is_ok call.out
   pub shows : line ≡ shown call.out call.journal
 
 -- the call over what is handed in
 abbrev pub LocalAnswers : Handed → List Pair → Bool → List ℕ → Type 0
-LocalAnswers handed part is_credentials line = CallAnswers (local_configuration handed.variables) handed.sources part is_credentials line
+LocalAnswers handed part is_credentials line = CallAnswers (with_sources (local_configuration handed.variables) handed.sources) part is_credentials line
 
 -- the same over a world, whose journal grew by exactly its questions
-abbrev pub GrowsByCall : {D : Type 0} → Ghosts D → Configuration → List NamedAnswer → Held D → Held D → Bool → List ℕ → Type 0
-GrowsByCall d conf sources before later is_credentials line = (part : List Pair) × Grows d part before later × CallAnswers conf sources part is_credentials line
+abbrev pub GrowsByCall : {D : Type 0} → Ghosts D → ChainSetting → Held D → Held D → Bool → List ℕ → Type 0
+GrowsByCall d over before later is_credentials line = (part : List Pair) × Grows d part before later × CallAnswers over part is_credentials line
 
 -- What that call leaves of the world: its journal grew by a part, or, where memory ran out, stopped anywhere.
 abbrev pub LeavesWorld : {D : Type 0} → Ghosts D → Held D → Held D → Status → Type 0
@@ -48,6 +49,6 @@ LeavesWorld d before later status.OutOfMemory = Stopped d before later
 LeavesWorld d before later ended = (part : List Pair) × Grows d part before later
 
 -- what a run leaves of the world that is asked for this, or for nothing that is known
-abbrev pub WorldAfter : {D : Type 0} → Ghosts D → Option Word → Held D → Held D → Status → Type 0
+abbrev pub WorldAfter : {D : Type 0} → Ghosts D → Option Command → Held D → Held D → Status → Type 0
 WorldAfter d (Some Local) before later ended = LeavesWorld d before later ended
-WorldAfter d word before later ended = later ≡ before
+WorldAfter d command before later ended = later ≡ before

@@ -6,13 +6,12 @@ use Rattle.cfg_world.specs.Fits.{Pair}
 use Rattle.cfg_script.specs.Script.{Plain}
 use Rattle.cfg_program.specs.declared.status.Status.{Status}
 use Rattle.cfg_program.specs.declared.status.Status.TheVariants as status
-use Rattle.cfg_program.specs.declared.words.Word.{Word}
-use Rattle.cfg_program.specs.declared.words.Word.TheVariants.{Help, Version, Resolve, Why, Region, Token, Local, Generate}
+use Rattle.cfg_program.specs.declared.commands.Command.{Command}
+use Rattle.cfg_program.specs.declared.commands.Command.TheVariants.{Help, Version, Resolve, Why, Region, Token, Local, Generate}
 use Rattle.cfg_program.specs.declared.lines.LineForm.TheVariants as form
-use Rattle.cfg_program.specs.declared.words.TheConstants.{HELP, VERSION}
-use Rattle.cfg_program.specs.declared.input.TheConstants.{LIMIT}
-use Rattle.cfg_program.specs.Streams.{GrowsByPrefix}
-use Rattle.cfg_program.specs.Inputs.{IsTooLong}
+use Rattle.cfg_program.specs.declared.commands.TheConstants.{HELP, VERSION}
+use Rattle.cfg_program.specs.Streams.{GrowsByPrefix, SourceSeen, SinkSeen}
+use Rattle.cfg_program.specs.Inputs.{IsTooLong, most_bytes}
 use Rattle.cfg_program.specs.Calls.{Answers}
 use Rattle.cfg_program.specs.Scripts.{script_for}
 use Rattle.cfg_program.specs.Regions.{RegionAnswers}
@@ -20,26 +19,6 @@ use Rattle.cfg_program.specs.Tokens.{TokenAnswers}
 use Rattle.cfg_program.specs.Local.{Handed, LocalAnswers}
 use Rattle.cfg_program.specs.Generated.{GeneratedWritten}
 use Rattle.cfg_program.specs.Written.{TextWritten, LinesWritten}
-
--- what a run saw of its source, before and after
-pub record SourceSeen : Type 0 where
-  pub left : Option (List ℕ)
-  pub left_after : Option (List ℕ)
-  pub faults : ℕ
-  pub faults_after : ℕ
-
-abbrev pub source_seen : Option (List ℕ) → Option (List ℕ) → ℕ → ℕ → SourceSeen
-source_seen left left_after faults faults_after = record { left = left; left_after = left_after; faults = faults; faults_after = faults_after }
-
--- what it saw of its sink
-pub record SinkSeen : Type 0 where
-  pub written : Option (List ℕ)
-  pub written_after : Option (List ℕ)
-  pub faults : ℕ
-  pub faults_after : ℕ
-
-abbrev pub sink_seen : Option (List ℕ) → Option (List ℕ) → ℕ → ℕ → SinkSeen
-sink_seen written written_after faults faults_after = record { written = written; written_after = written_after; faults = faults; faults_after = faults_after }
 
 -- the journal of the world that was handed in
 pub record WorldSeen : Type 0 where
@@ -62,21 +41,21 @@ WritesNothing sink = sink.written_after ≡ sink.written
 -- the input has these bytes, and they are not too many
 pub record IsInput (source : SourceSeen) (bytes : List ℕ) : Type 0 where
   pub all : IfSome source.left (λ b. b ≡ bytes)
-  pub short : length bytes ≤ LIMIT
+  pub short : length bytes ≤ most_bytes
 
 -- The input has these bytes, and they are not too many. All of them were read: none is left.
 pub record WasRead (source : SourceSeen) (bytes : List ℕ) : Type 0 where
   pub all : IfSome source.left (λ b. b ≡ bytes)
   pub none_left : IfSome source.left_after (λ b. b ≡ [])
-  pub short : length bytes ≤ LIMIT
+  pub short : length bytes ≤ most_bytes
 
--- the input is this script, as a word reads it
+-- the input is this script, as a command reads it
 pub record IsScript (source : SourceSeen) (reads : List ℕ → Option Plain) (p : Plain) : Type 0 where
   pub bytes : List ℕ
   pub read : WasRead source bytes
   pub script : reads bytes ≡ Some p
 
--- how a word ends that finds no script
+-- how a command ends that finds no script
 abbrev pub EndsUnread : SourceSeen → (List ℕ → Option Plain) → Status → Type 0
 EndsUnread source reads status.NoScript = (bytes : List ℕ) × WasRead source bytes × (reads bytes ≡ None)
 EndsUnread source reads status.SourceFault = Rose source.faults source.faults_after
@@ -101,12 +80,12 @@ pub record WritesPrefix (source : SourceSeen) (sink : SinkSeen) (reads : List �
   pub answered : answers p is_ok lines
   pub written : GrowsByPrefix sink.written sink.written_after lines
 
--- How a word ends that reads a script: by what it reads bytes as, and by what the calls of a script answer,
+-- How a command ends that reads a script: by what it reads bytes as, and by what the calls of a script answer,
 -- that is, whether the last one gave what it was asked for, and their lines.
 abbrev pub EndsReading : SourceSeen → SinkSeen → (List ℕ → Option Plain) → (Plain → Bool → List ℕ → Type 0) → Status → Type 0
 EndsReading source sink reads answers status.Done = WritesLines source sink reads answers true
 EndsReading source sink reads answers status.Refused = WritesLines source sink reads answers false
-EndsReading source sink reads answers status.Words = ⊥
+EndsReading source sink reads answers status.UnknownCommand = ⊥
 EndsReading source sink reads answers status.NoScript = EndsUnread source reads status.NoScript × WritesNothing sink
 EndsReading source sink reads answers status.SourceFault = EndsUnread source reads status.SourceFault × WritesNothing sink
 EndsReading source sink reads answers status.SinkFault = Rose sink.faults sink.faults_after × WritesPrefix source sink reads answers
@@ -114,14 +93,6 @@ EndsReading source sink reads answers status.OutOfMemory = WritesNothing sink �
 EndsReading source sink reads answers status.TooLong = EndsUnread source reads status.TooLong × WritesNothing sink
 EndsReading source sink reads answers status.HistoryDiffers = ⊥
 EndsReading source sink reads answers status.NotBuilt = ⊥
-
--- how telling a text ends
-abbrev pub EndsTelling : SinkSeen → List ℕ → Status → Type 0
-EndsTelling sink text ended = TextWritten sink.written sink.written_after sink.faults sink.faults_after text ended
-
--- how generating ends
-abbrev pub EndsGenerating : SinkSeen → ℕ → Status → Type 0
-EndsGenerating sink n ended = GeneratedWritten sink.written sink.written_after sink.faults sink.faults_after n ended
 
 -- The world's journal gained a call's questions, and the call's line was written, or a prefix of it, by the
 -- status that says how it ended.
@@ -131,7 +102,7 @@ pub record LocalLineWritten (sink : SinkSeen) (world : WorldSeen) (handed : Hand
   pub is_credentials : Bool
   pub line : List ℕ
   pub answers : LocalAnswers handed part is_credentials line
-  pub written : LinesWritten sink.written sink.written_after sink.faults sink.faults_after is_credentials line ended
+  pub written : LinesWritten sink is_credentials line ended
 
 -- how the call over what is handed in ends: by that line, or with nothing where memory ran out before it
 abbrev pub EndsLocal : SinkSeen → WorldSeen → Handed → Status → Type 0
@@ -139,18 +110,18 @@ EndsLocal sink world handed status.OutOfMemory = WritesNothing sink ⊎ LocalLin
 EndsLocal sink world handed ended = LocalLineWritten sink world handed ended
 
 -- an unknown command
-abbrev pub EndsForWords : SinkSeen → Status → Type 0
-EndsForWords sink status.Words = WritesNothing sink
-EndsForWords sink _ = ⊥
+abbrev pub EndsUnknown : SinkSeen → Status → Type 0
+EndsUnknown sink status.UnknownCommand = WritesNothing sink
+EndsUnknown sink _ = ⊥
 
 -- how a run ends to which this is handed, and that is asked for this, or for nothing that is known
-abbrev pub EndsRun : Seen → Handed → Option Word → Status → Type 0
-EndsRun seen handed None ended = EndsForWords seen.sink ended
-EndsRun seen handed (Some Help) ended = EndsTelling seen.sink HELP.now ended
-EndsRun seen handed (Some Version) ended = EndsTelling seen.sink VERSION.now ended
+abbrev pub EndsRun : Seen → Handed → Option Command → Status → Type 0
+EndsRun seen handed None ended = EndsUnknown seen.sink ended
+EndsRun seen handed (Some Help) ended = TextWritten seen.sink HELP.now ended
+EndsRun seen handed (Some Version) ended = TextWritten seen.sink VERSION.now ended
 EndsRun seen handed (Some Resolve) ended = EndsReading seen.source seen.sink (script_for Resolve) (Answers handed.sources form.Call) ended
 EndsRun seen handed (Some Why) ended = EndsReading seen.source seen.sink (script_for Why) (Answers handed.sources form.Why) ended
 EndsRun seen handed (Some Region) ended = EndsReading seen.source seen.sink (script_for Region) RegionAnswers ended
 EndsRun seen handed (Some Token) ended = EndsReading seen.source seen.sink (script_for Token) TokenAnswers ended
 EndsRun seen handed (Some Local) ended = EndsLocal seen.sink seen.world handed ended
-EndsRun seen handed (Some (Generate n)) ended = EndsGenerating seen.sink n ended
+EndsRun seen handed (Some (Generate n)) ended = GeneratedWritten seen.sink n ended

@@ -1,9 +1,9 @@
--- What words read the bytes of their input as.
+-- What commands read the bytes of their input as.
 use Rattle.std.specs.Prelude.{ℕ, ◌==◌, List, Bool, true, false, Option, Some, None, if◌then◌else◌}
 use Rattle.cfg_script.specs.Script.{Plain}
 use Rattle.cfg_script.specs.Reading.{script_of}
-use Rattle.cfg_program.specs.declared.words.Word.{Word}
-use Rattle.cfg_program.specs.declared.words.Word.TheVariants.{Resolve, Why, Region, Token}
+use Rattle.cfg_program.specs.declared.commands.Command.{Command}
+use Rattle.cfg_program.specs.declared.commands.Command.TheVariants.{Resolve, Why, Region, Token}
 
 -- a script of one call
 abbrev pub of_one_call : Option Plain → Option Plain
@@ -14,16 +14,16 @@ of_one_call (Some p) = if p.calls == 1 then Some p else None
 abbrev pub script_of_one_call : List ℕ → Option Plain
 script_of_one_call bytes = of_one_call (script_of bytes)
 
--- whether a word reads a script
-abbrev pub reads_input : Word → Bool
+-- whether a command reads a script
+abbrev pub reads_input : Command → Bool
 reads_input Resolve = true
 reads_input Why = true
 reads_input Region = true
 reads_input Token = true
 reads_input _ = false
 
--- what a word that does reads bytes as
-abbrev pub script_for : Word → List ℕ → Option Plain
+-- what a command that does reads bytes as
+abbrev pub script_for : Command → List ℕ → Option Plain
 script_for Region bytes = script_of_one_call bytes
 script_for Token bytes = script_of_one_call bytes
-script_for word bytes = script_of bytes
+script_for command bytes = script_of bytes

@@ -7,7 +7,7 @@ use Rattle.cfg_program.specs.declared.status.Status.TheVariants as status
 abbrev pub number_of : Status → ℕ
 number_of status.Done = 0
 number_of status.Refused = 1
-number_of status.Words = 2
+number_of status.UnknownCommand = 2
 number_of status.NoScript = 3
 number_of status.SourceFault = 4
 number_of status.SinkFault = 5

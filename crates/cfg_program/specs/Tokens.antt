@@ -5,10 +5,10 @@ use Rattle.cfg_world.specs.declared.script.DeviceLists.{DeviceLists}
 use Rattle.cfg_world.specs.Fits.{Pair}
 use Rattle.cfg_world.specs.Script.{Given, start}
 use Rattle.cfg_profile.specs.Configuration.{Configuration}
-use Rattle.cfg_keeping.specs.Kinds.{Value, States, no_states}
+use Rattle.cfg_kept.specs.Kinds.{Value, States, no_states}
 use Rattle.cfg_sso.specs.BearerTokens.{Bearer}
-use Rattle.cfg_bearer.specs.ProfileTokens.{default_token, DefaultTokenCause}
-use Rattle.cfg_bearer.specs.Provides.{IsTokenCall}
+use Rattle.cfg_token_chain.specs.ProfileTokens.{default_token, DefaultTokenCause}
+use Rattle.cfg_token_chain.specs.Provides.{IsTokenCall}
 use Rattle.cfg_script.specs.Script.{Plain}
 use Rattle.cfg_script.specs.Devices.{lists_of}
 use Rattle.cfg_program.specs.Lines.{shown_expiry, kinds}

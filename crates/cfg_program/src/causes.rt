@@ -1,11 +1,12 @@
 //! What stands below the line of an error.
 ghost use Rattle.std.specs.Prelude.{◌≡◌, ◌+◌, ◌++◌, OnOk};
 ghost use Rattle.std.specs.List.{flat_map};
-ghost use Rattle.cfg_causes.specs.Lines.{Line};
-ghost use Rattle.cfg_causes.specs.CredentialsCauses.{causes_of as causes_of_error};
-ghost use Rattle.cfg_program.specs.CauseLines.{indent, is_escaped as is_escaped_byte, shown_byte, shown_cause, shown_causes};
+ghost use Rattle.cfg_error_report.specs.Lines.{Line};
+ghost use Rattle.cfg_error_report.specs.CredentialsCauses.{causes_of as causes_of_error};
+ghost use Rattle.cfg_program.specs.CauseLines.{indent, shown_cause, shown_causes};
+ghost use Rattle.cfg_program.specs.Escapes.{escaped_in_line, line_byte};
 
-use cfg_causes::{CauseLine, causes_of};
+use cfg_error_report::{CauseLine, causes_of};
 use cfg_types::{CredentialsError, OutOfMemory};
 use percent_encoding::percent_encode_byte;
 use std::alloc::AllocError;
@@ -49,9 +50,10 @@ fn write_indent(lines: &mut Vec<u8>, depth: usize) -> Result<(), AllocError>
     Ok(())
 }
 
-// The bytes, control characters and `%` as `%` and two digits: a text is one line.
+// The bytes, control characters and `%` as `%` and two digits: a text has a line to itself, so that no other character
+// can end it, and names stay readable.
 fn write_escaped(lines: &mut Vec<u8>, text: &[u8]) -> Result<(), AllocError>
-    ensures { OnOk result (lines.new.items ≡ lines.old.items ++ flat_map shown_byte text.now) }
+    ensures { OnOk result (lines.new.items ≡ lines.old.items ++ flat_map line_byte text.now) }
 {
     for byte in text {
         if is_escaped(*byte) {
@@ -64,7 +66,7 @@ fn write_escaped(lines: &mut Vec<u8>, text: &[u8]) -> Result<(), AllocError>
 }
 
 fn is_escaped(byte: u8) -> bool
-    ensures { result ≡ is_escaped_byte byte }
+    ensures { result ≡ escaped_in_line byte }
 {
     byte < 32 || byte == 127 || byte == b'%'
 }

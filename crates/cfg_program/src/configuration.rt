@@ -1,9 +1,8 @@
 //! What a script configures.
-ghost use Rattle.std.specs.Prelude.{◌≡◌, IfOk, map, option_map, string_bytes};
-ghost use Rattle.cfg_values.specs.Text.{characters};
-ghost use Rattle.cfg_values.specs.TextMap.{named};
+ghost use Rattle.std.specs.Prelude.{◌≡◌, IfOk, map};
+ghost use Rattle.cfg_base.specs.TextMap.{named};
 ghost use Rattle.cfg_script.specs.Script.{plain_profiles, section_bytes};
-ghost use Rattle.cfg_program.specs.Calls.{section_parts, source_of, configured_by};
+ghost use Rattle.cfg_program.specs.Calls.{bytes_of, region_of, section_parts, source_of, configured_by};
 
 use cfg_profile::{ProfileSet, ProfileSource, ProviderConfig, Section};
 use cfg_script::ScriptProfiles;
@@ -18,7 +17,7 @@ pub fn configuration(
     selected: Option<String>,
     sleep: bool,
 ) -> Result<ProviderConfig, OutOfMemory>
-    ensures { IfOk result (λ c. c ≡ configured_by (map named variables.items) (source_of (plain_profiles profiles)) (option_map (λ t. string_bytes t) selected) sleep) }
+    ensures { IfOk result (λ c. c ≡ configured_by (map named variables.items) (source_of (plain_profiles profiles)) (bytes_of selected) sleep) }
 {
     let source = source(alloc, profiles)?;
     configured_with(alloc, variables, source, selected, sleep)
@@ -48,7 +47,7 @@ pub fn configured_with(
     selected: Option<String>,
     sleep: bool,
 ) -> Result<ProviderConfig, OutOfMemory>
-    ensures { IfOk result (λ c. c ≡ configured_by (map named variables.items) source (option_map (λ t. string_bytes t) selected) sleep) }
+    ensures { IfOk result (λ c. c ≡ configured_by (map named variables.items) source (bytes_of selected) sleep) }
 {
     let env = Env::new(alloc, variables)?;
     let config = ProviderConfig::without_region(alloc)?;
@@ -76,7 +75,7 @@ fn sections(
 
 /// The region of this name, or none. `OutOfMemory` where memory runs out.
 pub fn region_named(alloc: Global, name: Option<String>) -> Result<Option<Region>, OutOfMemory>
-    ensures { IfOk result (λ r. r ≡ option_map characters (option_map (λ t. string_bytes t) name)) }
+    ensures { IfOk result (λ r. r ≡ region_of name) }
 {
     match name {
         None => Ok(None),

@@ -2,12 +2,12 @@
 ghost use Rattle.std.specs.Prelude.{◌≡◌, ◌≤◌, IfOk};
 ghost use Rattle.cfg_world.specs.Script.{AllFit};
 ghost use Rattle.cfg_program.specs.Generated.{generated_reply as reply_of, generated_lists as lists_of, GeneratedAnswers};
-ghost use Rattle.cfg_program.specs.declared.words.TheConstants.{MOST_PROFILES};
+ghost use Rattle.cfg_program.specs.Commands.{most_profiles};
 
 use crate::configuration::configured_with;
 use crate::lines::LineForm;
 use crate::outcome::Answered;
-use crate::resolve::answer_over;
+use crate::resolve::{answer_over, chain_over};
 use cfg_profile::{ProfileSource, generated_set};
 use cfg_types::{FailKind, Instant, OutOfMemory, Reply, Seq, StsCredentials, StsReply, Text};
 use cfg_world::DeviceLists;
@@ -17,7 +17,7 @@ use std::alloc::Global;
 /// devices that grant one exchange for each role. There are no sources of the caller's own. `OutOfMemory` where
 /// memory runs out.
 pub fn generate(alloc: Global, n: u64) -> Result<Answered, OutOfMemory>
-    requires { n ≤ MOST_PROFILES }
+    requires { n ≤ most_profiles }
     ensures { IfOk result (λ a. GeneratedAnswers n a.is_ok a.lines.items) }
 {
     let set = generated_set(alloc, n)?;
@@ -30,12 +30,13 @@ pub fn generate(alloc: Global, n: u64) -> Result<Answered, OutOfMemory>
         true,
     )?;
     let lists = lists(alloc, n)?;
-    answer_over(alloc, config, &[], None, lists, 1, LineForm::Generated(n))
+    let chain = chain_over(alloc, config, None, Vec::new(alloc))?;
+    answer_over(alloc, &chain, lists, 1, LineForm::Generated(n))
 }
 
 // Devices that grant one exchange for each role of the set of n profiles.
 fn lists(alloc: Global, n: u64) -> Result<DeviceLists, OutOfMemory>
-    requires { n ≤ MOST_PROFILES }
+    requires { n ≤ most_profiles }
     ensures value { IfOk result (λ lists. lists ≡ lists_of n) }
     ensures fit { IfOk result (λ lists. AllFit lists) }
 {
@@ -50,7 +51,7 @@ fn lists(alloc: Global, n: u64) -> Result<DeviceLists, OutOfMemory>
 
 // The reply to the exchange of this number, counted from 1. Its credentials expire so many seconds after 1700000000.
 fn granted(alloc: Global, j: u64) -> Result<Reply, OutOfMemory>
-    requires { j ≤ MOST_PROFILES }
+    requires { j ≤ most_profiles }
     ensures { IfOk result (λ reply. Ok reply ≡ reply_of j) }
 {
     let id = format!(in alloc; "K{j}")?;

@@ -1,6 +1,6 @@
 ghost use Rattle.std.specs.Prelude.{◌≡◌, ◌≤◌, [], IfOk, IfSome, Err, length};
 ghost use Rattle.cfg_world.specs.Faults.{Rose};
-ghost use Rattle.cfg_program.specs.Inputs.{IsTooLong};
+ghost use Rattle.cfg_program.specs.Inputs.{IsTooLong, most_bytes};
 
 use cfg_world::{Source, StreamFault};
 use std::alloc::{AllocError, Global};
@@ -53,7 +53,7 @@ impl From<AllocError> for InputError {
 pub fn read_all<S: Source>(alloc: Global, source: &mut S) -> Result<Vec<u8>, InputError>
     ensures all { IfOk result (λ v. IfSome (S.left source.old) (λ b. b ≡ v.items)) }
     ensures none_left { IfOk result (λ v. IfSome (S.left source.new) (λ b. b ≡ [])) }
-    ensures short { IfOk result (λ v. length v.items ≤ LIMIT) }
+    ensures short { IfOk result (λ v. length v.items ≤ most_bytes) }
     ensures long { result ≡ Err InputError.TooLong → IsTooLong (S.left source.old) (S.left source.new) }
     ensures counted { S.faults source.old ≤ S.faults source.new }
     ensures failed { result ≡ Err InputError.Fault → Rose (S.faults source.old) (S.faults source.new) }

@@ -1,13 +1,20 @@
 //! Laws of runs, each on a call that carries it.
 ghost use Rattle.std.specs.Prelude.{◌≡◌, ℕ, List, Bool, Option, Some, IsSome, IsTrue};
+ghost use Rattle.percent_encoding.specs.AsciiSet.{should_percent_encode};
 ghost use Rattle.cfg_world.specs.Fits.{Pair};
 ghost use Rattle.cfg_world.specs.declared.script.DeviceLists.{DeviceLists as Lists};
-ghost use Rattle.cfg_profile.specs.Configuration.{Configuration};
+ghost use Rattle.cfg_chain.specs.Settings.{ChainSetting};
 ghost use Rattle.cfg_providers.specs.CustomSources.{NamedAnswer};
 ghost use Rattle.cfg_script.specs.Script.{Plain};
 ghost use Rattle.cfg_program.specs.declared.status.Status.{Status as Ended};
-ghost use Rattle.cfg_program.specs.declared.words.Word.{Word as Asked};
+ghost use Rattle.cfg_program.specs.declared.commands.Command.{Command as Asked};
 ghost use Rattle.cfg_program.specs.declared.lines.LineForm.{LineForm as Form};
+ghost use Rattle.cfg_program.specs.declared.input.TheConstants.{LIMIT};
+ghost use Rattle.cfg_program.specs.declared.lines.TheConstants.{ESCAPED};
+ghost use Rattle.cfg_program.specs.declared.commands.TheConstants.{MOST_PROFILES};
+ghost use Rattle.cfg_program.specs.Inputs.{most_bytes};
+ghost use Rattle.cfg_program.specs.Commands.{most_profiles};
+ghost use Rattle.cfg_program.specs.Escapes.{escaped_in_word};
 ghost use Rattle.cfg_program.specs.Calls.{AnswersOver, Answers};
 ghost use Rattle.cfg_program.specs.Generated.{GeneratedAnswers};
 ghost use Rattle.cfg_program.specs.Run.{Seen, EndsRun};
@@ -17,11 +24,21 @@ ghost use Rattle.cfg_program.specs.Tokens.{TokenAnswers};
 ghost use Rattle.cfg_program.specs.Local.{Handed, LocalAnswers};
 ghost use Rattle.cfg_program.specs.Exclusion.{BytesAreKnown, AppendTheSame, GainTheSame, CallsFor, depends_on_input, comes};
 
-/// So many calls over one configuration, the same sources of the caller's own and one script of devices
-/// have one list of lines in a form, and one status.
+/// The public numbers are those that the statements of runs name, and the public set has, of the bytes of ASCII,
+/// those that the lines escape in a text.
+pub fn constants_are_those_of_the_statements()
+    ensures bytes { LIMIT ≡ most_bytes }
+    ensures profiles { MOST_PROFILES ≡ most_profiles }
+    ensures escaped { (b : ℕ) → should_percent_encode ESCAPED b ≡ escaped_in_word b }
+{}
+
+/// So many calls of chains of one setting over one script of devices have one list of lines in a form, and one
+/// status.
 pub fn calls_have_one_list_of_lines()
-    ensures { (conf : Configuration) (sources : List NamedAnswer) (lists : Lists) (count : ℕ) (form : Form) (is_credentials is_other : Bool) (lines other : List ℕ) →
-        AnswersOver conf sources lists count form is_credentials lines → AnswersOver conf sources lists count form is_other other → (is_credentials ≡ is_other) × (lines ≡ other) }
+    ensures { (over : ChainSetting) (lists : Lists) (count : ℕ) (form : Form)
+        (is_credentials is_other : Bool) (lines other : List ℕ)
+        → AnswersOver over lists count form is_credentials lines → AnswersOver over lists count form is_other other
+        → (is_credentials ≡ is_other) × (lines ≡ other) }
 {}
 
 /// A script has one list of lines in a form, and one status, where the caller's own sources are the same.
@@ -54,30 +71,33 @@ pub fn one_number_has_one_line()
         GeneratedAnswers n is_credentials line → GeneratedAnswers n is_other other → (is_credentials ≡ is_other) × (line ≡ other) }
 {}
 
-/// Of the statuses that depend on the words, the input and the world's answers alone, one run meets the case of one,
+/// Of the statuses that depend on the command, the input and the world's answers alone, one run meets the case of one,
 /// where the bytes of the input are known.
 pub fn statuses_exclude_one_another()
-    ensures { (seen : Seen) (handed : Handed) (word : Option Asked) (one other : Ended) → BytesAreKnown seen → IsTrue (depends_on_input one) → IsTrue (depends_on_input other)
-        → EndsRun seen handed word one → EndsRun seen handed word other → one ≡ other }
+    ensures { (seen : Seen) (handed : Handed) (command : Option Asked) (one other : Ended)
+        → BytesAreKnown seen → IsTrue (depends_on_input one) → IsTrue (depends_on_input other)
+        → EndsRun seen handed command one → EndsRun seen handed command other → one ≡ other }
 {}
 
 /// Two runs over the same known input to which the same is handed, whatever their sinks held, end with the same
 /// status and write the same bytes, where the journals of their worlds gain the same, and the status of both depends
-/// on the words, the input and the world's answers alone.
+/// on the command, the input and the world's answers alone.
 pub fn runs_over_one_input_are_alike()
-    ensures { (one other : Seen) (handed : Handed) (word : Option Asked) (ended ended_other : Ended) → BytesAreKnown one → one.source.left ≡ other.source.left → GainTheSame one other
+    ensures { (one other : Seen) (handed : Handed) (command : Option Asked) (ended ended_other : Ended)
+        → BytesAreKnown one → one.source.left ≡ other.source.left → GainTheSame one other
         → IsTrue (depends_on_input ended) → IsTrue (depends_on_input ended_other)
-        → EndsRun one handed word ended → EndsRun other handed word ended_other → (ended ≡ ended_other) × AppendTheSame one other }
+        → EndsRun one handed command ended → EndsRun other handed command ended_other → (ended ≡ ended_other) × AppendTheSame one other }
 {}
 
 /// Where the bytes of the input call for a refusal (no script, or too long), whatever was written, a run of a
-/// word that reads them ends with it, or with a fault, or memory runs out.
+/// command that reads them ends with it, or with a fault, or memory runs out.
 pub fn a_refusal_comes_where_the_input_calls_for_it()
-    ensures { (seen : Seen) (handed : Handed) (word : Asked) (cause ended : Ended) → BytesAreKnown seen → IsTrue (reads_input word) → CallsFor seen (script_for word) cause → IsTrue (depends_on_input ended)
-        → EndsRun seen handed (Some word) ended → ended ≡ cause }
+    ensures { (seen : Seen) (handed : Handed) (command : Asked) (cause ended : Ended)
+        → BytesAreKnown seen → IsTrue (reads_input command) → CallsFor seen (script_for command) cause → IsTrue (depends_on_input ended)
+        → EndsRun seen handed (Some command) ended → ended ≡ cause }
 {}
 
 /// No run ends as one over a history that differs, or as one that needs what is not built.
 pub fn two_statuses_never_come()
-    ensures { (seen : Seen) (handed : Handed) (word : Option Asked) (ended : Ended) → EndsRun seen handed word ended → IsTrue (comes ended) }
+    ensures { (seen : Seen) (handed : Handed) (command : Option Asked) (ended : Ended) → EndsRun seen handed command ended → IsTrue (comes ended) }
 {}

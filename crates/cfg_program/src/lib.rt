@@ -1,9 +1,10 @@
-//! The program without its process: `run` does what the words ask for, over any source, sink and
-//! world, and answers how it ended. It stands on cfg_chain, cfg_region, cfg_bearer, cfg_script and
-//! cfg_causes.
+//! The program without its process: `run` does what a command asks for, over any source, sink and
+//! world, and answers how it ended. It stands on cfg_chain, cfg_region, cfg_token_chain, cfg_script and
+//! cfg_error_report.
 #![tactic(auto)]
 
 mod causes;
+mod commands;
 mod configuration;
 mod generated;
 mod input;
@@ -17,9 +18,8 @@ mod resolve;
 pub mod run;
 mod status;
 mod token;
-mod words;
 
+pub use commands::{Command, HELP, MOST_PROFILES, USAGE, VERSION};
 pub use input::LIMIT;
 pub use lines::{ESCAPED, LineForm};
 pub use status::Status;
-pub use words::{HELP, MOST_PROFILES, USAGE, VERSION, Word};

@@ -220,6 +220,7 @@ pub fn write_word(line: &mut Vec<u8>, word: &[u8]) -> Result<(), AllocError>
 
 /// Writes `=` and the bytes of the text, those that are escaped as `%` and two hexadecimal digits. `AllocError` where
 /// memory runs out.
+#[tactic(auto, using(std::proofs::lemmas::Grind::common_steps, crate::proofs::Escaping::word_bytes))]
 pub fn write_text(line: &mut Vec<u8>, text: &str) -> Result<(), AllocError>
     ensures { OnOk result (line.new.items ≡ line.old.items ++ shown_text text.now) }
 {

@@ -1,13 +1,14 @@
 //! The call over the variables and the world that are handed in.
 ghost use Rattle.std.specs.Prelude.{IfOk, OnErr, map};
-ghost use Rattle.cfg_values.specs.TextMap.{named};
+ghost use Rattle.cfg_base.specs.TextMap.{named};
 ghost use Rattle.cfg_world.specs.Grows.{Stopped};
-ghost use Rattle.cfg_chain.specs.Sources.{named_sources};
+ghost use Rattle.cfg_chain.specs.Settings.{with_sources};
+ghost use Rattle.cfg_chain.specs.Views.{named_sources, chain_of};
 ghost use Rattle.cfg_program.specs.Local.{local_configuration, GrowsByCall};
 
 use crate::lines::LineForm;
 use crate::outcome::{Answered, Outcome, tell};
-use crate::resolve::chain_of;
+use crate::resolve::chain_over;
 use cfg_chain::DefaultCredentialsChain;
 use cfg_profile::ProviderConfig;
 use cfg_providers::CustomSource;
@@ -21,32 +22,32 @@ use std::alloc::Global;
 pub fn call_locally<D: Devices>(
     alloc: Global,
     variables: Vec<(String, EnvText)>,
-    custom: &[CustomSource],
+    custom: Vec<CustomSource>,
     world: &mut World<D>,
 ) -> Result<Answered, OutOfMemory>
-    ensures made { IfOk result (λ a. GrowsByCall ⟦<D as Devices>⟧ (local_configuration (map named variables.items)) (named_sources value custom.now) world.old world.new a.is_ok a.lines.items) }
+    ensures made { let over = with_sources (local_configuration (map named variables.items)) (named_sources value custom.items) in
+        IfOk result (λ a. GrowsByCall ⟦<D as Devices>⟧ over world.old world.new a.is_ok a.lines.items) }
     ensures stopped { OnErr result (Stopped ⟦<D as Devices>⟧ world.old world.new) }
 {
     let env = Env::new(alloc, variables)?;
     let config = ProviderConfig::without_region(alloc)?.with_env(env);
-    let chain = chain_of(alloc, config, None, world)?;
-    call(alloc, &chain, custom, world)
+    let chain = chain_over(alloc, config, None, custom)?;
+    call(alloc, &chain, world)
 }
 
 // One call of the chain, and its line. The entries that the journal had before are not among its questions.
 fn call<D: Devices>(
     alloc: Global,
     chain: &DefaultCredentialsChain,
-    custom: &[CustomSource],
     world: &mut World<D>,
 ) -> Result<Answered, OutOfMemory>
-    ensures made { IfOk result (λ a. GrowsByCall ⟦<D as Devices>⟧ chain.now (named_sources value custom.now) world.old world.new a.is_ok a.lines.items) }
+    ensures made { IfOk result (λ a. GrowsByCall ⟦<D as Devices>⟧ (chain_of value repeated chain.now) world.old world.new a.is_ok a.lines.items) }
     ensures stopped { OnErr result (Stopped ⟦<D as Devices>⟧ world.old world.new) }
 {
     let before = world.journal().len();
     let mut kept = chain.new_kept()?;
     let outcome = Outcome {
-        answer: chain.provide_credentials(custom, None, &mut kept, world),
+        answer: chain.provide_credentials(&mut kept, world),
     };
     let mut lines = Vec::new(alloc);
     let is_ok = tell(

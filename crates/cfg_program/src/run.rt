@@ -1,22 +1,23 @@
 ghost use Rattle.std.specs.Prelude.{◌≡◌, ◌≤◌, IsTrue, None, false, IfOk, MatchResult, map, string_bytes};
-ghost use Rattle.cfg_values.specs.TextMap.{named};
+ghost use Rattle.cfg_base.specs.TextMap.{named};
 ghost use Rattle.cfg_world.specs.Script.{AllFit};
-ghost use Rattle.cfg_chain.specs.Sources.{named_sources};
+ghost use Rattle.cfg_chain.specs.Views.{named_sources};
 ghost use Rattle.cfg_script.specs.Script.{plain};
 ghost use Rattle.cfg_script.specs.Devices.{lists_of};
 ghost use Rattle.cfg_script.specs.Reading.{script_of};
-ghost use Rattle.cfg_program.specs.Words.{word_named, is_word};
+ghost use Rattle.cfg_program.specs.Commands.{command_named, is_command, most_profiles};
 ghost use Rattle.cfg_program.specs.Scripts.{reads_input, script_of_one_call};
 ghost use Rattle.cfg_program.specs.Written.{TextWritten, LinesWritten};
 ghost use Rattle.cfg_program.specs.Calls.{Answers};
 ghost use Rattle.cfg_program.specs.Regions.{RegionAnswers};
 ghost use Rattle.cfg_program.specs.Tokens.{TokenAnswers};
 ghost use Rattle.cfg_program.specs.Local.{LeavesWorld, WorldAfter};
-ghost use Rattle.cfg_program.specs.Run.{EndsRun, EndsReading, EndsUnread, EndsLocal, IsScript, source_seen, sink_seen, world_seen};
+ghost use Rattle.cfg_program.specs.Streams.{source_seen, sink_seen};
+ghost use Rattle.cfg_program.specs.Run.{EndsRun, EndsReading, EndsUnread, EndsLocal, IsScript, world_seen};
 ghost use Rattle.cfg_program.specs.Exclusion.{comes};
 ghost use Rattle.cfg_program.specs.Generated.{GeneratedWritten};
-ghost use Rattle.cfg_program.specs.declared.words.TheConstants.{MOST_PROFILES};
 
+use crate::commands::{Command, HELP, VERSION, command_of};
 use crate::generated::generate;
 use crate::input::{InputError, read_all};
 use crate::lines::LineForm;
@@ -27,59 +28,58 @@ use crate::region::find_region;
 use crate::resolve::resolve;
 use crate::status::Status;
 use crate::token::find_token;
-use crate::words::{HELP, VERSION, Word, word_of};
 use cfg_providers::CustomSource;
 use cfg_script::{Script, ScriptError, read_script};
 use cfg_types::{EnvText, OutOfMemory};
 use cfg_world::{Devices, Sink, Source, StreamFault, World};
 use std::alloc::Global;
 
-/// Does what the words ask for: tells a text, or reads a script from the source and writes the lines
+/// Does what the program's arguments ask for: tells a text, or reads a script from the source and writes the lines
 /// of its calls, or of its default region or token chain, to the sink, or writes the line of the call
 /// over a set of profiles that comes from a number, or of the call over `env` and the world. It answers how that
-/// ended. The words are tested first: without one that reads a script the source stays as it was, and for an
-/// unknown command the sink too. Nothing is written before the script was read to its end. The words `resolve`,
-/// `why` and `local` alone lend the sources in `custom`, which profiles find by `credential_source`. The word
+/// ended. The arguments are read first: where they are no command that reads a script the source stays as it was, and for an
+/// unknown command the sink too. Nothing is written before the script was read to its end. The commands `resolve`,
+/// `why` and `local` alone give their chain the sources in `custom`, which profiles find by `credential_source`. The command
 /// `local` alone asks the world, whose journal gains its questions; without it `env` is left aside, and the world
 /// stays as it was.
 pub fn run<S: Source, K: Sink, D: Devices>(
     alloc: Global,
-    words: &[String],
+    arguments: &[String],
     source: &mut S,
     sink: &mut K,
     env: Vec<(String, EnvText)>,
     world: &mut World<D>,
-    custom: &[CustomSource],
+    custom: Vec<CustomSource>,
 ) -> Status
     ensures ends { EndsRun
         (record {
-          source = source_seen (S.left source.old) (S.left source.new) (S.faults source.old) (S.faults source.new);
-          sink = sink_seen (K.written sink.old) (K.written sink.new) (K.faults sink.old) (K.faults sink.new);
+          source = source_seen ⟦<S as Source>⟧ source.old source.new;
+          sink = sink_seen ⟦<K as Sink>⟧ sink.old sink.new;
           world = world_seen world.old.journal world.new.journal;
         })
-        (record { sources = named_sources value custom.now; variables = map named env.items })
-        (word_named (map (λ w. string_bytes w) words.now)) result }
-    ensures unread { is_word reads_input (word_named (map (λ w. string_bytes w) words.now)) ≡ false → source.new ≡ source.old }
-    ensures unwritten { word_named (map (λ w. string_bytes w) words.now) ≡ None → sink.new ≡ sink.old }
-    ensures world { WorldAfter ⟦<D as Devices>⟧ (word_named (map (λ w. string_bytes w) words.now)) world.old world.new result }
+        (record { sources = named_sources value custom.items; variables = map named env.items })
+        (command_named (map (λ a. string_bytes a) arguments.now)) result }
+    ensures unread { is_command reads_input (command_named (map (λ a. string_bytes a) arguments.now)) ≡ false → source.new ≡ source.old }
+    ensures unwritten { command_named (map (λ a. string_bytes a) arguments.now) ≡ None → sink.new ≡ sink.old }
+    ensures world { WorldAfter ⟦<D as Devices>⟧ (command_named (map (λ a. string_bytes a) arguments.now)) world.old world.new result }
     ensures comes { IsTrue (comes result) }
 {
-    match word_of(words) {
-        None => Status::Words,
-        Some(Word::Help) => tell(sink, HELP),
-        Some(Word::Version) => tell(sink, VERSION),
-        Some(Word::Resolve) => resolve_script(alloc, source, sink, custom, LineForm::Call),
-        Some(Word::Why) => resolve_script(alloc, source, sink, custom, LineForm::Why),
-        Some(Word::Region) => region_line(alloc, source, sink),
-        Some(Word::Token) => token_line(alloc, source, sink),
-        Some(Word::Local) => local_line(alloc, sink, env, world, custom),
-        Some(Word::Generate(n)) => generate_line(alloc, n, sink),
+    match command_of(arguments) {
+        None => Status::UnknownCommand,
+        Some(Command::Help) => tell(sink, HELP),
+        Some(Command::Version) => tell(sink, VERSION),
+        Some(Command::Resolve) => resolve_script(alloc, source, sink, custom, LineForm::Call),
+        Some(Command::Why) => resolve_script(alloc, source, sink, custom, LineForm::Why),
+        Some(Command::Region) => region_line(alloc, source, sink),
+        Some(Command::Token) => token_line(alloc, source, sink),
+        Some(Command::Local) => local_line(alloc, sink, env, world, custom),
+        Some(Command::Generate(n)) => generate_line(alloc, n, sink),
     }
 }
 
 // Tells a text.
 fn tell<K: Sink>(sink: &mut K, text: &str) -> Status
-    ensures { TextWritten (K.written sink.old) (K.written sink.new) (K.faults sink.old) (K.faults sink.new) text.now result }
+    ensures { TextWritten (sink_seen ⟦<K as Sink>⟧ sink.old sink.new) text.now result }
 {
     match write_all(sink, text.as_bytes()) {
         Ok(()) => Status::Done,
@@ -93,10 +93,11 @@ fn resolve_script<S: Source, K: Sink>(
     alloc: Global,
     source: &mut S,
     sink: &mut K,
-    custom: &[CustomSource],
+    custom: Vec<CustomSource>,
     form: LineForm,
 ) -> Status
-    ensures { EndsReading (source_seen (S.left source.old) (S.left source.new) (S.faults source.old) (S.faults source.new)) (sink_seen (K.written sink.old) (K.written sink.new) (K.faults sink.old) (K.faults sink.new)) script_of (Answers (named_sources value custom.now) form) result }
+    ensures { EndsReading (source_seen ⟦<S as Source>⟧ source.old source.new) (sink_seen ⟦<K as Sink>⟧ sink.old sink.new)
+        script_of (Answers (named_sources value custom.items) form) result }
 {
     match script_in(alloc, source) {
         Ok(script) => match resolve(alloc, script, custom, form) {
@@ -109,7 +110,8 @@ fn resolve_script<S: Source, K: Sink>(
 
 // Reads a script of one call, makes the call of its default region chain, and writes its line.
 fn region_line<S: Source, K: Sink>(alloc: Global, source: &mut S, sink: &mut K) -> Status
-    ensures { EndsReading (source_seen (S.left source.old) (S.left source.new) (S.faults source.old) (S.faults source.new)) (sink_seen (K.written sink.old) (K.written sink.new) (K.faults sink.old) (K.faults sink.new)) script_of_one_call RegionAnswers result }
+    ensures { EndsReading (source_seen ⟦<S as Source>⟧ source.old source.new) (sink_seen ⟦<K as Sink>⟧ sink.old sink.new)
+        script_of_one_call RegionAnswers result }
 {
     match one_call_in(alloc, source) {
         Ok(script) => match find_region(alloc, script) {
@@ -122,7 +124,8 @@ fn region_line<S: Source, K: Sink>(alloc: Global, source: &mut S, sink: &mut K) 
 
 // Reads a script of one call, makes the call of its default token chain, and writes its line.
 fn token_line<S: Source, K: Sink>(alloc: Global, source: &mut S, sink: &mut K) -> Status
-    ensures { EndsReading (source_seen (S.left source.old) (S.left source.new) (S.faults source.old) (S.faults source.new)) (sink_seen (K.written sink.old) (K.written sink.new) (K.faults sink.old) (K.faults sink.new)) script_of_one_call TokenAnswers result }
+    ensures { EndsReading (source_seen ⟦<S as Source>⟧ source.old source.new) (sink_seen ⟦<K as Sink>⟧ sink.old sink.new)
+        script_of_one_call TokenAnswers result }
 {
     match one_call_in(alloc, source) {
         Ok(script) => match find_token(alloc, script) {
@@ -135,11 +138,13 @@ fn token_line<S: Source, K: Sink>(alloc: Global, source: &mut S, sink: &mut K) -
 
 // The script of one call that the source has, or how a run ends that finds none.
 fn one_call_in<S: Source>(alloc: Global, source: &mut S) -> Result<Script, Status>
-    ensures read { let seen = source_seen (S.left source.old) (S.left source.new) (S.faults source.old) (S.faults source.new) in MatchResult result (λ script. IsScript seen script_of_one_call (plain script)) (λ ended. EndsUnread seen script_of_one_call ended) }
+    ensures read { let seen = source_seen ⟦<S as Source>⟧ source.old source.new in
+        MatchResult result (λ script. IsScript seen script_of_one_call (plain script)) (λ ended. EndsUnread seen script_of_one_call ended) }
     ensures fit { IfOk result (λ script. AllFit (lists_of (plain script))) }
 {
     match script_in(alloc, source) {
         Ok(script) => {
+            // The commands that read such a script write one line.
             if script.calls == 1 {
                 Ok(script)
             } else {
@@ -152,7 +157,8 @@ fn one_call_in<S: Source>(alloc: Global, source: &mut S) -> Result<Script, Statu
 
 // The script that the source has, or how a run ends that finds none.
 fn script_in<S: Source>(alloc: Global, source: &mut S) -> Result<Script, Status>
-    ensures read { let seen = source_seen (S.left source.old) (S.left source.new) (S.faults source.old) (S.faults source.new) in MatchResult result (λ script. IsScript seen script_of (plain script)) (λ ended. EndsUnread seen script_of ended) }
+    ensures read { let seen = source_seen ⟦<S as Source>⟧ source.old source.new in
+        MatchResult result (λ script. IsScript seen script_of (plain script)) (λ ended. EndsUnread seen script_of ended) }
     ensures fit { IfOk result (λ script. AllFit (lists_of (plain script))) }
 {
     let bytes = match read_all(alloc, source) {
@@ -174,9 +180,10 @@ fn local_line<K: Sink, D: Devices>(
     sink: &mut K,
     env: Vec<(String, EnvText)>,
     world: &mut World<D>,
-    custom: &[CustomSource],
+    custom: Vec<CustomSource>,
 ) -> Status
-    ensures ends { EndsLocal (sink_seen (K.written sink.old) (K.written sink.new) (K.faults sink.old) (K.faults sink.new)) (world_seen world.old.journal world.new.journal) (record { sources = named_sources value custom.now; variables = map named env.items }) result }
+    ensures ends { EndsLocal (sink_seen ⟦<K as Sink>⟧ sink.old sink.new) (world_seen world.old.journal world.new.journal)
+        (record { sources = named_sources value custom.items; variables = map named env.items }) result }
     ensures leaves { LeavesWorld ⟦<D as Devices>⟧ world.old world.new result }
 {
     match call_locally(alloc, env, custom, world) {
@@ -187,8 +194,8 @@ fn local_line<K: Sink, D: Devices>(
 
 // Makes the call over the set of n profiles, and writes its line.
 fn generate_line<K: Sink>(alloc: Global, n: u64, sink: &mut K) -> Status
-    requires { n ≤ MOST_PROFILES }
-    ensures { GeneratedWritten (K.written sink.old) (K.written sink.new) (K.faults sink.old) (K.faults sink.new) n result }
+    requires { n ≤ most_profiles }
+    ensures { GeneratedWritten (sink_seen ⟦<K as Sink>⟧ sink.old sink.new) n result }
 {
     match generate(alloc, n) {
         Ok(answered) => write_lines(sink, &answered),
@@ -198,7 +205,7 @@ fn generate_line<K: Sink>(alloc: Global, n: u64, sink: &mut K) -> Status
 
 // Writes the lines of calls.
 fn write_lines<K: Sink>(sink: &mut K, answered: &Answered) -> Status
-    ensures { LinesWritten (K.written sink.old) (K.written sink.new) (K.faults sink.old) (K.faults sink.new) answered.now.is_ok answered.now.lines.items result }
+    ensures { LinesWritten (sink_seen ⟦<K as Sink>⟧ sink.old sink.new) answered.now.is_ok answered.now.lines.items result }
 {
     match write_all(sink, answered.lines.as_slice()) {
         Ok(()) if answered.is_ok => Status::Done,

@@ -9,8 +9,8 @@ pub enum Status {
     /// The last call answered an error, or gave no region.
     Refused,
     /// Unknown command. Nothing was read or written.
-    Words,
-    /// The input is no script, or one of several calls where the word makes one.
+    UnknownCommand,
+    /// The input is no script, or one of several calls where the command makes one.
     NoScript,
     /// The input could not be read.
     SourceFault,
@@ -34,7 +34,7 @@ impl Status {
         match self {
             Status::Done => 0,
             Status::Refused => 1,
-            Status::Words => 2,
+            Status::UnknownCommand => 2,
             Status::NoScript => 3,
             Status::SourceFault => 4,
             Status::SinkFault => 5,

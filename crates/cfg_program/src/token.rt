@@ -5,16 +5,16 @@ ghost use Rattle.cfg_world.specs.Script.{AllFit};
 ghost use Rattle.cfg_script.specs.Script.{plain};
 ghost use Rattle.cfg_script.specs.Devices.{lists_of};
 ghost use Rattle.cfg_sso.specs.BearerTokens.{is_memory};
-ghost use Rattle.cfg_program.specs.Calls.{IsFresh};
+ghost use Rattle.cfg_program.specs.Calls.{in_region, IsFresh};
 ghost use Rattle.cfg_program.specs.Tokens.{shown_bearer, shown_token, TellsToken, TokenAnswers};
 
 use crate::configuration::{configuration, region_named};
 use crate::lines::{write_expiry, write_kinds, write_word};
 use crate::outcome::Answered;
-use cfg_bearer::DefaultTokenChain;
 use cfg_profile::ProviderConfig;
 use cfg_region::RegionSource;
 use cfg_script::Script;
+use cfg_token_chain::DefaultTokenChain;
 use cfg_types::{OutOfMemory, Region, Token, TokenError};
 use cfg_world::{Devices, Entry, ScriptDevices, World};
 use std::alloc::{AllocError, Global};
@@ -50,7 +50,7 @@ fn token_chain<D: Devices>(
     region: Option<Region>,
     world: &mut World<D>,
 ) -> Result<DefaultTokenChain, OutOfMemory>
-    ensures chain { IfOk result (λ chain. chain ≡ record config { region = region }) }
+    ensures chain { IfOk result (λ chain. chain ≡ in_region config region) }
     ensures world { IfOk result (λ chain. Grows ⟦<D as Devices>⟧ [] world.old world.new) }
 {
     let builder = DefaultTokenChain::builder(alloc)?.configure(config);

@@ -2,6 +2,6 @@
 #![tactic(auto)]
 
 #[cfg(test)]
-mod bearer;
-#[cfg(test)]
 mod program;
+#[cfg(test)]
+mod token_chain;

@@ -9,7 +9,7 @@ use Rattle.cfg_types.specs.declared.errors.CredentialsError as errors
 use denote.Hole.Carrier as carrier
 use Rattle.cfg_types.specs.declared.credentials.AwsCredentialFeature.TheVariants.{CredentialsEnvVars}
 use Rattle.cfg_types.specs.Environment.{Variables, variable}
-use Rattle.cfg_values.specs.Gives.{◌>>=◌}
+use Rattle.cfg_base.specs.Gives.{◌>>=◌}
 use Rattle.cfg_providers.specs.EnvironmentKeys.{not_set, required_by, secret_or, optional, usable, is_not_unicode, environment}
 use Rattle.cfg_types.specs.Classes.{is_not_loaded_answer}
 use Rattle.cfg_providers.specs.EnvironmentCauses.{not_unicode, environment_is_passed_over, unreadable_variable, why_environment, named_variable}

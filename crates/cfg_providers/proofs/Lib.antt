@@ -4,6 +4,7 @@ pub mod EnvironmentFailures
 pub mod QuietSteps
 pub mod SessionSteps
 pub mod RoleSteps
+pub mod RoleCauses
 pub mod IdentitySteps
 pub mod Colons
 pub mod Versions

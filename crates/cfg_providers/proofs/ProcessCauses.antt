@@ -16,23 +16,23 @@ use Rattle.cfg_world.specs.Leaves.{running, finished_of}
 use Rattle.cfg_providers.specs.ProcessDocuments.{process_document}
 use Rattle.cfg_json.specs.Reading.{utf8_of}
 use Rattle.cfg_providers.specs.Utf8.{text_in}
-use Rattle.cfg_providers.specs.Processes.{or_no_document, by_text, ran, process_error, or_told, process_answer, credential_process, why_document, why_text, why_run, why_process}
+use Rattle.cfg_providers.specs.Processes.{or_no_document, output_credentials, run_credentials, process_error, or_process_error, process_answer, credential_process, why_document, why_text, why_run, why_process}
 
-document_cause : (r : Read Keys) → result_err (or_told (or_no_document r)) ≡ option_map process_error (why_document r)
+document_cause : (r : Read Keys) → result_err (or_process_error (or_no_document r)) ≡ option_map process_error (why_document r)
 document_cause (Ok keys) = refl
 document_cause (Err e) = refl
 
-text_cause : (account text : Option (List ℕ)) → result_err (or_told (by_text account text)) ≡ option_map process_error (why_text account text)
+text_cause : (account text : Option (List ℕ)) → result_err (or_process_error (output_credentials account text)) ≡ option_map process_error (why_text account text)
 text_cause account None = refl
 text_cause account (Some text) = document_cause (process_document text account)
 
 ended_cause : (account : Option (List ℕ)) (f : Finished) (b : Bool) →
-    result_err (or_told (if b then by_text account (utf8_of f.output) else Err (cause.Status f.status (text_in f.errors))))
+    result_err (or_process_error (if b then output_credentials account (utf8_of f.output) else Err (cause.Status f.status (text_in f.errors))))
     ≡ option_map process_error (if b then why_text account (utf8_of f.output) else Some (cause.Status f.status (text_in f.errors)))
 ended_cause account f true = text_cause account (utf8_of f.output)
 ended_cause account f false = refl
 
-run_cause : (account : Option (List ℕ)) (given : Answer) → result_err (or_told (ran account (finished_of given))) ≡ option_map process_error (why_run account given)
+run_cause : (account : Option (List ℕ)) (given : Answer) → result_err (or_process_error (run_credentials account (finished_of given))) ≡ option_map process_error (why_run account given)
 run_cause account (answer.Finished f) = ended_cause account f (int_eq f.status (pos 0))
 run_cause account (answer.Moment m) = refl
 run_cause account (answer.Jitter n) = refl

@@ -1,6 +1,6 @@
 -- A name made from a reading of the clock.
 use Rattle.std.proofs.Common.{◌≡◌, ℕ, List, Option, None, sym, subst}
-use Rattle.cfg_values.specs.Moment.{Moment}
+use Rattle.cfg_base.specs.Moment.{Moment}
 use Rattle.cfg_world.specs.declared.asking.Asking.{Ghosts}
 use Rattle.cfg_world.specs.Inquiry.{Done, after}
 use Rattle.cfg_world.specs.Leaves.{clock}

@@ -1,37 +1,13 @@
 -- The version of a process's document, as a function of its members.
-use Rattle.std.proofs.Common.{◌≡◌, ℕ, ◌<◌, ◌^◌, List, [], ◌∷◌, Bool, true, false, Option, Some, None, refl, ap, arith, tests, lt-ltb, ℤ, pos, negsuc}
-use Rattle.std.specs.Prelude.{◌&&◌, nat_lt, option_map, if◌then◌else◌, FitsSigned}
+use Rattle.std.proofs.Common.{◌≡◌, ℕ, ◌^◌, List, Bool, true, false, Option, Some, None, refl, ap, lt-ltb, ℤ, pos, negsuc}
+use Rattle.std.specs.Prelude.{◌&&◌, option_map, if◌then◌else◌, FitsSigned}
 use Rattle.std.specs.Int.{w32}
-use Rattle.std.specs.List.{list_all}
-use Rattle.std.specs.Char.{is_digit, digit_value}
 use Rattle.std.specs.Str.{encode_utf8_all}
-use Rattle.std.specs.Str.Parse.{AllDigits, IsNumeral, without_leading_sign, signed_digits_value}
+use Rattle.std.specs.Str.Parse.{without_leading_sign, signed_digits_value}
 use Rattle.cfg_json.specs.Documents.{IsWholeNumber, ReadsWhole, ReadsVersion}
 use Rattle.cfg_exchange.specs.Lifetimes.{are_digits}
+use Rattle.cfg_exchange.proofs.Numerals.{less, digits_are, are_numeral}
 use Rattle.cfg_providers.specs.ProcessDocuments.{is_of_32_bits, whole_number, version_number}
-
-less : (n m : ℕ) → nat_lt n m ≡ true → n < m
-less n m h = grind (arith, tests)
-
-both : (a b : Bool) → (a && b) ≡ true → (a ≡ true) × (b ≡ true)
-both true b h = (refl, h)
-both false b h = absurd cc
-
-all_true : (ds : List ℕ) → AllDigits 10 ds → list_all (λ c. is_digit c 10) ds ≡ true
-all_true [] h = refl
-all_true (c ∷ cs) h = rw (lt-ltb (digit_value c) 10 h.0) (all_true cs h.1)
-
-true_all : (ds : List ℕ) → list_all (λ c. is_digit c 10) ds ≡ true → AllDigits 10 ds
-true_all [] h = tt
-true_all (c ∷ cs) h = let p = both (nat_lt (digit_value c) 10) (list_all (λ c. is_digit c 10) cs) h in (less (digit_value c) 10 p.0, true_all cs p.1)
-
-digits_are : (ds : List ℕ) → IsNumeral 10 ds → are_digits ds ≡ true
-digits_are [] h = absurd (omega (arith, h.0))
-digits_are (c ∷ cs) h = all_true (c ∷ cs) h.1
-
-are_numeral : (ds : List ℕ) → are_digits ds ≡ true → IsNumeral 10 ds
-are_numeral [] h = absurd cc
-are_numeral (c ∷ cs) h = (omega arith, true_all (c ∷ cs) h)
 
 fits_is : (n : ℤ) → FitsSigned w32 n → is_of_32_bits n ≡ true
 fits_is (pos n) h = lt-ltb n (2 ^ 31) h.sfits

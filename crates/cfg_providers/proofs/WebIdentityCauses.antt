@@ -1,13 +1,11 @@
 -- The error of web identity, by the last entry of its part.
 use Rattle.std.proofs.Common.{◌≡◌, ℕ, List, [], ◌∷◌, Option, Some, None, Result, Ok, Err, refl, sym, ap, ◌∙◌}
-use Rattle.std.specs.Prelude.{option_map, option_and_then}
+use Rattle.std.specs.Prelude.{option_and_then}
 use Rattle.std.specs.List.{last_or}
 use Rattle.std.specs.Result.{result_err}
 use Rattle.cfg_types.specs.Keys.{Keys}
 use Rattle.cfg_types.specs.Replies.{sts_in}
 use Rattle.cfg_types.specs.declared.errors.CredentialsError.{CredentialsError}
-use Rattle.cfg_types.specs.declared.errors.CredentialsError.TheVariants.{Unhandled}
-use Rattle.cfg_types.specs.declared.errors.UnhandledCause.{UnhandledCause}
 use Rattle.cfg_types.specs.declared.reply.sts.StsReply.{StsReply}
 use Rattle.cfg_world.specs.declared.ask.Answer.{Answer}
 use Rattle.cfg_world.specs.declared.ask.Answer.TheVariants as answer
@@ -22,7 +20,7 @@ use Rattle.cfg_providers.specs.declared.web_identity_token.StaticConfiguration.{
 use Rattle.cfg_providers.specs.declared.web_identity_token.SessionPolicies.{SessionPolicies}
 use Rattle.cfg_providers.specs.SessionNames.{session_name}
 use Rattle.cfg_json.specs.Reading.{utf8_of}
-use Rattle.cfg_providers.specs.WebIdentities.{identity_of, or_not_utf8, token_in, identity_token, or_unhandled, identity_answer, with_token, with_name, assumes_by_web_identity, by_identity, web_identity, why_text, why_file, why_granted, why_answer, why_entry, why_web_identity, why_identity}
+use Rattle.cfg_providers.specs.WebIdentities.{identity_of, or_not_utf8, token_in, identity_token, marked, identity_answer, with_token, with_name, assumes_by_web_identity, by_identity, web_identity, why_text, why_file, why_granted, why_answer, why_entry, why_web_identity, why_identity}
 
 text_cause : (text : Option (List ℕ)) → result_err (or_not_utf8 text) ≡ why_text text
 text_cause None = refl
@@ -39,9 +37,9 @@ file_cause file (answer.Addresses addresses) = refl
 file_cause file (answer.Replied reply) = refl
 file_cause file (answer.Failed kind) = refl
 
-reply_cause : (r : Result Keys UnhandledCause) → result_err (or_unhandled r) ≡ option_map Unhandled (result_err r)
+reply_cause : (r : Result Keys CredentialsError) → result_err (marked r) ≡ result_err r
 reply_cause (Ok keys) = refl
-reply_cause (Err reason) = refl
+reply_cause (Err e) = refl
 
 granted_cause : (given : Result StsReply NotGranted) → result_err (identity_answer given) ≡ why_granted given
 unfolding identity_answer

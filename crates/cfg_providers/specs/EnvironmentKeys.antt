@@ -8,9 +8,9 @@ use Rattle.cfg_types.specs.declared.errors.NotLoadedCause.TheVariants.{NotSet}
 use Rattle.cfg_types.specs.declared.errors.UnhandledCause.TheVariants.{NotUnicode}
 use Rattle.cfg_types.specs.declared.credentials.AwsCredentialFeature.TheVariants.{CredentialsEnvVars}
 use Rattle.cfg_types.specs.Keys.{Keys}
-use Rattle.cfg_values.specs.WhiteSpace.{trimmed, is_blank}
+use Rattle.cfg_base.specs.WhiteSpace.{trimmed, is_blank}
 use Rattle.cfg_types.specs.Environment.{Variables, variable}
-use Rattle.cfg_values.specs.Gives.{◌>>=◌}
+use Rattle.cfg_base.specs.Gives.{◌>>=◌}
 use Rattle.cfg_world.specs.Inquiry.{Inquiry, Done}
 
 -- the answer for a variable that is not set, or blank

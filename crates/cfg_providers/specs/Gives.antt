@@ -1,6 +1,6 @@
 -- What a call of the chain answers that may run out of memory.
 use Rattle.std.specs.Prelude.{◌≡◌, Result, Ok, Err}
-use Rattle.cfg_values.specs.Gives.{Gives}
+use Rattle.cfg_base.specs.Gives.{Gives}
 use Rattle.cfg_world.specs.declared.asking.Halt.{Halt}
 use Rattle.cfg_world.specs.declared.asking.Halt.TheVariants.{Stopped, Refused}
 use Rattle.cfg_world.specs.declared.asking.Stop.TheVariants.{OutOfMemory}

@@ -7,6 +7,7 @@ pub mod EnvironmentCauses
 pub mod Sts
 pub mod SessionNames
 pub mod AssumeRole
+pub mod RoleCauses
 pub mod ProcessDocuments
 pub mod ProcessSetups
 pub mod Processes

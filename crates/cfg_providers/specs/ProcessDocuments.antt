@@ -1,17 +1,13 @@
 -- What the document of a credential process says, as a function of its text.
-use Rattle.std.specs.Prelude.{ℕ, ◌^◌, List, Bool, true, false, ◌&&◌, nat_lt, ℤ, pos, negsuc, Option, Some, None, option_map, Result, Ok, Err, if◌then◌else◌}
+use Rattle.std.specs.Prelude.{ℕ, ◌^◌, List, Bool, ◌&&◌, nat_lt, ℤ, pos, negsuc, Option, Some, None, option_map, if◌then◌else◌}
 use Rattle.std.specs.Str.{encode_utf8_all}
 use Rattle.std.specs.Str.Parse.{without_leading_sign, signed_digits_value}
 use Rattle.cfg_types.specs.Keys.{Keys}
 use Rattle.cfg_types.specs.Field.{field_name}
 use Rattle.cfg_types.specs.declared.document.Field.TheVariants as field
-use Rattle.cfg_types.specs.declared.document.JsonError.{JsonError}
-use Rattle.cfg_types.specs.declared.document.JsonError.TheVariants as json
-use Rattle.cfg_types.specs.declared.document.InvalidJsonCredentials.TheVariants as invalid
 use Rattle.cfg_json.specs.declared.member.Member.{Member}
-use Rattle.cfg_json.specs.Answers.{MemberList, only_list_answer}
 use Rattle.cfg_json.specs.Lookups.{last_number}
-use Rattle.cfg_json.specs.Documents.{Read, process_of, more_tokens}
+use Rattle.cfg_json.specs.Documents.{Read, process_of, said_by}
 use Rattle.cfg_exchange.specs.Lifetimes.{are_digits}
 
 -- from -2^31 to 2^31 - 1; `negsuc n` is -(n + 1)
@@ -30,17 +26,11 @@ version_number text = whole_number (encode_utf8_all text)
 abbrev pub version : List Member → Option (Option ℤ)
 version members = option_map version_number (last_number (field_name field.Version) members)
 
-abbrev pub by_members : Option (List ℕ) → Result MemberList JsonError → Read Keys
-by_members account (Ok members) = process_of members.0 (version members.0) account
-by_members account (Err json.More) = Err (invalid.Other more_tokens)
-by_members account (Err e) = Err (invalid.JsonError e)
+-- what the members of a document say, for this account of a profile
+abbrev pub process_table : Option (List ℕ) → List Member → Read Keys
+process_table account members = process_of members (version members) account
 
 -- What the document of a process says, for this account of a profile. A law of this crate ties it to
 -- the grammar: it is the one answer of `parse_credential_process_json_credentials`.
 unfoldable pub process_document : List ℕ → Option (List ℕ) → Read Keys
-process_document text account = by_members account (only_list_answer text)
-
--- whether memory ran out
-abbrev pub is_memory : Read Keys → Bool
-is_memory (Err invalid.OutOfMemory) = true
-is_memory _ = false
+process_document text account = said_by (process_table account) text

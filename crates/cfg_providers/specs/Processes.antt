@@ -29,29 +29,26 @@ abbrev pub or_no_document : Read Keys → Result Keys ProcessCause
 or_no_document (Ok keys) = Ok (by_process keys)
 or_no_document (Err e) = Err (cause.Document e)
 
--- what a text says that was printed, for this account
-abbrev pub by_text : Option (List ℕ) → Option (List ℕ) → Result Keys ProcessCause
-by_text account (Some text) = or_no_document (process_document text account)
-by_text account None = Err cause.NotUtf8
+-- the credentials in an output, for this account: none where it is no text
+abbrev pub output_credentials : Option (List ℕ) → Option (List ℕ) → Result Keys ProcessCause
+output_credentials account (Some text) = or_no_document (process_document text account)
+output_credentials account None = Err cause.NotUtf8
 
--- what a process gives that ended
-abbrev pub ended : Option (List ℕ) → Finished → Result Keys ProcessCause
-ended account finished = if int_eq finished.status (pos 0) then by_text account (utf8_of finished.output) else Err (cause.Status finished.status (text_in finished.errors))
-
--- what a process gives that was to be run
-abbrev pub ran : Option (List ℕ) → Result Finished FailKind → Result Keys ProcessCause
-ran account (Ok finished) = ended account finished
-ran account (Err kind) = Err cause.NotRun
+-- The credentials of a run, for this account. The output counts only where the status is 0.
+abbrev pub run_credentials : Option (List ℕ) → Result Finished FailKind → Result Keys ProcessCause
+run_credentials account (Err kind) = Err cause.NotRun
+run_credentials account (Ok finished) =
+    if int_eq finished.status (pos 0) then output_credentials account (utf8_of finished.output) else Err (cause.Status finished.status (text_in finished.errors))
 
 abbrev pub process_error : ProcessCause → CredentialsError
 process_error reason = ProviderError (Process reason)
 
-abbrev pub or_told : Result Keys ProcessCause → Result Keys CredentialsError
-or_told (Ok keys) = Ok keys
-or_told (Err reason) = Err (process_error reason)
+abbrev pub or_process_error : Result Keys ProcessCause → Result Keys CredentialsError
+or_process_error (Ok keys) = Ok keys
+or_process_error (Err reason) = Err (process_error reason)
 
 unfoldable pub process_answer : Option (List ℕ) → Result Finished FailKind → Result Keys CredentialsError
-process_answer account finished = or_told (ran account finished)
+process_answer account finished = or_process_error (run_credentials account finished)
 
 -- One run of a command, and what it gives. The account is the document's, or else this one.
 unfoldable pub credential_process : List ℕ → Option (List ℕ) → Inquiry (Result Keys CredentialsError)

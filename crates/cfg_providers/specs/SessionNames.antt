@@ -1,8 +1,8 @@
 -- Names for the sessions of a role.
 use Rattle.std.specs.Prelude.{ℕ, List, ◌++◌, ◌*ℤ◌, ◌+ℤ◌, ◌/◌, pos, Option, Some, None, codes}
 use Rattle.std.specs.Fmt.{signed_decimal}
-use Rattle.cfg_values.specs.Text.{characters}
-use Rattle.cfg_values.specs.Moment.{Moment}
+use Rattle.cfg_base.specs.Text.{characters}
+use Rattle.cfg_base.specs.Moment.{Moment}
 use Rattle.cfg_world.specs.Inquiry.{Inquiry, Done, after}
 use Rattle.cfg_world.specs.Leaves.{clock}
 

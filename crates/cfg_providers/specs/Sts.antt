@@ -1,7 +1,7 @@
 -- Credentials in a reply of the Security Token Service.
 use Rattle.std.specs.Prelude.{ℕ, List, [], ◌∷◌, ◌==◌, Option, Some, None, option_map, option_and_then, Result, Ok, Err, if◌then◌else◌}
 use Rattle.std.specs.Str.{encode_utf8_all}
-use Rattle.cfg_values.specs.Text.{characters}
+use Rattle.cfg_base.specs.Text.{characters}
 use Rattle.cfg_types.specs.Keys.{Keys}
 use Rattle.cfg_types.specs.declared.errors.CredentialsError.{CredentialsError}
 use Rattle.cfg_types.specs.declared.errors.CredentialsError.TheVariants.{Unhandled}
@@ -9,7 +9,7 @@ use Rattle.cfg_types.specs.declared.errors.UnhandledCause.{UnhandledCause}
 use Rattle.cfg_types.specs.declared.errors.UnhandledCause.TheVariants.{StsNoCredentials, StsArn}
 use Rattle.cfg_types.specs.declared.reply.sts.StsReply.{StsReply}
 use Rattle.cfg_types.specs.declared.reply.sts.StsCredentials.{StsCredentials}
-use Rattle.cfg_values.specs.Gives.{◌>>=◌}
+use Rattle.cfg_base.specs.Gives.{◌>>=◌}
 
 -- the bytes behind the first `:`, where there is one
 abbrev pub behind_colon : List ℕ → Option (List ℕ)
@@ -59,6 +59,11 @@ keys_in (Some given) arn provider = account_of arn >>= λ account. Ok (record {
   features = [];
 })
 
--- the credentials of a reply, from the provider of this name
-unfoldable pub into_credentials : StsReply → List ℕ → Result Keys UnhandledCause
-into_credentials reply provider = keys_in reply.credentials reply.arn provider
+-- what no rule allows for
+abbrev pub or_unhandled : Result Keys UnhandledCause → Result Keys CredentialsError
+or_unhandled (Ok keys) = Ok keys
+or_unhandled (Err cause) = Err (Unhandled cause)
+
+-- the credentials of a reply, from the provider of this name, or why it gives none
+unfoldable pub into_credentials : StsReply → List ℕ → Result Keys CredentialsError
+into_credentials reply provider = or_unhandled (keys_in reply.credentials reply.arn provider)

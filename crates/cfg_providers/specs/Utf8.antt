@@ -1,6 +1,6 @@
 -- Bytes that are to be a text.
 use Rattle.std.specs.Prelude.{ℕ, List, Option, option_map}
-use Rattle.cfg_values.specs.Text.{characters}
+use Rattle.cfg_base.specs.Text.{characters}
 use Rattle.cfg_json.specs.Reading.{utf8_of}
 
 -- their text, where they are UTF-8

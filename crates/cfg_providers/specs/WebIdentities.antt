@@ -1,9 +1,9 @@
 -- Credentials by a web identity token: the contents of a file, which a service takes for a role's.
-use Rattle.std.specs.Prelude.{ℕ, List, [], ◌∷◌, ◌++◌, Option, Some, None, option_map, option_and_then, Result, Ok, Err, codes}
+use Rattle.std.specs.Prelude.{ℕ, List, [], ◌∷◌, ◌++◌, Option, Some, None, option_and_then, Result, Ok, Err, codes}
 use Rattle.std.specs.List.{last_or}
 use Rattle.std.specs.Result.{result_err}
-use Rattle.cfg_values.specs.Text.{characters}
-use Rattle.cfg_values.specs.Gives.{◌>>=◌}
+use Rattle.cfg_base.specs.Text.{characters}
+use Rattle.cfg_base.specs.Gives.{◌>>=◌}
 use Rattle.cfg_types.specs.Keys.{Keys}
 use Rattle.cfg_types.specs.Environment.{Variables, variable, text_read}
 use Rattle.cfg_types.specs.Replies.{sts_in}
@@ -12,7 +12,6 @@ use Rattle.cfg_types.specs.declared.environment.VarError.{VarError}
 use Rattle.cfg_types.specs.declared.errors.CredentialsError.{CredentialsError}
 use Rattle.cfg_types.specs.declared.errors.CredentialsError.TheVariants.{ProviderError, Unhandled}
 use Rattle.cfg_types.specs.declared.errors.ProviderCause.TheVariants as cause
-use Rattle.cfg_types.specs.declared.errors.UnhandledCause.{UnhandledCause}
 use Rattle.cfg_types.specs.declared.errors.UnhandledCause.TheVariants.{NotUtf8}
 use Rattle.cfg_types.specs.declared.reply.FailKind.{FailKind}
 use Rattle.cfg_types.specs.declared.reply.sts.StsReply.{StsReply}
@@ -84,24 +83,28 @@ request conf identity policies name token = record {
   settings = settings_of conf;
 }
 
+-- that request, sent once
+abbrev pub assuming : Configuration → WebIdentity → SessionPolicies → List ℕ → List ℕ → Inquiry (Result StsReply NotGranted)
+assuming conf identity policies name token = assuming_by_web_identity (request conf identity policies name token)
+
 -- credentials by web identity, marked as such
 abbrev pub by_web_identity : Keys → Keys
 by_web_identity keys = record keys { features = keys.features ++ CredentialsProfileStsWebIdToken ∷ [] }
 
-abbrev pub or_unhandled : Result Keys UnhandledCause → Result Keys CredentialsError
-or_unhandled (Ok keys) = Ok (by_web_identity keys)
-or_unhandled (Err reason) = Err (Unhandled reason)
+abbrev pub marked : Result Keys CredentialsError → Result Keys CredentialsError
+marked (Ok keys) = Ok (by_web_identity keys)
+marked (Err e) = Err e
 
 -- what a reply gives, or why it gives nothing
 unfoldable pub identity_answer : Result StsReply NotGranted → Result Keys CredentialsError
 identity_answer (Err (Failed kind)) = Err (ProviderError (cause.Sent kind))
 identity_answer (Err (Refused refusal)) = Err (ProviderError (cause.Refused refusal))
-identity_answer (Ok reply) = or_unhandled (into_credentials reply (codes "WebIdentityToken"))
+identity_answer (Ok reply) = marked (into_credentials reply (codes "WebIdentityToken"))
 
 -- one request with the token, where there is one
 unfoldable pub with_token : Configuration → WebIdentity → SessionPolicies → List ℕ → Result (List ℕ) CredentialsError → Inquiry (Result Keys CredentialsError)
 with_token conf identity policies name (Err e) = Done (Err e)
-with_token conf identity policies name (Ok token) = after (assuming_by_web_identity (request conf identity policies name token)) (λ given. Done (identity_answer given))
+with_token conf identity policies name (Ok token) = after (assuming conf identity policies name token) (λ given. Done (identity_answer given))
 
 -- the file, then one request, for a session of this name
 abbrev pub with_name : Configuration → WebIdentity → SessionPolicies → List ℕ → Inquiry (Result Keys CredentialsError)
@@ -134,7 +137,7 @@ why_file file _ = Some (ProviderError (cause.File file))
 abbrev pub why_granted : Result StsReply NotGranted → Option CredentialsError
 why_granted (Err (Failed kind)) = Some (ProviderError (cause.Sent kind))
 why_granted (Err (Refused refusal)) = Some (ProviderError (cause.Refused refusal))
-why_granted (Ok reply) = option_map Unhandled (result_err (into_credentials reply (codes "WebIdentityToken")))
+why_granted (Ok reply) = result_err (into_credentials reply (codes "WebIdentityToken"))
 
 -- why there are no credentials behind an answer
 abbrev pub why_answer : Question → Answer → Option CredentialsError

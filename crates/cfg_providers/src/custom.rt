@@ -34,31 +34,10 @@ pub trait ProvideCredentials: Send + Sync {
 /// A source with the name that a profile's `credential_source` finds it by.
 #[derive(Drop)]
 pub struct CustomSource {
-    name: Text,
-    provider: CustomProvider,
-}
-
-impl CustomSource {
-    /// A source of this name.
-    pub fn new(name: Text, provider: CustomProvider) -> CustomSource
-        ensures { named value result ≡ (name, value provider) }
-    {
-        CustomSource { name, provider }
-    }
-
-    /// The name of the source.
-    pub fn name(&self) -> &Text
-        ensures { result.now ≡ self.now.name }
-    {
-        &self.name
-    }
-
-    /// What the source answers, with its own errors. `OutOfMemory` where memory runs out.
-    pub fn provide_credentials(&self) -> Result<Credentials, CredentialsError>
-        ensures { is_memory result ≡ false → result ≡ (named value self.now).1 }
-    {
-        self.provider.provide_credentials()
-    }
+    /// The name.
+    pub name: Text,
+    /// What answers under it.
+    pub provider: CustomProvider,
 }
 
 /// The last of these sources that has the name, ASCII case of letters apart. Every other byte counts,
@@ -68,7 +47,7 @@ pub fn custom_source<'a>(sources: &'a [CustomSource], name: &Text) -> Option<&'a
 {
     let mut found = None;
     for source in sources {
-        if is_named(name, source.name()) {
+        if is_named(name, &source.name) {
             found = Some(source);
         }
     }
@@ -86,7 +65,7 @@ pub fn provide_by_name(
 {
     match custom_source(sources, name) {
         None => None,
-        Some(source) => Some(source.provide_credentials()),
+        Some(source) => Some(source.provider.provide_credentials()),
     }
 }
 
@@ -96,7 +75,7 @@ pub fn names_of(alloc: Global, sources: &[CustomSource]) -> Result<Vec<Text>, Ou
 {
     let mut names = Vec::new(alloc);
     for source in sources {
-        let name = source.name().copy(alloc)?;
+        let name = source.name.copy(alloc)?;
         names.push(name)?;
     }
     Ok(names)

@@ -6,7 +6,7 @@ ghost use Rattle.cfg_exchange.specs.Containers.{IsContainerUri, FollowsContainer
 ghost use Rattle.cfg_types.specs.Classes.{is_memory};
 ghost use Rattle.cfg_providers.specs.ContainerSetups.{container_setup, settings_in, asks_container, ProvidesContainer, InterruptedContainer};
 
-use cfg_exchange::{
+use cfg_exchange::steps::{
     ContainerSettings, ContainerUri, container_credentials, container_uri, follow_container,
 };
 use cfg_profile::ProviderConfig;

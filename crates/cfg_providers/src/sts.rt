@@ -1,7 +1,7 @@
 //! Credentials in the replies of AWS STS.
 ghost use Rattle.std.specs.Prelude.{◌≡◌, IfOk, option_map};
-ghost use Rattle.cfg_values.specs.Gives.{Gives};
-ghost use Rattle.cfg_values.specs.Text.{characters};
+ghost use Rattle.cfg_base.specs.Gives.{Gives};
+ghost use Rattle.cfg_base.specs.Text.{characters};
 ghost use Rattle.cfg_types.specs.declared.errors.CredentialsError.TheVariants.{OutOfMemory as memory};
 ghost use Rattle.cfg_providers.specs.Sts.{parsed_account, behind_colon as behind, before_colon as before, fifth_part as fifth_part_of, account_of as reply_account, into_credentials as credentials_in};
 
@@ -16,27 +16,39 @@ use std::alloc::Global;
 ///
 /// # Errors
 ///
-/// `StsNoCredentials`: the reply has no credentials. `StsArn` with the ARN: it has fewer than five parts.
-/// `OutOfMemory` where memory runs out.
-#[tactic(auto, unfolding(crate::specs::Sts::into_credentials))]
+/// `Unhandled(StsNoCredentials)`: the reply has no credentials. `Unhandled(StsArn)` with the ARN: it has
+/// credentials, and an ARN of fewer than five parts. `OutOfMemory` where memory runs out.
 pub fn into_credentials(
     alloc: Global,
     reply: &StsReply,
-    provider: &str,
-) -> Result<Result<Credentials, UnhandledCause>, OutOfMemory>
-    ensures { IfOk result (λ r. r ≡ credentials_in reply.now (characters provider.now)) }
+    provider_name: &str,
+) -> Result<Credentials, CredentialsError>
+    ensures { Gives memory result (λ answer. answer ≡ credentials_in reply.now (characters provider_name.now)) }
+{
+    reply_credentials(alloc, reply, provider_name)?
+}
+
+/// The same as [`into_credentials`], with the errors of the reply apart from `OutOfMemory`.
+#[tactic(auto, unfolding(crate::specs::Sts::into_credentials))]
+pub fn reply_credentials(
+    alloc: Global,
+    reply: &StsReply,
+    provider_name: &str,
+) -> Result<Result<Credentials, CredentialsError>, OutOfMemory>
+    ensures { IfOk result (λ r. r ≡ credentials_in reply.now (characters provider_name.now)) }
 {
     let Some(keys) = &reply.credentials else {
-        return Ok(Err(UnhandledCause::StsNoCredentials));
+        let cause = UnhandledCause::StsNoCredentials;
+        return Ok(Err(CredentialsError::Unhandled(cause)));
     };
     let account = match account_of(alloc, &reply.arn)? {
         Ok(account) => account,
-        Err(cause) => return Ok(Err(cause)),
+        Err(cause) => return Ok(Err(CredentialsError::Unhandled(cause))),
     };
     let token = keys.session_token.copy(alloc)?;
     let id = keys.access_key_id.as_str();
     let secret = keys.secret_access_key.as_str();
-    let mut builder = CredentialsBuilder::new(alloc, id, secret, provider)?;
+    let mut builder = CredentialsBuilder::new(alloc, id, secret, provider_name)?;
     builder
         .set_session_token(Some(token))
         .set_expiry(Some(keys.expiration))

@@ -1,17 +1,17 @@
 //! Credentials by a web identity token.
 ghost use Rattle.std.specs.Prelude.{◌≡◌, IfOk, Some, None, true, false, map, option_map, string_bytes};
-ghost use Rattle.cfg_values.specs.Text.{characters};
+ghost use Rattle.cfg_base.specs.Text.{characters};
 ghost use Rattle.cfg_types.specs.Environment.{variable, text_read};
 ghost use Rattle.cfg_world.specs.Follows.{Follows};
-ghost use Rattle.cfg_world.specs.Leaves.{reading_file, assuming_by_web_identity};
 ghost use Rattle.cfg_profile.specs.Configuration.{nothing_configured};
 ghost use Rattle.cfg_providers.specs.Gives.{GivesAnswer};
 ghost use Rattle.cfg_types.specs.Classes.{is_memory};
 ghost use Rattle.cfg_providers.specs.Provides.{Provides, Interrupted};
-ghost use Rattle.cfg_providers.specs.WebIdentities.{needed as needed_of, identity_in as identity_in_of, identity_of, token_in as token_in_of, identity_token as identity_token_of, no_policies, request as request_of, by_web_identity, identity_answer as identity_answer_of, with_token as with_token_of, assumes_by_web_identity, web_identity as web_identity_of, why_web_identity};
+ghost use Rattle.cfg_providers.specs.WebIdentities.{needed as needed_of, identity_in as identity_in_of, identity_of, token_in as token_in_of, identity_token as identity_token_of, no_policies, request as request_of, by_web_identity, identity_answer as identity_answer_of, with_token as with_token_of, assuming, assumes_by_web_identity, web_identity as web_identity_of};
+ghost use Rattle.cfg_providers.specs.WebIdentitySetups.{asks_identity, why_none, text_of_string};
 
 use crate::session_name::session_name;
-use crate::sts::into_credentials;
+use crate::sts::reply_credentials;
 use cfg_json::utf8_text;
 use cfg_profile::{ProviderConfig, call_settings};
 use cfg_types::{
@@ -64,6 +64,16 @@ impl Drop for StaticConfiguration {
             role_arn: _,
             session_name: _,
         } = self;
+    }
+}
+
+impl TryCopy for StaticConfiguration {
+    fn copy(&self, alloc: Global) -> Result<StaticConfiguration, OutOfMemory> {
+        Ok(StaticConfiguration {
+            web_identity_token_file: self.web_identity_token_file.copy(alloc)?,
+            role_arn: self.role_arn.copy(alloc)?,
+            session_name: self.session_name.copy(alloc)?,
+        })
     }
 }
 
@@ -157,7 +167,8 @@ fn identity_in(alloc: Global, env: &Env) -> Result<WebIdentity, Halt<Credentials
     })
 }
 
-// What a variable is set to, where that is a text.
+// What a variable is set to, where that is a text. The empty text counts: aws-config tests only whether the
+// variable is there.
 fn readable(alloc: Global, env: &Env, name: &str) -> Result<Option<Text>, OutOfMemory>
     ensures { IfOk result (λ text. text ≡ text_read (variable env.now name.now)) }
 {
@@ -167,7 +178,7 @@ fn readable(alloc: Global, env: &Env, name: &str) -> Result<Option<Text>, OutOfM
     }
 }
 
-// A variable that has to be set to a text.
+// A variable that has to be set to a text, if an empty one.
 fn needed(alloc: Global, env: &Env, name: &str) -> Result<Text, Halt<CredentialsError>>
     ensures { GivesAnswer (λ text. text) result (needed_of (characters name.now) (variable env.now name.now)) }
 {
@@ -212,21 +223,9 @@ fn identity_token<A: Asking>(
 ) -> Result<Result<Text, CredentialsError>, Stop>
     ensures { Follows ⟦<A as Asking>⟧ (identity_token_of file.now) asking.old asking.new result }
 {
-    let contents = contents(alloc, file, asking)?;
+    let contents = read_file(alloc, file, asking)?;
     let token = token_in(alloc, file, contents)?;
     Ok(token)
-}
-
-#[tactic(auto, using(cfg_world::proofs::Inquiries::asking_steps))]
-fn contents<A: Asking>(
-    alloc: Global,
-    file: &Text,
-    asking: &mut A,
-) -> Result<Result<Bytes, FailKind>, Stop>
-    ensures { Follows ⟦<A as Asking>⟧ (reading_file file.now) asking.old asking.new result }
-{
-    let path = file.copy(alloc)?;
-    read_file(alloc, path, asking)
 }
 
 #[tactic(auto, unfolding(crate::specs::WebIdentities::token_in))]
@@ -242,6 +241,7 @@ fn token_in(
         return Ok(Err(CredentialsError::ProviderError(cause)));
     };
     match utf8_text(bytes.as_slice()) {
+        // The whole text is the token, white space and line ends too.
         Some(text) => Ok(Ok(Text::of(alloc, text)?)),
         None => Ok(Err(CredentialsError::Unhandled(UnhandledCause::NotUtf8))),
     }
@@ -288,7 +288,7 @@ fn send<A: Asking>(
     token: Text,
     asking: &mut A,
 ) -> Result<Result<StsReply, NotGranted>, Stop>
-    ensures { Follows ⟦<A as Asking>⟧ (assuming_by_web_identity (request_of config.now identity.now policies.now session_name token)) asking.old asking.new result }
+    ensures { Follows ⟦<A as Asking>⟧ (assuming config.now identity.now policies.now session_name token) asking.old asking.new result }
 {
     let request = request(alloc, config, identity, policies, session_name, token)?;
     assume_role_with_web_identity(alloc, request, asking)
@@ -327,9 +327,9 @@ fn identity_answer(
     ensures { IfOk result (λ r. identity_answer_of answer ≡ r) }
 {
     match answer {
-        Ok(reply) => match into_credentials(alloc, &reply, "WebIdentityToken")? {
+        Ok(reply) => match reply_credentials(alloc, &reply, "WebIdentityToken")? {
             Ok(credentials) => Ok(Ok(mark(credentials)?)),
-            Err(cause) => Ok(Err(CredentialsError::Unhandled(cause))),
+            Err(error) => Ok(Err(error)),
         },
         Err(NotGranted::Refused(refusal)) => {
             let cause = ProviderCause::Refused(refusal);
@@ -411,7 +411,7 @@ impl Builder {
     /// With the managed policies of these ARNs for its sessions, in place of those that it had. They
     /// are sent in this order, and none is read here. `OutOfMemory` where memory runs out.
     pub fn policy_arns(mut self, policy_arns: Vec<String>) -> Result<Builder, OutOfMemory>
-        ensures { IfOk result (λ b. b ≡ record self { policies = record self.policies { policy_arns = Some (map (λ arn. characters (string_bytes arn)) policy_arns.items) } }) }
+        ensures { IfOk result (λ b. b ≡ record self { policies = record self.policies { policy_arns = Some (map text_of_string policy_arns.items) } }) }
     {
         self.policies.policy_arns = Some(texts(self.alloc, policy_arns)?);
         Ok(self)
@@ -486,7 +486,7 @@ impl WebIdentityTokenCredentialsProvider {
         &self,
         asking: &mut A,
     ) -> Result<Result<Credentials, CredentialsError>, Stop>
-        ensures { Follows ⟦<A as Asking>⟧ (web_identity_of self.now.configuration self.now.given self.now.policies) asking.old asking.new result }
+        ensures { Follows ⟦<A as Asking>⟧ (asks_identity self.now) asking.old asking.new result }
     {
         web_identity(
             self.alloc,
@@ -515,8 +515,8 @@ impl WebIdentityTokenCredentialsProvider {
         &self,
         world: &mut World<D>,
     ) -> Result<Credentials, CredentialsError>
-        ensures provides { is_memory result ≡ false → Provides ⟦<D as Devices>⟧ (web_identity_of self.now.configuration self.now.given self.now.policies) (why_web_identity self.now.configuration self.now.given) world.old world.new result }
-        ensures stays { is_memory result ≡ true → Interrupted ⟦<D as Devices>⟧ (web_identity_of self.now.configuration self.now.given self.now.policies) world.old world.new }
+        ensures provides { is_memory result ≡ false → Provides ⟦<D as Devices>⟧ (asks_identity self.now) (why_none self.now) world.old world.new result }
+        ensures stays { is_memory result ≡ true → Interrupted ⟦<D as Devices>⟧ (asks_identity self.now) world.old world.new }
     {
         match self.follow(world) {
             Ok(outcome) => outcome,

@@ -2,10 +2,10 @@
 #![tactic(auto)]
 
 #[cfg(test)]
-mod metadata;
+mod imds_credentials;
+#[cfg(test)]
+mod login;
 #[cfg(test)]
 mod providers;
-#[cfg(test)]
-mod sign_in;
 #[cfg(test)]
 mod sso;

@@ -1,14 +1,14 @@
 -- Calls over a world, from what they follow.
-use Rattle.std.proofs.Common.{◌≡◌, List, [], true, false, Bool, Option, None, refl, sym, ap, ◌∙◌, subst, inr, append-nil}
+use Rattle.std.proofs.Common.{◌≡◌, List, [], true, false, Bool, Option, None, refl, sym, ap, ◌∙◌, subst, ◌⊎◌, inl, inr, append-nil}
 use Rattle.std.specs.Prelude.{Result, Ok, Err, OnErr, IfOk}
 use Rattle.cfg_types.specs.declared.errors.imds.ImdsError.{ImdsError}
 use Rattle.cfg_world.specs.declared.devices.Devices.{Ghosts}
 use Rattle.cfg_world.specs.Fits.{Pair}
 use Rattle.cfg_world.specs.Grows.{Grows, Stays}
 use Rattle.cfg_world.specs.Held.{Held}
-use Rattle.cfg_world.specs.Inquiry.{Done, Reads, Begun, after}
+use Rattle.cfg_world.specs.Inquiry.{Inquiry, Done, Reads, Begun, after}
 use Rattle.cfg_world.proofs.Counts.{Same-refl, StandsOn-none, Counted-none}
-use Rattle.cfg_world.proofs.Inquiries.{reads_after, begun_first}
+use Rattle.cfg_world.proofs.Inquiries.{reads_after, begun_first, begun_here}
 use Rattle.cfg_exchange.proofs.Checks.{read_begun}
 use Rattle.cfg_profile.specs.Configuration.{Configuration}
 use Rattle.cfg_imds.specs.Calls.{is_memory, CallEnds, CallBreaks}
@@ -21,6 +21,15 @@ use Rattle.cfg_region.specs.Defaults.{DefaultRegions, default_tree, IsDefault}
 use Rattle.cfg_region.specs.Environments.{Told}
 use Rattle.cfg_region.specs.Metadata.{IsGot}
 use Rattle.cfg_region.specs.Sources.{ByDefault, tree}
+
+-- what is left by a get that ended, or by one that memory ended
+pub got_leaves : {E B : Type 0} (A : Given → Type 0) (got : Given) (r : Result Told E) → (is_memory got ≡ false → A got) → (is_memory got ≡ true → B) → OnErr r (B ⊎ ((given : Given) × A given))
+got_leaves A got (Ok told) h m = tt
+got_leaves {B = B} A got (Err e) h m =
+    elim (is_memory got) as (λ b. (b ≡ false → A got) → (b ≡ true → B) → B ⊎ ((given : Given) × A given)) [
+      | true ↦ λ ends left. inl (left refl)
+      | false ↦ λ ends left. inr (got, ends refl)
+    ] h m
 
 module _ {D : Type 0} {d : Ghosts D} where
   pub stays_by : (part : List Pair) (old new : Held D) → Grows d part old new → Stays d part old new
@@ -65,6 +74,10 @@ module _ {D : Type 0} {d : Ghosts D} where
         | true ↦ λ ends breaks. let b = breaks refl in begun_got client kept old new b.part b.stays b.begun
         | false ↦ λ ends breaks. let e = ends refl in begun_got client kept old new e.part (stays_by e.part old new e.grows) (read_begun (get client kept region_path) e.part (got, left) e.reads)
       ] h m)
+
+  -- nothing was asked yet
+  pub nothing_asked : {R : Type 0} (asks : Inquiry R) (old : Held D) → CallBreaks d asks old old
+  nothing_asked asks old = record { part = []; stays = stays_by [] old old (grows_here old); begun = begun_here asks }
 
   -- ---- a region for a configuration
 

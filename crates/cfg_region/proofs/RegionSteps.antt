@@ -3,29 +3,18 @@ use Rattle.std.proofs.Common.{◌≡◌, ℕ, ◌+◌, ◌<◌, ◌≤◌, List,
 use Rattle.std.specs.Prelude.{Result, Ok, Err, map}
 use Rattle.std.proofs.Math.Seq.{drop-cons}
 use Rattle.std.proofs.Math.ListN.{drop_of_length-le}
-use Rattle.cfg_profile.specs.Configuration.{Configuration}
 use Rattle.cfg_world.specs.declared.asking.Asking.{Ghosts}
 use Rattle.cfg_world.specs.declared.asking.Stop.{Stop}
 use Rattle.cfg_world.specs.declared.asking.Stop.TheVariants.{OutOfMemory, Open}
 use Rattle.cfg_world.specs.Inquiry.{Inquiry, Done, after}
 use Rattle.cfg_world.specs.Follows.{Ends, Halts, Follows}
 use Rattle.cfg_world.proofs.Inquiries.{ends_after, waits_first, breaks_first, ends_done, asking_steps, Leads, leads_after}
-use Rattle.cfg_imds.specs.declared.endpoint.Endpoint.{Endpoint}
-use Rattle.cfg_imds.specs.Clients.{ClientRules}
-use Rattle.cfg_imds.specs.Endpoints.{IsEndpoint}
 use Rattle.cfg_imds.specs.Regions.{Located}
 use Rattle.cfg_imds.specs.Settles.{with_kept}
-use Rattle.cfg_imds.specs.Setups.{configured, IsClient}
 use Rattle.cfg_imds.specs.Tokens.{Token}
-use Rattle.cfg_imds.proofs.OneEndpoint.{one_client}
 use Rattle.cfg_region.specs.Chains.{or_others, first_given}
-use Rattle.cfg_region.specs.Defaults.{client_at}
 use Rattle.cfg_region.specs.Environments.{Told}
 use Rattle.cfg_region.specs.Sources.{Source, tree}
-
--- the client of a configuration asks at the configuration's endpoint
-pub own_client : (conf : Configuration) (endpoint : Endpoint) (client : ClientRules) → IsEndpoint conf None None endpoint → IsClient (configured conf) client → client ≡ client_at conf endpoint
-own_client conf endpoint client e h = one_client (configured conf) client (client_at conf endpoint) h (record { endpoint = e; service = refl })
 
 module _ {W : Type 0} (w : Ghosts W) (old new : W) where
   -- the token that is left is not looked at

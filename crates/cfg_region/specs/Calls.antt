@@ -1,11 +1,13 @@
 -- What calls over a world leave of its journal.
-use Rattle.std.specs.Prelude.{◌≡◌, ◌⊎◌, List, Option, Some, None}
+use Rattle.std.specs.Prelude.{◌≡◌, ◌⊎◌, List, true, Option, Some, None}
+use Rattle.cfg_types.specs.Environment.{Variables}
 use Rattle.cfg_world.specs.declared.devices.Devices.{Ghosts}
 use Rattle.cfg_world.specs.Fits.{Pair}
 use Rattle.cfg_world.specs.Grows.{Grows}
 use Rattle.cfg_world.specs.Held.{Held}
 use Rattle.cfg_world.specs.Inquiry.{Inquiry, Reads}
-use Rattle.cfg_profile.specs.Configuration.{Configuration}
+use Rattle.cfg_profile.specs.Configuration.{Configuration, nothing_configured}
+use Rattle.cfg_profile.specs.declared.sections.ProfileSource.{ProfileSource}
 use Rattle.cfg_imds.specs.Calls.{CallBreaks}
 use Rattle.cfg_region.specs.ChainParts.{AreParts}
 use Rattle.cfg_region.specs.Defaults.{DefaultRegions, IsDefault}
@@ -25,6 +27,10 @@ pub record Asks {D R : Type 0} (d : Ghosts D) (inquiry : Inquiry R) (old new : H
   pub reads : Reads inquiry part out
 
 -- ---- a region for a configuration
+
+-- a configuration of these variables and sections alone
+abbrev pub configured_with : Variables → ProfileSource → Configuration
+configured_with env profiles = record (nothing_configured true) { environment = env; profiles = profiles }
 
 -- the source that is asked: the one that was given, else a default chain over the configuration
 abbrev pub IsAsked : Option Source → Configuration → Source → Type 0

@@ -5,10 +5,8 @@ use Rattle.cfg_world.specs.Inquiry.{Inquiry, Done}
 use Rattle.cfg_profile.specs.Configuration.{Configuration, configuration_code}
 use Rattle.cfg_imds.specs.declared.endpoint.Endpoint.{Endpoint}
 use Rattle.cfg_imds.specs.contracts.endpoint.Endpoint as place
-use Rattle.cfg_imds.specs.Clients.{ClientRules}
 use Rattle.cfg_imds.specs.Endpoints.{IsEndpoint}
-use Rattle.cfg_imds.specs.Requests.{service}
-use Rattle.cfg_imds.specs.Setups.{configured}
+use Rattle.cfg_imds.specs.Setups.{client_of}
 use Rattle.cfg_region.specs.Chains.{first_given}
 use Rattle.cfg_region.specs.Environments.{Told, environment_region}
 use Rattle.cfg_region.specs.Metadata.{metadata_region}
@@ -25,17 +23,17 @@ default_regions_code = code_by (Configuration × Endpoint)
     (λ d. (d.configuration, d.endpoint))
     (λ p. record { configuration = p.0; endpoint = p.1 }) (λ _. refl)
 
--- the metadata client of a configuration that asks at this endpoint
-abbrev pub client_at : Configuration → Endpoint → ClientRules
-client_at conf endpoint = record { endpoint = endpoint; service = service (configured conf).settings (configured conf).repeats }
+-- what metadata is asked: by a client with nothing set, where the chain has it
+abbrev pub default_metadata : DefaultRegions → Inquiry Told
+default_metadata d = metadata_region d.configuration.environment (client_of d.endpoint)
+
+-- what the chain asks behind the variables, in order
+abbrev pub later_trees : DefaultRegions → List (Inquiry Told)
+later_trees d = Done (profile_region d.configuration) ∷ default_metadata d ∷ []
 
 -- what the chain asks, in order
 abbrev pub default_trees : DefaultRegions → List (Inquiry Told)
-default_trees d =
-    Done (environment_region d.configuration.environment)
-    ∷ Done (profile_region d.configuration)
-    ∷ metadata_region d.configuration.environment (client_at d.configuration d.endpoint)
-    ∷ []
+default_trees d = Done (environment_region d.configuration.environment) ∷ later_trees d
 
 unfoldable pub default_tree : DefaultRegions → Inquiry Told
 default_tree d = first_given (default_trees d)

@@ -10,3 +10,4 @@ pub mod DefaultSetups
 pub mod Sources
 pub mod SourceLists
 pub mod Calls
+pub mod Located

@@ -2,8 +2,8 @@
 -- may tell it; a law says that it is the one answer that cfg_profile's relation has.
 use Rattle.std.specs.Prelude.{ℕ, zero, suc, List, Option, Some, None, codes}
 use Rattle.std.specs.FinMap.{get, len}
-use Rattle.cfg_values.specs.Text.{characters}
-use Rattle.cfg_values.specs.TextMap.{Named}
+use Rattle.cfg_base.specs.Text.{characters}
+use Rattle.cfg_base.specs.TextMap.{Named}
 use Rattle.cfg_profile.specs.Configuration.{Configuration}
 use Rattle.cfg_profile.specs.SectionParts.{SectionParts}
 use Rattle.cfg_profile.specs.Sections.{property}

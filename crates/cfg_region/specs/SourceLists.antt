@@ -5,7 +5,7 @@ use Rattle.std.specs.declared.dyn_box.DynBox.{DynBox}
 use Rattle.cfg_profile.specs.Configuration.{Configuration}
 use Rattle.cfg_exchange.specs.Classifiers.{Repeats}
 use Rattle.cfg_world.specs.Inquiry.{Inquiry}
-use Rattle.cfg_region.specs.declared.chain.RegionProviderChain.{RegionProviderChain}
+use Rattle.cfg_region.specs.declared.meta.region.RegionProviderChain.{RegionProviderChain}
 use Rattle.cfg_region.specs.Chains.{first_given}
 use Rattle.cfg_region.specs.Defaults.{DefaultRegions, IsDefault}
 use Rattle.cfg_region.specs.Environments.{Told}

@@ -1,6 +1,6 @@
 //! Laws of regions, each on a call that carries it.
 ghost use Rattle.std.specs.Prelude.{◌≡◌, ◌↔◌, ℕ, List, [], Option, Some, None};
-ghost use Rattle.cfg_values.specs.TextMap.{Named};
+ghost use Rattle.cfg_base.specs.TextMap.{Named};
 ghost use Rattle.cfg_world.specs.declared.script.DeviceLists.{DeviceLists as Lists};
 ghost use Rattle.cfg_world.specs.Fits.{Pair};
 ghost use Rattle.cfg_world.specs.Grows.{Grows};
@@ -54,17 +54,22 @@ pub fn a_configuration_asks_one_source()
 /// A configuration that is given a region, or none, has it, and nothing is asked for it. What builds a default
 /// chain ensures `RegionSet` of its source.
 pub fn a_given_region_asks_nothing<D: Devices>()
-    ensures { (told : Told) (conf set : Configuration) (old new : Held D) → RegionSet ⟦<D as Devices>⟧ (Some (GivenRegion told)) conf old new set → Grows ⟦<D as Devices>⟧ [] old new × (set ≡ record conf { region = told }) }
+    ensures { (told : Told) (conf set : Configuration) (old new : Held D) →
+        RegionSet ⟦<D as Devices>⟧ (Some (GivenRegion told)) conf old new set →
+        Grows ⟦<D as Devices>⟧ [] old new × (set ≡ record conf { region = told }) }
 {}
 
 /// Over one script of devices, from one place, a configuration gets one region, and the same is asked for it.
 pub fn one_script_one_configuration<D: Devices>()
-    ensures { (given : Option Source) (conf : Configuration) (lists : Lists) (place : Place) (old new before later : Held D) (a b : Configuration) (x : RegionSet ⟦<D as Devices>⟧ given conf old new a) (y : RegionSet ⟦<D as Devices>⟧ given conf before later b) →
+    ensures { (given : Option Source) (conf : Configuration) (lists : Lists) (place : Place)
+        (old new before later : Held D) (a b : Configuration)
+        (x : RegionSet ⟦<D as Devices>⟧ given conf old new a) (y : RegionSet ⟦<D as Devices>⟧ given conf before later b) →
         Given lists place x.part → Given lists place y.part → (x.part ≡ y.part) × (a ≡ b) }
 {}
 
 /// The region of a profile is that of its path, and there is no other such answer.
 pub fn the_region_of_a_profile_is_that_of_its_path()
     ensures path { (profiles : Named SectionParts) (name : List ℕ) → IsRegion profiles name (named_region profiles name) }
-    ensures only { (profiles : Named SectionParts) (name : List ℕ) (answer : Option (List ℕ)) → IsRegion profiles name answer → named_region profiles name ≡ answer }
+    ensures only { (profiles : Named SectionParts) (name : List ℕ) (answer : Option (List ℕ)) →
+        IsRegion profiles name answer → named_region profiles name ≡ answer }
 {}

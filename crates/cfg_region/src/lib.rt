@@ -4,22 +4,23 @@
 //! source, none included, and nothing else.
 #![tactic(auto)]
 
-pub mod chain;
-pub mod custom;
+mod custom;
 pub mod default_provider;
 pub mod environment;
 pub mod imds;
 pub mod laws;
-pub mod load;
+mod load;
+pub mod meta;
 pub mod profile;
-pub mod source;
+mod source;
+pub mod steps;
 
 pub use cfg_types::OutOfMemory;
-pub use chain::RegionProviderChain;
 pub use custom::{CustomRegion, ProvideRegion};
 pub use default_provider::region::DefaultRegionChain;
 pub use environment::region::EnvironmentVariableRegionProvider;
 pub use imds::region::ImdsRegionProvider;
-pub use load::{load_default_region, with_default_region, with_region_from};
+pub use load::{load_default_region, with_default_region};
+pub use meta::region::RegionProviderChain;
 pub use profile::region::ProfileFileRegionProvider;
 pub use source::RegionSource;

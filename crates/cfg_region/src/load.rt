@@ -1,7 +1,6 @@
 //! Configurations that are given a region.
-ghost use Rattle.std.specs.Prelude.{◌≡◌, IfOk, OnErr, Some, None, option_map, true};
-ghost use Rattle.cfg_profile.specs.Configuration.{nothing_configured};
-ghost use Rattle.cfg_region.specs.Calls.{RegionSet, RegionBreaks};
+ghost use Rattle.std.specs.Prelude.{◌≡◌, IfOk, OnErr, Some, None, option_map};
+ghost use Rattle.cfg_region.specs.Calls.{configured_with, RegionSet, RegionBreaks};
 ghost use Rattle.cfg_region.specs.Sources.{source_of};
 
 use crate::default_provider::region::DefaultRegionChain;
@@ -62,8 +61,8 @@ pub fn with_default_region<D: Devices>(
     profiles: ProfileSource,
     world: &mut World<D>,
 ) -> Result<ProviderConfig, OutOfMemory>
-    ensures set { IfOk result (RegionSet ⟦<D as Devices>⟧ None (record (nothing_configured true) { environment = env; profiles = profiles }) world.old world.new) }
-    ensures breaks { OnErr result (RegionBreaks ⟦<D as Devices>⟧ None (record (nothing_configured true) { environment = env; profiles = profiles }) world.old world.new) }
+    ensures set { IfOk result (RegionSet ⟦<D as Devices>⟧ None (configured_with env profiles) world.old world.new) }
+    ensures breaks { OnErr result (RegionBreaks ⟦<D as Devices>⟧ None (configured_with env profiles) world.old world.new) }
 {
     let config = ProviderConfig::without_region(alloc)?;
     let config = config.with_env(env).with_profiles(profiles);

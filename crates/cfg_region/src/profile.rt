@@ -1,3 +1,3 @@
 //! Profiles.
 pub mod region;
-pub mod settings;
+pub(crate) mod settings;

@@ -9,10 +9,10 @@ use Rattle.std.specs.declared.net.ip_addr.IpAddr.{IpAddr}
 use Rattle.std.specs.declared.net.ip_addr.IpAddr.TheVariants as Ip
 use Rattle.std.proofs.NetLemmas.Ipv4.{read_ipv4_complete, read_ipv4_sound}
 use Rattle.std.proofs.NetLemmas.Ipv6.{read_ipv6_complete, read_ipv6_sound}
-use Rattle.cfg_values.specs.declared.address.Address.{Address}
-use Rattle.cfg_values.specs.Text.{characters}
-use Rattle.cfg_values.specs.Addresses.{IsAddress}
-use Rattle.cfg_values.proofs.AddressLaws.{found, none}
+use Rattle.cfg_base.specs.declared.address.Address.{Address}
+use Rattle.cfg_base.specs.Text.{characters}
+use Rattle.cfg_base.specs.Addresses.{IsAddress}
+use Rattle.cfg_base.proofs.AddressLaws.{found, none}
 use Rattle.cfg_script.specs.Addresses.{address_by, address_from}
 
 longer : {A : Type 0} (x : A) (c : ℕ) (cs : List ℕ) → whole_value (Some (x, c ∷ cs)) ≡ None

@@ -1,12 +1,9 @@
 pub mod Bytes
-pub mod Loop
-pub mod Members
 pub mod Pairs
-pub mod Exactly
 pub mod AddressText
 pub mod HeaderNames
+pub mod Steps
 pub mod Fitting
-pub mod Placing
 pub mod InPlace
-pub mod Refusing
+pub mod Placing
 pub mod Ways

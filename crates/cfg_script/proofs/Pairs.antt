@@ -2,7 +2,7 @@
 use Rattle.std.proofs.Common.{◌≡◌, List, [], ◌∷◌, length, None, refl}
 use Rattle.serde_json.specs.View.{items_view}
 use Rattle.serde_json.specs.declared.value.Value.{Value}
-use Rattle.cfg_script.specs.Forms.{two, three}
+use Rattle.cfg_script.specs.Json.{two, three}
 
 pub not_two : (vs : List Value) → (length vs ≡ 2 → ⊥) → None ≡ two (items_view vs)
 not_two [] other = refl

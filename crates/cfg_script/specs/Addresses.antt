@@ -5,10 +5,10 @@ use Rattle.std.specs.Net.Addr.{octets_of}
 use Rattle.std.specs.Net.Reader.{read_ipv4, read_ipv6, whole_value}
 use Rattle.serde_json.specs.Data.{Data}
 use Rattle.serde_json.specs.Find.{as_str}
-use Rattle.cfg_values.specs.declared.address.Address.{Address}
-use Rattle.cfg_values.specs.declared.address.Address.TheVariants.{V4, V6}
-use Rattle.cfg_script.specs.Forms.{◌>>=◌}
-use Rattle.cfg_script.specs.Table.{Form, whole_form}
+use Rattle.cfg_base.specs.declared.address.Address.{Address}
+use Rattle.cfg_base.specs.declared.address.Address.TheVariants.{V4, V6}
+use Rattle.cfg_script.specs.Json.{◌>>=◌}
+use Rattle.cfg_script.specs.Forms.{Form, whole_form}
 use Rattle.cfg_script.specs.declared.fault.Wanted.TheVariants as wanted
 
 -- of four octets, or else of eight segments

@@ -1,68 +1,65 @@
--- Lists, pairs and triples, taken apart; members that may be missing.
-use Rattle.std.specs.Prelude.{ℕ, List, [], ◌∷◌, Option, Some, None, option_map, cond, bytes_eq}
-use Rattle.serde_json.specs.Data.{Data, Items, no_items, item, Members, no_members, member}
-use Rattle.serde_json.specs.Find.{as_array}
+-- The form of a value: what the value says, or its first fault.
+use Rattle.std.specs.Prelude.{ℕ, ◌+◌, List, [], ◌∷◌, Option, Some, None, Result, Ok, is_some, if◌then◌else◌}
+use Rattle.serde_json.specs.Data.{Data, Items, no_items, item}
+use Rattle.serde_json.specs.Find.{as_array, as_str, as_null, get}
+use Rattle.cfg_base.specs.Gives.{◌>>=◌}
+use Rattle.cfg_script.specs.declared.fault.Fault.{Fault}
+use Rattle.cfg_script.specs.declared.fault.Wanted.{Wanted}
+use Rattle.cfg_script.specs.declared.fault.Wanted.TheVariants as wanted
+use Rattle.cfg_script.specs.Json.{pair_from, triple_from}
+use Rattle.cfg_script.specs.Faults.{under_place, wanting}
 
--- the next step, where the one before it gave a value
-infixl 10 ◌>>=◌
-abbrev pub ◌>>=◌ : {A B : Type 0} → Option A → (A → Option B) → Option B
-(Some x) >>= f = f x
-None >>= f = None
+abbrev pub Form : Type 0 → Type 0
+Form A = Data → Result A Fault
 
--- each item, in order, or none where one is of another form
-abbrev pub each : {A : Type 0} → (Data → Option A) → Items → Option (List A)
-each form no_items = Some []
-each form (item d ds) = form d >>= λ a. each form ds >>= λ rest. Some (a ∷ rest)
+-- a value that is read whole
+abbrev pub whole_form : {A : Type 0} → Wanted → (Data → Option A) → Form A
+whole_form w read = λ d. wanting w (read d)
 
--- both items of a list of two
-abbrev pub two : Items → Option (Data × Data)
-two no_items = None
-two (item a no_items) = None
-two (item a (item b no_items)) = Some (a, b)
-two (item a (item b (item c ds))) = None
+-- a form, and what its value stands for
+abbrev pub standing_for : {A B : Type 0} → (A → B) → Form A → Form B
+standing_for g form = λ d. form d >>= λ a. Ok (g a)
 
--- the items of a list of three
-abbrev pub three : Items → Option (Data × Data × Data)
-three no_items = None
-three (item a no_items) = None
-three (item a (item b no_items)) = None
-three (item a (item b (item c no_items))) = Some (a, b, c)
-three (item a (item b (item c (item d ds)))) = None
+-- each item, in order, where the first one stands at this place
+abbrev pub each : {A : Type 0} → Form A → ℕ → Items → Result (List A) Fault
+each form place no_items = Ok []
+each form place (item d ds) = under_place place (form d) >>= λ a. each form (place + 1) ds >>= λ rest. Ok (a ∷ rest)
 
--- both items of a value that is a list of two
-abbrev pub pair_from : Data → Option (Data × Data)
-pair_from d = as_array d >>= two
+-- a list, of which this is wanted, and each item in its form
+abbrev pub list_by : {A : Type 0} → Wanted → Form A → Form (List A)
+list_by w form = λ d. wanting w (as_array d) >>= each form 0
 
--- the items of a value that is a list of three
-abbrev pub triple_from : Data → Option (Data × Data × Data)
-triple_from d = as_array d >>= three
+abbrev pub list_of : {A : Type 0} → Form A → Form (List A)
+list_of form = list_by wanted.List form
 
--- the list that a member is, empty where it is missing
-abbrev pub list_or_none : {A : Type 0} → (Data → Option (List A)) → Option Data → Option (List A)
-list_or_none read None = Some []
-list_or_none read (Some d) = read d
+-- a list of two, each in its form
+abbrev pub pair_of : {A B : Type 0} → Wanted → Form A → Form B → Form (A × B)
+pair_of w first second = λ d.
+    wanting w (pair_from d) >>= λ p.
+    under_place 0 (first p.0) >>= λ a.
+    under_place 1 (second p.1) >>= λ b. Ok (a, b)
 
--- what a member says, or what is said where it is missing
-abbrev pub or_missing : {A : Type 0} → A → (Data → Option A) → Option Data → Option A
-or_missing missing read None = Some missing
-or_missing missing read (Some d) = read d
+-- a list of three, each in its form
+abbrev pub triple_of : {A B C : Type 0} → Wanted → Form A → Form B → Form C → Form (A × B × C)
+triple_of w first second third = λ d.
+    wanting w (triple_from d) >>= λ t.
+    under_place 0 (first t.0) >>= λ a.
+    under_place 1 (second t.1) >>= λ b.
+    under_place 2 (third t.2) >>= λ c. Ok (a, b, c)
 
--- what a member says that may be missing
-abbrev pub where_any : {A : Type 0} → (Data → Option A) → Option Data → Option (Option A)
-where_any read None = Some None
-where_any read (Some d) = option_map Some (read d)
+-- what a text says as a word, or else what another value says
+abbrev pub word_or : {A : Type 0} → Wanted → (List ℕ → Option A) → Option (List ℕ) → Result A Fault → Result A Fault
+word_or w word None other = other
+word_or w word (Some text) other = wanting w (word text)
 
--- what a member says that has to be there
-abbrev pub where_there : {A : Type 0} → (Data → Option A) → Option Data → Option A
-where_there read None = None
-where_there read (Some d) = read d
+-- one of some words, or else a value of a form
+abbrev pub text_or : {A : Type 0} → Wanted → (List ℕ → Option A) → Form A → Form A
+text_or w word form = λ d. word_or w word (as_str d) (form d)
 
--- what a text says as a word, or else what is read of another value
-abbrev pub text_or_else : {A : Type 0} → (List ℕ → Option A) → Option (List ℕ) → Option A → Option A
-text_or_else word None other = other
-text_or_else word (Some text) other = word text
+-- null, which says this, or else a value of a form
+abbrev pub null_or : {A : Type 0} → A → Form A → Form A
+null_or said form = λ d. if is_some (as_null d) then Ok said else form d
 
--- the members, without the first of this name
-abbrev pub without : List ℕ → Members → Members
-without name no_members = no_members
-without name (member other d ms) = cond (bytes_eq name other) ms (member other d (without name ms))
+-- the first form where the value has a member of this name, and the second elsewhere
+abbrev pub by_member : {A : Type 0} → List ℕ → Form A → Form A → Form A
+by_member name first second = λ d. if is_some (get name d) then first d else second d

@@ -1,17 +1,17 @@
 -- Moments: whole seconds, or whole seconds and nanoseconds.
 use Rattle.std.specs.Prelude.{ℤ, pos, Option, Some, None, nat_lt, int_lt, if◌then◌else◌}
 use Rattle.serde_json.specs.Data.{Data}
-use Rattle.cfg_values.specs.Moment.{Moment}
-use Rattle.cfg_script.specs.Forms.{◌>>=◌, pair_from}
-use Rattle.cfg_script.specs.Table.{Form, whole_form}
-use Rattle.cfg_script.specs.Values.{whole_of, natural_of}
+use Rattle.cfg_base.specs.Moment.{Moment}
+use Rattle.cfg_script.specs.Json.{◌>>=◌, pair_from}
+use Rattle.cfg_script.specs.Forms.{Form, whole_form}
+use Rattle.cfg_script.specs.Scalars.{signed_of, unsigned_of}
 use Rattle.cfg_script.specs.declared.fault.Wanted.TheVariants as wanted
 
 -- seconds and nanoseconds, of which there are less than a second
 unfoldable pub pair_moment : Data × Data → Option Moment
 pair_moment pair = do
-  seconds ← whole_of pair.0
-  nanos ← natural_of pair.1
+  seconds ← signed_of pair.0
+  nanos ← unsigned_of pair.1
   if nat_lt nanos 1000000000 then Some (record { seconds = seconds; nanos = nanos }) else None
 
 -- whole seconds, or else a pair
@@ -21,7 +21,7 @@ moment_by None pair = pair >>= pair_moment
 
 -- whole seconds or [seconds, nanoseconds], of any sign
 unfoldable pub moment_from : Data → Option Moment
-moment_from d = moment_by (whole_of d) (pair_from d)
+moment_from d = moment_by (signed_of d) (pair_from d)
 
 abbrev pub moment : Form Moment
 moment = whole_form wanted.Moment moment_from

@@ -1,41 +1,88 @@
--- What bytes say as a script.
-use Rattle.std.specs.Prelude.{ℕ, List, Bool, ◌&&◌, ◌||◌, codes, Option, Some, None, is_some, if◌then◌else◌}
+-- What bytes say as a script, or why they are none.
+use Rattle.std.specs.Prelude.{ℕ, List, Bool, ◌&&◌, ◌||◌, codes, Option, Some, None, Result, Ok, Err, is_some, if◌then◌else◌}
 use Rattle.std.specs.Str.{is_utf8}
+use Rattle.std.specs.Result.{result_ok, result_err}
 use Rattle.serde_json.specs.Data.{Data, Members}
 use Rattle.serde_json.specs.Find.{as_object, get_member}
 use Rattle.serde_json.specs.Read.{read}
-use Rattle.cfg_script.specs.Forms.{◌>>=◌}
-use Rattle.cfg_script.specs.Names.{every_name}
-use Rattle.cfg_script.specs.Script.{Plain}
-use Rattle.cfg_script.specs.Settings.{SettingRows, DeviceRows, lists_in, plain_with, script_rows}
+use Rattle.serde_json.specs.View.{view}
+use Rattle.serde_json.specs.declared.value.Value.{Value}
+use Rattle.cfg_base.specs.Gives.{◌>>=◌}
+use Rattle.cfg_script.specs.Faults.{member_fault, wanting, unless}
+use Rattle.cfg_script.specs.Objects.{ObjectForm, unknown_name}
+use Rattle.cfg_script.specs.Script.{Plain, plain}
+use Rattle.cfg_script.specs.Settings.{ScriptRows, script_members, plain_in}
+use Rattle.cfg_script.specs.declared.fault.Fault.{Fault}
+use Rattle.cfg_script.specs.declared.fault.Position.{Position}
+use Rattle.cfg_script.specs.declared.fault.ScriptFault.{ScriptFault}
+use Rattle.cfg_script.specs.declared.fault.ScriptFault.TheVariants as fault
+use Rattle.cfg_script.specs.declared.fault.Wanted.TheVariants as wanted
+use Rattle.cfg_script.specs.declared.script.Script.{Script}
 
 -- the sections are refused, and some are there
 abbrev pub refused_beside : Members → Bool
 refused_beside ms = is_some (get_member (codes "refused") ms)
     && (is_some (get_member (codes "profiles") ms) || is_some (get_member (codes "sessions") ms))
 
--- each member in its place
-unfoldable pub plain_in : SettingRows × DeviceRows → Plain
-plain_in rows = plain_with rows.0 (lists_in rows.1)
-
--- each member in its form
-unfoldable pub rows_from : Members → Option (SettingRows × DeviceRows)
-rows_from ms = script_rows.read ms
-
--- what the members say
-unfoldable pub placed_from : Members → Option Plain
-placed_from ms = rows_from ms >>= λ rows. Some (plain_in rows)
+abbrev pub beside_fault : Members → Option Fault
+beside_fault ms = if refused_beside ms then Some (member_fault (codes "refused") wanted.RefusedAlone) else None
 
 -- no other names, no sections beside their refusal, and each member in its form
-unfoldable pub plain_from : Members → Option Plain
-plain_from ms =
-    if every_name script_rows.has ms then (if refused_beside ms then None else placed_from ms)
-    else None
+abbrev pub members_said : {A : Type 0} → ObjectForm A → Members → Result A Fault
+members_said object ms = unless (unknown_name object.has ms) (unless (beside_fault ms) (object.read ms))
+
+unfoldable pub rows_said : Members → Result ScriptRows Fault
+rows_said ms = members_said script_members ms
+
+-- what the members say, each in its place
+unfoldable pub script_said : Members → Result Plain Fault
+script_said ms = rows_said ms >>= λ rows. Ok (plain_in rows)
+
+-- a script is an object
+unfoldable pub value_said : Data → Result Plain Fault
+value_said d = wanting wanted.Object (as_object d) >>= script_said
+
+-- why bytes are no script: they are no JSON, or a value is of another form
+pub data Reason : Type 0 where
+  NoJson : Reason
+  Form : Fault → Reason
 
 -- the value that serde_json reads from the bytes, if they are UTF-8
 unfoldable pub json_value : List ℕ → Option Data
 json_value bytes = if is_utf8 bytes then read bytes else None
 
--- what the bytes say as a script, if they are one: the members of one object
+abbrev pub or_reason : Result Plain Fault → Result Plain Reason
+or_reason (Ok p) = Ok p
+or_reason (Err fault) = Err (Form fault)
+
+abbrev pub json_said : Option Data → Result Plain Reason
+json_said None = Err NoJson
+json_said (Some d) = or_reason (value_said d)
+
+-- what the bytes say as a script, or why they are none
+unfoldable pub bytes_said : List ℕ → Result Plain Reason
+bytes_said bytes = json_said (json_value bytes)
+
+-- what the bytes say as a script, if they are one
 unfoldable pub script_of : List ℕ → Option Plain
-script_of bytes = json_value bytes >>= as_object >>= plain_from
+script_of bytes = result_ok (bytes_said bytes)
+
+-- why the bytes are no script, if they are none
+unfoldable pub fault_of : List ℕ → Option Reason
+fault_of bytes = result_err (bytes_said bytes)
+
+-- ---- what a call that reads bytes holds of them
+
+-- the value that was read, if one was
+abbrev pub parsed_value : Result Value Position → Option Data
+parsed_value (Ok v) = Some (view v)
+parsed_value (Err position) = None
+
+-- what a fault tells, without the line and the column
+abbrev pub reason_of : ScriptFault → Reason
+reason_of (fault.NoJson position) = NoJson
+reason_of (fault.Form f) = Form f
+
+abbrev pub plain_or_reason : Result Script ScriptFault → Result Plain Reason
+plain_or_reason (Ok s) = Ok (plain s)
+plain_or_reason (Err f) = Err (reason_of f)

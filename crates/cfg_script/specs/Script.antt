@@ -1,7 +1,7 @@
 -- What a script says, without where it lies in memory.
 use Rattle.std.specs.Prelude.{ℕ, List, Bool, Option, option_map, map, string_bytes, String, Vec}
 use Rattle.std.specs.declared.alloc.Global.{Global}
-use Rattle.cfg_values.specs.TextMap.{named}
+use Rattle.cfg_base.specs.TextMap.{named}
 use Rattle.cfg_types.specs.declared.environment.EnvText.{EnvText}
 use Rattle.cfg_world.specs.declared.script.DeviceLists.{DeviceLists}
 use Rattle.cfg_script.specs.declared.script.Script.{Script}

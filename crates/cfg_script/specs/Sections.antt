@@ -1,12 +1,12 @@
 -- Variables and sections.
 use Rattle.std.specs.Prelude.{ℕ, List, Option, Some, None}
 use Rattle.serde_json.specs.Data.{Data, null, boolean, number, string, array, object}
-use Rattle.cfg_values.specs.Text.{characters}
+use Rattle.cfg_base.specs.Text.{characters}
 use Rattle.cfg_types.specs.declared.environment.EnvText.{EnvText}
 use Rattle.cfg_types.specs.declared.environment.EnvText.TheVariants.{Text, NotUnicode}
 use Rattle.cfg_script.specs.Script.{Property, Section}
-use Rattle.cfg_script.specs.Table.{Form, whole_form, list_of, pair_of}
-use Rattle.cfg_script.specs.Values.{text}
+use Rattle.cfg_script.specs.Forms.{Form, whole_form, list_of, pair_of}
+use Rattle.cfg_script.specs.Scalars.{text}
 use Rattle.cfg_script.specs.declared.fault.Wanted.TheVariants as wanted
 
 -- a text, or null for a value that is not Unicode

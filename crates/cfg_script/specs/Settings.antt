@@ -1,15 +1,16 @@
 -- The members of a script, a line each: the settings, and the lists of the devices.
 use Rattle.std.specs.Prelude.{ℕ, List, [], Bool, true, codes, Option, Some, None, Result, unwrap_or}
-use Rattle.cfg_values.specs.Moment.{Moment}
-use Rattle.cfg_values.specs.declared.address.Address.{Address}
+use Rattle.cfg_base.specs.Moment.{Moment}
+use Rattle.cfg_base.specs.declared.address.Address.{Address}
 use Rattle.cfg_types.specs.declared.environment.EnvText.{EnvText}
 use Rattle.cfg_types.specs.declared.command.Finished.{Finished}
 use Rattle.cfg_types.specs.declared.reply.Reply.{Reply}
 use Rattle.cfg_types.specs.declared.reply.FailKind.{FailKind}
 use Rattle.cfg_world.specs.declared.script.DeviceLists.{DeviceLists}
 use Rattle.cfg_script.specs.Script.{Section, PlainProfiles, Sections, RefusedSections, Plain}
-use Rattle.cfg_script.specs.Table.{Form, Table, pair_of, list_row, row_or, optional_row, ◌&◌, no_rows, both, object_of}
-use Rattle.cfg_script.specs.Values.{text, characters_of, truth, natural, content_or_null, call_count}
+use Rattle.cfg_script.specs.Forms.{Form, pair_of}
+use Rattle.cfg_script.specs.Objects.{ObjectForm, list_member, member_or, optional_member, ◌&◌, nothing_more, together, object_of}
+use Rattle.cfg_script.specs.Scalars.{text, characters_of, boolean, unsigned_integer, content_or_null, call_count}
 use Rattle.cfg_script.specs.Moments.{clock_moment}
 use Rattle.cfg_script.specs.Sections.{variable, section}
 use Rattle.cfg_script.specs.Replies.{command, look_up, http_reply, sts_reply, role_reply, token_reply, sign_in_reply}
@@ -27,20 +28,20 @@ abbrev pub Queues : Type 0
 Queues = List Sent × (List Sent × (List Sent × (List Sent × (List Sent × (List Sent × (List Sent × (List Sent × Unit {0})))))))
 
 -- the lists of replies, a list for each kind of request
-abbrev pub queue_rows : Table Queues
-queue_rows =
-    list_row (codes "http") http_reply
-    & list_row (codes "imds-token") http_reply
-    & list_row (codes "imds-get") http_reply
-    & list_row (codes "assume-role") sts_reply
-    & list_row (codes "web-identity") sts_reply
-    & list_row (codes "role-credentials") role_reply
-    & list_row (codes "create-token") token_reply
-    & list_row (codes "sign-in") sign_in_reply
-    & no_rows
+abbrev pub queue_members : ObjectForm Queues
+queue_members =
+    list_member (codes "http") http_reply
+    & list_member (codes "imds-token") http_reply
+    & list_member (codes "imds-get") http_reply
+    & list_member (codes "assume-role") sts_reply
+    & list_member (codes "web-identity") sts_reply
+    & list_member (codes "role-credentials") role_reply
+    & list_member (codes "create-token") token_reply
+    & list_member (codes "sign-in") sign_in_reply
+    & nothing_more
 
 abbrev pub replies : Form Queues
-replies = object_of wanted.Replies queue_rows
+replies = object_of wanted.Replies queue_members
 
 abbrev pub no_queues : Queues
 no_queues = ([], ([], ([], ([], ([], ([], ([], ([], tt))))))))
@@ -49,16 +50,16 @@ abbrev pub DeviceRows : Type 0
 DeviceRows = List (List ℕ × Option (List ℕ)) × (List (List ℕ) × (List Moment × (List ℕ × (List (Result Finished FailKind) × (List (Result (List Address) FailKind) × (Queues × Unit {0}))))))
 
 -- the lists of the devices
-abbrev pub device_rows : Table DeviceRows
-device_rows =
-    list_row (codes "files") file
-    & list_row (codes "unwritable") characters_of
-    & list_row (codes "clock") clock_moment
-    & list_row (codes "jitter") natural
-    & list_row (codes "commands") command
-    & list_row (codes "lookups") look_up
-    & row_or (codes "replies") no_queues replies
-    & no_rows
+abbrev pub device_members : ObjectForm DeviceRows
+device_members =
+    list_member (codes "files") file
+    & list_member (codes "unwritable") characters_of
+    & list_member (codes "clock") clock_moment
+    & list_member (codes "jitter") unsigned_integer
+    & list_member (codes "commands") command
+    & list_member (codes "lookups") look_up
+    & member_or (codes "replies") no_queues replies
+    & nothing_more
 
 -- each list in its place
 unfoldable pub lists_in : DeviceRows → DeviceLists
@@ -79,39 +80,38 @@ lists_in rows = let queues = rows.1.1.1.1.1.1.0 in record {
   sign_in = queues.1.1.1.1.1.1.1.0;
 }
 
-abbrev pub SettingRows : Type 0
-SettingRows = List (List ℕ × EnvText) × (List Section × (List Section × (Option (List ℕ) × (Option (List ℕ) × (Option (List ℕ) × (Option Bool × (Option ℕ × Unit {0})))))))
+abbrev pub devices : ObjectForm DeviceLists
+devices = together lists_in device_members
 
--- the settings
-abbrev pub setting_rows : Table SettingRows
-setting_rows =
-    list_row (codes "variables") variable
-    & list_row (codes "profiles") section
-    & list_row (codes "sessions") section
-    & optional_row (codes "refused") characters_of
-    & optional_row (codes "selected") text
-    & optional_row (codes "region") text
-    & optional_row (codes "sleep") truth
-    & optional_row (codes "calls") call_count
-    & no_rows
+abbrev pub ScriptRows : Type 0
+ScriptRows = List (List ℕ × EnvText) × (List Section × (List Section × (Option (List ℕ) × (Option (List ℕ) × (Option (List ℕ) × (Option Bool × (Option ℕ × DeviceLists)))))))
+
+-- all members of a script: the settings, and the lists of the devices
+abbrev pub script_members : ObjectForm ScriptRows
+script_members =
+    list_member (codes "variables") variable
+    & list_member (codes "profiles") section
+    & list_member (codes "sessions") section
+    & optional_member (codes "refused") characters_of
+    & optional_member (codes "selected") text
+    & optional_member (codes "region") text
+    & optional_member (codes "sleep") boolean
+    & optional_member (codes "calls") call_count
+    & devices
 
 -- sections, unless they are refused
 abbrev pub profiles_of : Option (List ℕ) → List Section → List Section → PlainProfiles
 profiles_of None profiles sessions = Sections profiles sessions
 profiles_of (Some message) profiles sessions = RefusedSections message
 
--- each setting in its place
-unfoldable pub plain_with : SettingRows → DeviceLists → Plain
-plain_with rows devices = record {
+-- each member in its place
+unfoldable pub plain_in : ScriptRows → Plain
+plain_in rows = record {
   variables = rows.0;
   profiles = profiles_of rows.1.1.1.0 rows.1.0 rows.1.1.0;
   selected = rows.1.1.1.1.0;
   region = rows.1.1.1.1.1.0;
   sleep = unwrap_or rows.1.1.1.1.1.1.0 true;
   calls = unwrap_or rows.1.1.1.1.1.1.1.0 1;
-  devices = devices;
+  devices = rows.1.1.1.1.1.1.1.1;
 }
-
--- all members of a script
-abbrev pub script_rows : Table (SettingRows × DeviceRows)
-script_rows = both setting_rows device_rows

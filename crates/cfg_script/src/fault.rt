@@ -1,9 +1,10 @@
 //! Where bytes are no script, and what is wanted there.
-ghost use Rattle.std.specs.Prelude.{◌≡◌, IfOk, option_map};
-ghost use Rattle.cfg_script.specs.Faults.{here as here_wanting, within as within_step, under_name as under_name_of, under_place as under_place_of, name_fault as name_fault_of, unless_read as unless_read_of};
+ghost use Rattle.std.specs.Prelude.{◌≡◌, ℕ, Some, None, IfOk, IfErr};
+ghost use Rattle.cfg_script.specs.Faults.{here as here_wanting, within as within_step};
+ghost use Rattle.cfg_script.specs.declared.fault.FormError.TheVariants as error;
 
 use cfg_types::{OutOfMemory, Seq, Text};
-use std::alloc::Global;
+use std::alloc::{AllocError, AllocFailed, Global};
 
 /// A step of the way from a script's object to a value in it.
 #[derive(Drop)]
@@ -28,7 +29,7 @@ pub enum Wanted {
     /// A text.
     Text,
     /// True or false.
-    Truth,
+    Boolean,
     /// A text, or null.
     TextOrNull,
     /// A variable's name, and a text or null.
@@ -52,9 +53,9 @@ pub enum Wanted {
     /// A moment from 0 seconds on.
     ClockMoment,
     /// A whole number of 64 bits without sign.
-    Natural,
+    UnsignedInteger,
     /// A whole number of 64 bits with sign.
-    Whole,
+    SignedInteger,
     /// A command's status, output and errors, or that it failed.
     Command,
     /// A whole number of 32 bits with sign.
@@ -107,6 +108,39 @@ pub enum ScriptFault {
     Form(Fault),
 }
 
+/// Why a value was not read.
+#[derive(Drop)]
+pub(crate) enum FormError {
+    /// The value, or one in it, is of another form.
+    Fault(Fault),
+    OutOfMemory,
+}
+
+impl From<OutOfMemory> for FormError {
+    ghost from_gives = { λ _ e. e ≡ error.OutOfMemory };
+
+    fn from(_: OutOfMemory) -> FormError {
+        FormError::OutOfMemory
+    }
+}
+
+impl From<AllocError> for FormError {
+    ghost from_gives = { λ _ e. e ≡ error.OutOfMemory };
+
+    fn from(_: AllocError) -> FormError {
+        FormError::OutOfMemory
+    }
+}
+
+impl<T: Drop> From<AllocFailed<T>> for FormError {
+    ghost from_gives = { λ _ e. e ≡ error.OutOfMemory };
+
+    fn from(_: AllocFailed<T>) -> FormError {
+        FormError::OutOfMemory
+    }
+}
+
+/// A fault of the value itself.
 pub(crate) fn here(alloc: Global, wanted: Wanted) -> Fault
     ensures { result ≡ here_wanting wanted }
 {
@@ -116,7 +150,8 @@ pub(crate) fn here(alloc: Global, wanted: Wanted) -> Fault
     }
 }
 
-fn within(step: Step, fault: Fault) -> Result<Fault, OutOfMemory>
+/// The fault, seen from one step further out.
+pub(crate) fn within(step: Step, fault: Fault) -> Result<Fault, OutOfMemory>
     ensures { IfOk result (λ f. f ≡ within_step step fault) }
 {
     let Fault { path, wanted } = fault;
@@ -128,53 +163,20 @@ fn within(step: Step, fault: Fault) -> Result<Fault, OutOfMemory>
     })
 }
 
-/// A fault where nothing was read.
-pub(crate) fn unless_read<T: Drop>(alloc: Global, wanted: Wanted, read: Option<T>) -> Option<Fault>
-    ensures { result ≡ unless_read_of wanted read }
+/// A fault of the member of this name.
+pub(crate) fn member_fault(alloc: Global, name: Text, wanted: Wanted) -> Result<Fault, OutOfMemory>
+    ensures { IfOk result (λ f. f ≡ within_step (Step.Member name) (here_wanting wanted)) }
+{
+    within(Step::Member(name), here(alloc, wanted))
+}
+
+/// What was read, or else that this is wanted.
+pub(crate) fn wanting<T>(alloc: Global, wanted: Wanted, read: Option<T>) -> Result<T, FormError>
+    ensures read { IfOk result (λ x. read ≡ Some x) }
+    ensures none { IfErr result (λ e. (read ≡ None) × (e ≡ error.Fault (here_wanting wanted))) }
 {
     match read {
-        Some(_) => None,
-        None => Some(here(alloc, wanted)),
-    }
-}
-
-/// What was found in the member of this name, seen from its object.
-pub(crate) fn under_name(
-    alloc: Global,
-    name: &str,
-    found: Option<Fault>,
-) -> Result<Option<Fault>, OutOfMemory>
-    ensures { IfOk result (λ o. o ≡ under_name_of name.now found) }
-{
-    let Some(fault) = found else {
-        return Ok(None);
-    };
-    let step = Step::Member(Text::of(alloc, name)?);
-    let fault = within(step, fault)?;
-    Ok(Some(fault))
-}
-
-/// What was found in the item at this place, seen from its list.
-pub(crate) fn under_place(place: usize, found: Option<Fault>) -> Result<Option<Fault>, OutOfMemory>
-    ensures { IfOk result (λ o. o ≡ under_place_of place found) }
-{
-    let Some(fault) = found else {
-        return Ok(None);
-    };
-    let fault = within(Step::Item(place), fault)?;
-    Ok(Some(fault))
-}
-
-/// A fault at the member of this name, where there is one.
-pub(crate) fn name_fault(
-    alloc: Global,
-    name: Option<&str>,
-    wanted: Wanted,
-) -> Result<Option<Fault>, OutOfMemory>
-    ensures { IfOk result (λ o. o ≡ name_fault_of wanted (option_map (λ n. n.now) name.entry)) }
-{
-    match name {
-        None => Ok(None),
-        Some(name) => under_name(alloc, name, Some(here(alloc, wanted))),
+        Some(read) => Ok(read),
+        None => Err(FormError::Fault(here(alloc, wanted))),
     }
 }

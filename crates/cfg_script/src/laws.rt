@@ -1,7 +1,6 @@
 //! A law of the script's faults, on a call that carries it.
 ghost use Rattle.std.specs.Prelude.{◌↔◌, ℕ, List, IsSome, IsNone};
-ghost use Rattle.cfg_script.specs.Reading.{script_of};
-ghost use Rattle.cfg_script.specs.Telling.{fault_of};
+ghost use Rattle.cfg_script.specs.Reading.{script_of, fault_of};
 
 /// There is a fault exactly where the bytes are no script.
 pub fn a_fault_is_told_where_there_is_no_script()

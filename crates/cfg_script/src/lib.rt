@@ -3,32 +3,29 @@
 //! `read_script` alone, and its contract says what they are by one definition over the value that
 //! serde_json reads. Where they are no script, `find_fault` tells the place and what is wanted there.
 //!
-//! The members of each object stand in a table: for the code a type of rows, each a name and a form
-//! (`settings`, `replies`), and for the definition the same rows as a value (`specs/Settings`,
-//! `specs/Replies`). Reading, the first fault, the names that belong to the object, and that there is
-//! a fault exactly where nothing is read, all follow from the table.
+//! Each form of a value has one function, which gives what the value says or its first fault, and one
+//! definition of the same (`specs/Forms`). The members of an object are, for the code, a type of pairs,
+//! each of a name and a form (`settings`, `replies`), and for the definition the same as a value
+//! (`specs/Settings`, `specs/Replies`).
 #![tactic(auto)]
 
 mod fault;
+mod fault_text;
+mod form;
+mod json;
 pub mod laws;
+mod member_names;
+mod members;
 mod moments;
-mod names;
 mod object;
-mod part;
-mod places;
 mod reading;
 mod replies;
+mod scalars;
 mod script;
 mod sections;
 mod settings;
-mod shown;
-mod table;
-mod telling;
-mod value;
-mod values;
 
 pub use cfg_types::OutOfMemory;
 pub use fault::{Fault, Position, ScriptFault, Step, Wanted};
-pub use reading::read_script;
+pub use reading::{find_fault, read_script};
 pub use script::{Script, ScriptError, ScriptProfiles};
-pub use telling::find_fault;

@@ -3,11 +3,10 @@ ghost use Rattle.std.specs.Prelude.{◌≡◌};
 ghost use Rattle.serde_json.specs.View.{view};
 ghost use Rattle.cfg_script.specs.Moments.{pair_moment, moment_from, clock_from};
 
-use crate::fault::{Fault, Wanted, unless_read};
-use crate::part::Part;
-use crate::script::ScriptError;
-use crate::value::pair_of;
-use cfg_types::{Instant, OutOfMemory};
+use crate::fault::{FormError, Wanted, wanting};
+use crate::form::Form;
+use crate::json::two_items;
+use cfg_types::Instant;
 use serde_json::Value;
 use std::alloc::Global;
 
@@ -27,7 +26,7 @@ fn read_moment(value: Value) -> Option<Instant>
     if let Some(seconds) = value.as_i64() {
         return Instant::new(seconds, 0);
     }
-    let (seconds, nanos) = pair_of(value)?;
+    let (seconds, nanos) = two_items(value)?;
     read_moment_with_nanos(&seconds, &nanos)
 }
 
@@ -46,8 +45,8 @@ fn read_clock_moment(value: Value) -> Option<Instant>
 /// A moment of any sign.
 pub(crate) struct Moment;
 
-impl Part for Moment {
-    ghost use Rattle.cfg_values.specs.Moment.{Moment};
+impl Form for Moment {
+    ghost use Rattle.cfg_base.specs.Moment.{Moment};
     ghost use Rattle.cfg_script.specs.Moments.{moment};
 
     type Read = Instant;
@@ -58,20 +57,16 @@ impl Part for Moment {
 
     ghost form = { moment };
 
-    fn read(_: Global, value: Value) -> Result<Instant, ScriptError> {
-        read_moment(value).ok_or(ScriptError::NoScript)
-    }
-
-    fn find_fault(alloc: Global, value: Value) -> Result<Option<Fault>, OutOfMemory> {
-        Ok(unless_read(alloc, Wanted::Moment, read_moment(value)))
+    fn read(alloc: Global, value: Value) -> Result<Instant, FormError> {
+        wanting(alloc, Wanted::Moment, read_moment(value))
     }
 }
 
 /// A moment from 0 seconds on.
 pub(crate) struct ClockMoment;
 
-impl Part for ClockMoment {
-    ghost use Rattle.cfg_values.specs.Moment.{Moment};
+impl Form for ClockMoment {
+    ghost use Rattle.cfg_base.specs.Moment.{Moment};
     ghost use Rattle.cfg_script.specs.Moments.{clock_moment};
 
     type Read = Instant;
@@ -82,11 +77,7 @@ impl Part for ClockMoment {
 
     ghost form = { clock_moment };
 
-    fn read(_: Global, value: Value) -> Result<Instant, ScriptError> {
-        read_clock_moment(value).ok_or(ScriptError::NoScript)
-    }
-
-    fn find_fault(alloc: Global, value: Value) -> Result<Option<Fault>, OutOfMemory> {
-        Ok(unless_read(alloc, Wanted::ClockMoment, read_clock_moment(value)))
+    fn read(alloc: Global, value: Value) -> Result<Instant, FormError> {
+        wanting(alloc, Wanted::ClockMoment, read_clock_moment(value))
     }
 }

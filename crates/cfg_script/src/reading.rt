@@ -1,81 +1,99 @@
-//! From bytes to a script.
-ghost use Rattle.std.specs.Prelude.{◌≡◌, Some, None, Err, IfOk, IsTrue};
+//! From bytes to a script, or to why they are none.
+ghost use Rattle.std.specs.Prelude.{◌≡◌, Some, None, Err, IfOk, IsTrue, option_map};
 ghost use Rattle.serde_json.specs.View.{view, members_view};
-ghost use Rattle.cfg_script.specs.Gives.{GivesPart};
-ghost use Rattle.cfg_script.specs.Values.{is_call_count};
-ghost use Rattle.cfg_script.specs.Reading.{refused_beside, rows_from, placed_from, plain_from, json_value, script_of};
+ghost use Rattle.cfg_script.specs.Gives.{Reads};
+ghost use Rattle.cfg_script.specs.Scalars.{is_call_count};
+ghost use Rattle.cfg_script.specs.Reading.{refused_beside, members_said, rows_said, script_said, value_said, json_value, bytes_said, script_of, fault_of, parsed_value, reason_of, plain_or_reason};
 ghost use Rattle.cfg_script.specs.Script.{plain};
 ghost use Rattle.cfg_script.specs.Devices.{lists_of};
 ghost use Rattle.cfg_world.specs.Script.{AllFit};
 
-use crate::object::every_named;
+use crate::fault::{FormError, Position, ScriptFault, Wanted, member_fault, wanting};
+use crate::json::{member, members_of};
+use crate::object::{Object, places_of};
 use crate::script::{Script, ScriptError};
-use crate::settings::{ScriptRows, script_by};
-use crate::table::Group;
-use crate::value::{member, members_of};
+use crate::settings::{ScriptMembers, script_by};
+use cfg_types::{OutOfMemory, Text};
 use serde_json::{Map, Value};
 use std::alloc::Global;
 
+// The value that the bytes are, or where they are no JSON.
 #[tactic(auto, using(crate::proofs::Bytes::value_is, crate::proofs::Bytes::none_is))]
-fn value_of(alloc: Global, bytes: &[u8]) -> Result<Value, ScriptError>
-    ensures { GivesPart view result (json_value bytes.now) }
+fn parsed(alloc: Global, bytes: &[u8]) -> Result<Result<Value, Position>, OutOfMemory>
+    ensures { IfOk result (λ parsed. parsed_value parsed ≡ json_value bytes.now) }
 {
     match Value::from_slice(alloc, bytes) {
-        Ok(value) => Ok(value),
-        Err(e) => Err(if e.is_memory() {
-            ScriptError::OutOfMemory
-        } else {
-            ScriptError::NoScript
-        }),
+        Ok(value) => Ok(Ok(value)),
+        Err(e) => {
+            if e.is_memory() {
+                return Err(OutOfMemory);
+            }
+            let line = e.line();
+            let column = e.column();
+            Ok(Err(Position { line, column }))
+        }
     }
 }
 
-/// Whether the sections are refused, and a list of sections stands beside that, an empty one too.
-pub(crate) fn is_refused_beside(members: &Map<String, Value>) -> bool
+// Whether the sections are refused, and a list of sections stands beside that, an empty one too.
+fn is_refused_beside(members: &Map<String, Value>) -> bool
     ensures { result ≡ refused_beside (members_view members.now.entries) }
 {
     member(members, "refused").is_some()
         && (member(members, "profiles").is_some() || member(members, "sessions").is_some())
 }
 
-#[tactic(auto, unfolding(crate::specs::Reading::rows_from))]
-fn read_rows(
-    alloc: Global,
-    mut members: Map<String, Value>,
-) -> Result<<ScriptRows as Group>::Read, ScriptError>
-    ensures { GivesPart ⟦<ScriptRows as Group>⟧.seen result (rows_from (members_view members.entries)) }
+fn read_members<O: Object>(alloc: Global, members: Map<String, Value>) -> Result<O::Read, FormError>
+    ensures { Reads O.seen result (members_said O.object_form (members_view members.entries)) }
 {
-    ScriptRows::read(alloc, &mut members)
+    let refused_beside = is_refused_beside(&members);
+    let places = places_of::<O>(alloc, members)?;
+    if refused_beside {
+        let name = Text::of(alloc, "refused")?;
+        let fault = member_fault(alloc, name, Wanted::RefusedAlone)?;
+        return Err(FormError::Fault(fault));
+    }
+    O::read_places(alloc, places)
 }
 
-fn read_placed(alloc: Global, members: Map<String, Value>) -> Result<Script, ScriptError>
-    ensures { GivesPart plain result (placed_from (members_view members.entries)) }
+#[tactic(auto, unfolding(crate::specs::Reading::rows_said))]
+fn read_rows(
+    alloc: Global,
+    members: Map<String, Value>,
+) -> Result<<ScriptMembers as Object>::Read, FormError>
+    ensures { Reads ⟦<ScriptMembers as Object>⟧.seen result (rows_said (members_view members.entries)) }
 {
-    let rows = match read_rows(alloc, members) {
-        Ok(rows) => rows,
-        Err(e) => return Err(e),
-    };
+    read_members::<ScriptMembers>(alloc, members)
+}
+
+#[tactic(auto, unfolding(crate::specs::Reading::script_said))]
+fn read_placed(alloc: Global, members: Map<String, Value>) -> Result<Script, FormError>
+    ensures { Reads plain result (script_said (members_view members.entries)) }
+{
+    let rows = read_rows(alloc, members)?;
     Ok(script_by(rows))
 }
 
-#[tactic(auto, unfolding(crate::specs::Reading::plain_from))]
-fn script_in(alloc: Global, members: Map<String, Value>) -> Result<Script, ScriptError>
-    ensures { GivesPart plain result (plain_from (members_view members.entries)) }
+#[tactic(auto, unfolding(crate::specs::Reading::value_said))]
+fn read_value(alloc: Global, value: Value) -> Result<Script, FormError>
+    ensures { Reads plain result (value_said (view value)) }
 {
-    if !every_named::<ScriptRows>(&members) || is_refused_beside(&members) {
-        return Err(ScriptError::NoScript);
-    }
+    let members = wanting(alloc, Wanted::Object, members_of(value))?;
     read_placed(alloc, members)
 }
 
-#[tactic(auto, unfolding(crate::specs::Reading::script_of))]
-fn read(alloc: Global, bytes: &[u8]) -> Result<Script, ScriptError>
-    ensures { GivesPart plain result (script_of bytes.now) }
+#[tactic(auto, unfolding(crate::specs::Reading::bytes_said))]
+fn read(alloc: Global, bytes: &[u8]) -> Result<Result<Script, ScriptFault>, OutOfMemory>
+    ensures { IfOk result (λ read. plain_or_reason read ≡ bytes_said bytes.now) }
 {
-    let value = value_of(alloc, bytes)?;
-    match members_of(value) {
-        Some(members) => script_in(alloc, members),
-        None => Err(ScriptError::NoScript),
+    let value = match parsed(alloc, bytes)? {
+        Ok(value) => value,
+        Err(position) => return Ok(Err(ScriptFault::NoJson(position))),
+    };
+    match read_value(alloc, value) {
+        Ok(script) => Ok(Ok(script)),
+        Err(FormError::Fault(fault)) => Ok(Err(ScriptFault::Form(fault))),
+        Err(FormError::OutOfMemory) => Err(OutOfMemory),
     }
 }
 
@@ -84,13 +102,35 @@ fn read(alloc: Global, bytes: &[u8]) -> Result<Script, ScriptError>
 ///
 /// # Errors
 ///
-/// - `NoScript`: the bytes are no script. [`find_fault`](crate::find_fault) tells why.
+/// - `NoScript`: the bytes are no script. [`find_fault`] tells why.
 /// - `OutOfMemory` where memory runs out, in place of any answer.
+#[tactic(auto, unfolding(crate::specs::Reading::script_of))]
 pub fn read_script(alloc: Global, bytes: &[u8]) -> Result<Script, ScriptError>
     ensures script { IfOk result (λ s. script_of bytes.now ≡ Some (plain s)) }
     ensures fits { IfOk result (λ s. AllFit (lists_of (plain s))) }
     ensures calls { IfOk result (λ s. IsTrue (is_call_count (plain s).calls)) }
     ensures no_script { result ≡ Err ScriptError.NoScript → script_of bytes.now ≡ None }
 {
-    read(alloc, bytes)
+    match read(alloc, bytes) {
+        Ok(Ok(script)) => Ok(script),
+        Ok(Err(_)) => Err(ScriptError::NoScript),
+        Err(OutOfMemory) => Err(ScriptError::OutOfMemory),
+    }
+}
+
+/// Why the bytes are no script, or none where they are one. That they are no JSON comes first. In an
+/// object a name that does not belong there, in the order of the names' bytes, comes before the members,
+/// which follow in the order of their form. In a script's object `refused` beside sections comes between.
+///
+/// # Errors
+///
+/// `OutOfMemory` where memory runs out, in place of any answer.
+#[tactic(auto, unfolding(crate::specs::Reading::fault_of))]
+pub fn find_fault(alloc: Global, bytes: &[u8]) -> Result<Option<ScriptFault>, OutOfMemory>
+    ensures { IfOk result (λ o. option_map reason_of o ≡ fault_of bytes.now) }
+{
+    match read(alloc, bytes)? {
+        Ok(_) => Ok(None),
+        Err(fault) => Ok(Some(fault)),
+    }
 }

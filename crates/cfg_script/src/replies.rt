@@ -1,29 +1,28 @@
 //! Replies to requests, commands and look-ups.
-ghost use Rattle.std.specs.Prelude.{◌≡◌, true, false, None, IfOk, codes};
+ghost use Rattle.std.specs.Prelude.{◌≡◌, Option, Result};
+ghost use Rattle.serde_json.specs.Data.{Data};
 ghost use Rattle.serde_json.specs.View.{view};
-ghost use Rattle.cfg_script.specs.Replies.{fail_kind, failed_send, failed, refusal_kind, refusal_kind_of, refusal, names_refusal, ReadsNoRefusal};
-ghost use Rattle.cfg_script.specs.Table.{Form, by_member};
-ghost use Rattle.cfg_script.specs.Gives.{GivesPart};
+ghost use Rattle.cfg_script.specs.declared.fault.Fault.{Fault};
+ghost use Rattle.cfg_script.specs.Replies.{fail_kind, failed_send, failed, refusal_kind, refusal_kind_of, refusal_or, answer};
+ghost use Rattle.cfg_script.specs.Gives.{Reads};
 ghost use Rattle.cfg_types.specs.declared.reply.Reply.{Reply};
 ghost use Rattle.cfg_script.specs.Addresses.{address_from, address_of};
 
-use crate::fault::{Fault, Wanted, unless_read};
-use crate::moments::Moment;
-use crate::names::{
+use crate::fault::{FormError, Wanted, wanting};
+use crate::form::{Form, Items, read_list, read_pair, read_triple};
+use crate::json::text_or_other;
+use crate::member_names::{
     Access, Arn, Expires, ExpiresIn, ExpiresMs, Id, Message, Refresh, Refused, Secret, Token,
 };
-use crate::object::{object_fault, read_object};
-use crate::part::{
-    Items, Part, list_fault, pair_fault, read_list, read_pair, read_triple, triple_fault,
+use crate::members::{Optional, Required};
+use crate::moments::Moment;
+use crate::object::read_object;
+use crate::scalars::{
+    CommandStatus, Content, HeaderNameText, HttpStatus, SignedInteger, ValueText,
 };
-use crate::script::ScriptError;
-use crate::table::{Optional, Required};
-use crate::value::text_or_other;
-use crate::values::{CommandStatus, Content, HeaderText, HttpStatus, Whole, Words};
 use cfg_types::{
-    Address, FailKind, Finished, Header, HttpReply, OutOfMemory, Refusal, RefusalKind, Reply,
-    RoleCredentials, RoleReply, Seq, SignInReply, SignInToken, StsCredentials, StsReply,
-    TokenReply,
+    Address, FailKind, Finished, Header, HttpReply, Refusal, RefusalKind, Reply, RoleCredentials,
+    RoleReply, Seq, SignInReply, SignInToken, StsCredentials, StsReply, TokenReply,
 };
 use serde_json::Value;
 use std::alloc::Global;
@@ -59,7 +58,7 @@ fn failure<T: Drop>(name: &str) -> Option<Result<T, FailKind>>
 /// What a command left behind, or that it failed.
 pub(crate) struct Command;
 
-impl Part for Command {
+impl Form for Command {
     ghost use Rattle.std.specs.Prelude.{Result};
     ghost use Rattle.cfg_types.specs.declared.command.Finished.{Finished};
     ghost use Rattle.cfg_types.specs.declared.reply.FailKind.{FailKind};
@@ -73,31 +72,21 @@ impl Part for Command {
 
     ghost form = { command };
 
-    fn read(alloc: Global, value: Value) -> Result<Result<Finished, FailKind>, ScriptError> {
+    fn read(alloc: Global, value: Value) -> Result<Result<Finished, FailKind>, FormError> {
         let other = match text_or_other(value) {
-            Ok(name) => return failure(name.as_str()).ok_or(ScriptError::NoScript),
+            Ok(name) => return wanting(alloc, Wanted::Command, failure(name.as_str())),
             Err(other) => other,
         };
         let (status, output, errors) = read_triple::<CommandStatus, Content, Content>(
-            alloc, other,
+            alloc,
+            Wanted::Command,
+            other,
         )?;
         Ok(Ok(Finished {
             status,
             output,
             errors,
         }))
-    }
-
-    fn find_fault(alloc: Global, value: Value) -> Result<Option<Fault>, OutOfMemory> {
-        match text_or_other(value) {
-            Ok(name) => {
-                let failed = failure::<Finished>(name.as_str());
-                Ok(unless_read(alloc, Wanted::Command, failed))
-            }
-            Err(other) => {
-                triple_fault::<CommandStatus, Content, Content>(alloc, Wanted::Command, other)
-            }
-        }
     }
 }
 
@@ -117,8 +106,8 @@ fn read_address(value: &Value) -> Option<Address>
 /// An address by its text.
 pub(crate) struct AddressText;
 
-impl Part for AddressText {
-    ghost use Rattle.cfg_values.specs.declared.address.Address.{Address};
+impl Form for AddressText {
+    ghost use Rattle.cfg_base.specs.declared.address.Address.{Address};
     ghost use Rattle.cfg_script.specs.Addresses.{address};
 
     type Read = Address;
@@ -129,21 +118,17 @@ impl Part for AddressText {
 
     ghost form = { address };
 
-    fn read(_: Global, value: Value) -> Result<Address, ScriptError> {
-        read_address(&value).ok_or(ScriptError::NoScript)
-    }
-
-    fn find_fault(alloc: Global, value: Value) -> Result<Option<Fault>, OutOfMemory> {
-        Ok(unless_read(alloc, Wanted::Address, read_address(&value)))
+    fn read(alloc: Global, value: Value) -> Result<Address, FormError> {
+        wanting(alloc, Wanted::Address, read_address(&value))
     }
 }
 
 /// The addresses of a host, or that the look-up failed.
 pub(crate) struct LookUp;
 
-impl Part for LookUp {
+impl Form for LookUp {
     ghost use Rattle.std.specs.Prelude.{Result, List};
-    ghost use Rattle.cfg_values.specs.declared.address.Address.{Address};
+    ghost use Rattle.cfg_base.specs.declared.address.Address.{Address};
     ghost use Rattle.cfg_types.specs.declared.reply.FailKind.{FailKind};
     ghost use Rattle.cfg_script.specs.Replies.{look_up};
 
@@ -155,30 +140,20 @@ impl Part for LookUp {
 
     ghost form = { look_up };
 
-    fn read(alloc: Global, value: Value) -> Result<Result<Seq<Address>, FailKind>, ScriptError> {
+    fn read(alloc: Global, value: Value) -> Result<Result<Seq<Address>, FailKind>, FormError> {
         let other = match text_or_other(value) {
-            Ok(name) => return failure(name.as_str()).ok_or(ScriptError::NoScript),
+            Ok(name) => return wanting(alloc, Wanted::LookUp, failure(name.as_str())),
             Err(other) => other,
         };
-        let addresses = read_list::<AddressText>(alloc, other)?;
+        let addresses = read_list::<AddressText>(alloc, Wanted::LookUp, other)?;
         Ok(Ok(Seq::of(addresses)))
-    }
-
-    fn find_fault(alloc: Global, value: Value) -> Result<Option<Fault>, OutOfMemory> {
-        match text_or_other(value) {
-            Ok(name) => {
-                let failed = failure::<Seq<Address>>(name.as_str());
-                Ok(unless_read(alloc, Wanted::LookUp, failed))
-            }
-            Err(other) => list_fault::<AddressText>(alloc, Wanted::LookUp, other),
-        }
     }
 }
 
 /// A header of a reply.
 pub(crate) struct HeaderPair;
 
-impl Part for HeaderPair {
+impl Form for HeaderPair {
     ghost use Rattle.cfg_types.specs.declared.reply.http.Header.{Header};
     ghost use Rattle.cfg_script.specs.Replies.{header};
 
@@ -190,20 +165,16 @@ impl Part for HeaderPair {
 
     ghost form = { header };
 
-    fn read(alloc: Global, value: Value) -> Result<Header, ScriptError> {
-        let (name, value) = read_pair::<HeaderText, Words>(alloc, value)?;
+    fn read(alloc: Global, value: Value) -> Result<Header, FormError> {
+        let (name, value) = read_pair::<HeaderNameText, ValueText>(alloc, Wanted::Header, value)?;
         Ok(Header { name, value })
-    }
-
-    fn find_fault(alloc: Global, value: Value) -> Result<Option<Fault>, OutOfMemory> {
-        pair_fault::<HeaderText, Words>(alloc, Wanted::Header, value)
     }
 }
 
 /// A reply of HTTP, or a send that failed.
 pub(crate) struct HttpSent;
 
-impl Part for HttpSent {
+impl Form for HttpSent {
     ghost use Rattle.std.specs.Prelude.{Result};
     ghost use Rattle.cfg_types.specs.declared.reply.Reply.{Reply};
     ghost use Rattle.cfg_types.specs.declared.reply.FailKind.{FailKind};
@@ -217,13 +188,15 @@ impl Part for HttpSent {
 
     ghost form = { http_reply };
 
-    fn read(alloc: Global, value: Value) -> Result<Result<Reply, FailKind>, ScriptError> {
+    fn read(alloc: Global, value: Value) -> Result<Result<Reply, FailKind>, FormError> {
         let other = match text_or_other(value) {
-            Ok(name) => return send_failed(name.as_str()).ok_or(ScriptError::NoScript),
+            Ok(name) => return wanting(alloc, Wanted::HttpReply, send_failed(name.as_str())),
             Err(other) => other,
         };
         let (status, headers, body) = read_triple::<HttpStatus, Items<HeaderPair>, Content>(
-            alloc, other,
+            alloc,
+            Wanted::HttpReply,
+            other,
         )?;
         let headers = Seq::of(headers);
         Ok(Ok(Reply::Http(HttpReply {
@@ -231,20 +204,6 @@ impl Part for HttpSent {
             headers,
             body,
         })))
-    }
-
-    fn find_fault(alloc: Global, value: Value) -> Result<Option<Fault>, OutOfMemory> {
-        match text_or_other(value) {
-            Ok(name) => {
-                let failed = send_failed(name.as_str());
-                Ok(unless_read(alloc, Wanted::HttpReply, failed))
-            }
-            Err(other) => triple_fault::<HttpStatus, Items<HeaderPair>, Content>(
-                alloc,
-                Wanted::HttpReply,
-                other,
-            ),
-        }
     }
 }
 
@@ -270,9 +229,9 @@ fn read_refusal_kind(value: &Value) -> Option<RefusalKind>
 }
 
 /// What a call was refused for.
-pub(crate) struct KindName;
+pub(crate) struct RefusalKindName;
 
-impl Part for KindName {
+impl Form for RefusalKindName {
     ghost use Rattle.cfg_types.specs.declared.reply.RefusalKind.{RefusalKind};
     ghost use Rattle.cfg_script.specs.Replies.{kind_name};
 
@@ -284,22 +243,20 @@ impl Part for KindName {
 
     ghost form = { kind_name };
 
-    fn read(_: Global, value: Value) -> Result<RefusalKind, ScriptError> {
-        read_refusal_kind(&value).ok_or(ScriptError::NoScript)
-    }
-
-    fn find_fault(alloc: Global, value: Value) -> Result<Option<Fault>, OutOfMemory> {
-        let kind = read_refusal_kind(&value);
-        Ok(unless_read(alloc, Wanted::RefusalKind, kind))
+    fn read(alloc: Global, value: Value) -> Result<RefusalKind, FormError> {
+        wanting(alloc, Wanted::RefusalKind, read_refusal_kind(&value))
     }
 }
 
-type OfRefusal = (Required<Refused, KindName>, (Required<Message, Words>, ()));
+type OfRefusal = (
+    Required<Refused, RefusalKindName>,
+    (Required<Message, ValueText>, ()),
+);
 
 /// A service's refusal.
-pub(crate) struct Refuses;
+pub(crate) struct ServiceRefusal;
 
-impl Part for Refuses {
+impl Form for ServiceRefusal {
     ghost use Rattle.cfg_types.specs.declared.reply.Reply.{Reply};
     ghost use Rattle.cfg_script.specs.Replies.{refusal};
 
@@ -311,37 +268,33 @@ impl Part for Refuses {
 
     ghost form = { refusal };
 
-    fn read(alloc: Global, value: Value) -> Result<Reply, ScriptError> {
-        let (kind, (message, ())) = read_object::<OfRefusal>(alloc, value)?;
+    fn read(alloc: Global, value: Value) -> Result<Reply, FormError> {
+        let (kind, (message, ())) = read_object::<OfRefusal>(alloc, Wanted::Reply, value)?;
         Ok(Reply::Refused(Refusal { kind, message }))
-    }
-
-    fn find_fault(alloc: Global, value: Value) -> Result<Option<Fault>, OutOfMemory> {
-        object_fault::<OfRefusal>(alloc, Wanted::Reply, value)
     }
 }
 
 /// What a service grants.
 pub(crate) trait Service {
-    ghost grant: { Form Reply };
+    ghost null_reply: { Option Reply };
 
-    // No grant is a refusal.
-    ghost alone: { ReadsNoRefusal grant };
+    ghost grant: { Data → Result Reply Fault };
 
-    fn read(alloc: Global, value: Value) -> Result<Reply, ScriptError>
-        ensures { GivesPart (λ r. r) result (grant.read (view value)) };
+    /// The reply that null stands for, where it stands for one.
+    fn null_reply() -> Option<Reply>
+        ensures { result ≡ null_reply };
 
-    fn find_fault(alloc: Global, value: Value) -> Result<Option<Fault>, OutOfMemory>
-        ensures { IfOk result (λ o. o ≡ grant.fault (view value)) };
+    fn read(alloc: Global, value: Value) -> Result<Reply, FormError>
+        ensures { Reads (λ r. r) result (grant (view value)) };
 }
 
 type OfSts = (
-    Required<Id, Words>,
+    Required<Id, ValueText>,
     (
-        Required<Secret, Words>,
+        Required<Secret, ValueText>,
         (
-            Required<Token, Words>,
-            (Required<Expires, Moment>, (Optional<Arn, Words>, ())),
+            Required<Token, ValueText>,
+            (Required<Expires, Moment>, (Optional<Arn, ValueText>, ())),
         ),
     ),
 );
@@ -350,16 +303,23 @@ type OfSts = (
 pub(crate) struct Sts;
 
 impl Service for Sts {
-    ghost use Rattle.cfg_script.specs.Replies.{sts_grant};
-    ghost use Rattle.cfg_script.specs.Alone.{sts_alone};
+    ghost use Rattle.std.specs.Prelude.{Some};
+    ghost use Rattle.cfg_script.specs.Replies.{no_sts, sts_grant};
+
+    ghost null_reply = { Some no_sts };
 
     ghost grant = { sts_grant };
 
-    ghost alone = { sts_alone };
+    fn null_reply() -> Option<Reply> {
+        Some(Reply::Sts(StsReply {
+            credentials: None,
+            arn: None,
+        }))
+    }
 
-    fn read(alloc: Global, value: Value) -> Result<Reply, ScriptError> {
+    fn read(alloc: Global, value: Value) -> Result<Reply, FormError> {
         let (access_key_id, (secret_access_key, (session_token, (expiration, (arn, ()))))) =
-            read_object::<OfSts>(alloc, value)?;
+            read_object::<OfSts>(alloc, Wanted::Reply, value)?;
         Ok(Reply::Sts(StsReply {
             credentials: Some(StsCredentials {
                 access_key_id,
@@ -370,17 +330,16 @@ impl Service for Sts {
             arn,
         }))
     }
-
-    fn find_fault(alloc: Global, value: Value) -> Result<Option<Fault>, OutOfMemory> {
-        object_fault::<OfSts>(alloc, Wanted::Reply, value)
-    }
 }
 
 type OfRole = (
-    Optional<Id, Words>,
+    Optional<Id, ValueText>,
     (
-        Optional<Secret, Words>,
-        (Optional<Token, Words>, (Required<ExpiresMs, Whole>, ())),
+        Optional<Secret, ValueText>,
+        (
+            Optional<Token, ValueText>,
+            (Required<ExpiresMs, SignedInteger>, ()),
+        ),
     ),
 );
 
@@ -388,16 +347,20 @@ type OfRole = (
 pub(crate) struct Role;
 
 impl Service for Role {
-    ghost use Rattle.cfg_script.specs.Replies.{role_grant};
-    ghost use Rattle.cfg_script.specs.Alone.{role_alone};
+    ghost use Rattle.std.specs.Prelude.{Some};
+    ghost use Rattle.cfg_script.specs.Replies.{no_role, role_grant};
+
+    ghost null_reply = { Some no_role };
 
     ghost grant = { role_grant };
 
-    ghost alone = { role_alone };
+    fn null_reply() -> Option<Reply> {
+        Some(Reply::Role(RoleReply { credentials: None }))
+    }
 
-    fn read(alloc: Global, value: Value) -> Result<Reply, ScriptError> {
+    fn read(alloc: Global, value: Value) -> Result<Reply, FormError> {
         let (access_key_id, (secret_access_key, (session_token, (expiration_ms, ())))) =
-            read_object::<OfRole>(alloc, value)?;
+            read_object::<OfRole>(alloc, Wanted::Reply, value)?;
         Ok(Reply::Role(RoleReply {
             credentials: Some(RoleCredentials {
                 access_key_id,
@@ -407,31 +370,36 @@ impl Service for Role {
             }),
         }))
     }
-
-    fn find_fault(alloc: Global, value: Value) -> Result<Option<Fault>, OutOfMemory> {
-        object_fault::<OfRole>(alloc, Wanted::Reply, value)
-    }
 }
 
 type OfToken = (
-    Optional<Access, Words>,
-    (Optional<Refresh, Words>, (Required<ExpiresIn, Whole>, ())),
+    Optional<Access, ValueText>,
+    (
+        Optional<Refresh, ValueText>,
+        (Required<ExpiresIn, SignedInteger>, ()),
+    ),
 );
 
 /// `CreateToken`.
 pub(crate) struct Tokens;
 
 impl Service for Tokens {
+    ghost use Rattle.std.specs.Prelude.{None};
     ghost use Rattle.cfg_script.specs.Replies.{token_grant};
-    ghost use Rattle.cfg_script.specs.Alone.{token_alone};
+
+    ghost null_reply = { None };
 
     ghost grant = { token_grant };
 
-    ghost alone = { token_alone };
+    fn null_reply() -> Option<Reply> {
+        None
+    }
 
-    fn read(alloc: Global, value: Value) -> Result<Reply, ScriptError> {
+    fn read(alloc: Global, value: Value) -> Result<Reply, FormError> {
         let (access_token, (refresh_token, (expires_in, ()))) = read_object::<OfToken>(
-            alloc, value,
+            alloc,
+            Wanted::Reply,
+            value,
         )?;
         Ok(Reply::Token(TokenReply {
             access_token,
@@ -439,19 +407,18 @@ impl Service for Tokens {
             expires_in,
         }))
     }
-
-    fn find_fault(alloc: Global, value: Value) -> Result<Option<Fault>, OutOfMemory> {
-        object_fault::<OfToken>(alloc, Wanted::Reply, value)
-    }
 }
 
 type OfSignIn = (
-    Required<Id, Words>,
+    Required<Id, ValueText>,
     (
-        Required<Secret, Words>,
+        Required<Secret, ValueText>,
         (
-            Required<Token, Words>,
-            (Required<Refresh, Words>, (Required<ExpiresIn, Whole>, ())),
+            Required<Token, ValueText>,
+            (
+                Required<Refresh, ValueText>,
+                (Required<ExpiresIn, SignedInteger>, ()),
+            ),
         ),
     ),
 );
@@ -460,18 +427,22 @@ type OfSignIn = (
 pub(crate) struct SignsIn;
 
 impl Service for SignsIn {
-    ghost use Rattle.cfg_script.specs.Replies.{sign_in_grant};
-    ghost use Rattle.cfg_script.specs.Alone.{sign_in_alone};
+    ghost use Rattle.std.specs.Prelude.{Some};
+    ghost use Rattle.cfg_script.specs.Replies.{no_sign_in, sign_in_grant};
+
+    ghost null_reply = { Some no_sign_in };
 
     ghost grant = { sign_in_grant };
 
-    ghost alone = { sign_in_alone };
+    fn null_reply() -> Option<Reply> {
+        Some(Reply::SignIn(SignInReply { token: None }))
+    }
 
-    fn read(alloc: Global, value: Value) -> Result<Reply, ScriptError> {
+    fn read(alloc: Global, value: Value) -> Result<Reply, FormError> {
         let (
             access_key_id,
             (secret_access_key, (session_token, (refresh_token, (expires_in, ())))),
-        ) = read_object::<OfSignIn>(alloc, value)?;
+        ) = read_object::<OfSignIn>(alloc, Wanted::Reply, value)?;
         Ok(Reply::SignIn(SignInReply {
             token: Some(SignInToken {
                 access_key_id,
@@ -482,61 +453,39 @@ impl Service for SignsIn {
             }),
         }))
     }
-
-    fn find_fault(alloc: Global, value: Value) -> Result<Option<Fault>, OutOfMemory> {
-        object_fault::<OfSignIn>(alloc, Wanted::Reply, value)
-    }
 }
 
-// Whether there are more members than a refusal has.
-fn has_too_many(value: &Value) -> bool
-    ensures { result ≡ true → refusal.read (view value.now) ≡ None }
+fn read_refusal_or<S: Service>(alloc: Global, value: Value) -> Result<Reply, FormError>
+    ensures { Reads (λ r. r) result (refusal_or S.grant (view value)) }
 {
-    match value.as_object() {
-        Some(members) => 2 < members.len(),
-        None => false,
-    }
-}
-
-// Whether the answer is to be read as a refusal. Most answers have more members than one has, and no name
-// of theirs is looked up.
-fn may_refuse(value: &Value) -> bool
-    ensures named { result ≡ true → names_refusal (view value.now) ≡ true }
-    ensures other { result ≡ false → names_refusal (view value.now) ≡ true → refusal.read (view value.now) ≡ None }
-{
-    !has_too_many(value) && value.get("refused").is_some()
-}
-
-fn read_answer<S: Service>(alloc: Global, value: Value) -> Result<Reply, ScriptError>
-    ensures { GivesPart (λ r. r) result ((by_member (codes "refused") refusal S.grant).read (view value)) }
-{
-    if may_refuse(&value) {
-        Refuses::read(alloc, value)
+    if value.get("refused").is_some() {
+        ServiceRefusal::read(alloc, value)
     } else {
         S::read(alloc, value)
     }
 }
 
-fn answer_fault<S: Service>(alloc: Global, value: Value) -> Result<Option<Fault>, OutOfMemory>
-    ensures { IfOk result (λ o. o ≡ (by_member (codes "refused") refusal S.grant).fault (view value)) }
+fn read_answer<S: Service>(alloc: Global, value: Value) -> Result<Reply, FormError>
+    ensures { Reads (λ r. r) result (answer S.null_reply S.grant (view value)) }
 {
-    if value.get("refused").is_some() {
-        Refuses::find_fault(alloc, value)
-    } else {
-        S::find_fault(alloc, value)
+    if value.is_null() {
+        if let Some(reply) = S::null_reply() {
+            return Ok(reply);
+        }
     }
+    read_refusal_or::<S>(alloc, value)
 }
 
-/// A send that failed, a refusal, or what a service grants.
+/// A send that failed, a refusal, what a service grants, or null where it stands for a reply.
 pub(crate) struct Sent<S> {
     by: PhantomData<S>,
 }
 
-impl<S: Service> Part for Sent<S> {
+impl<S: Service> Form for Sent<S> {
     ghost use Rattle.std.specs.Prelude.{Result};
     ghost use Rattle.cfg_types.specs.declared.reply.Reply.{Reply};
     ghost use Rattle.cfg_types.specs.declared.reply.FailKind.{FailKind};
-    ghost use Rattle.cfg_script.specs.Replies.{granted_or_not};
+    ghost use Rattle.cfg_script.specs.Replies.{reply_of};
 
     type Read = Result<Reply, FailKind>;
 
@@ -544,123 +493,14 @@ impl<S: Service> Part for Sent<S> {
 
     ghost seen = { λ r. r };
 
-    ghost form = { granted_or_not S.grant };
+    ghost form = { reply_of S.null_reply S.grant };
 
-    fn read(alloc: Global, value: Value) -> Result<Result<Reply, FailKind>, ScriptError> {
+    fn read(alloc: Global, value: Value) -> Result<Result<Reply, FailKind>, FormError> {
         let other = match text_or_other(value) {
-            Ok(name) => return send_failed(name.as_str()).ok_or(ScriptError::NoScript),
+            Ok(name) => return wanting(alloc, Wanted::Reply, send_failed(name.as_str())),
             Err(other) => other,
         };
         let reply = read_answer::<S>(alloc, other)?;
         Ok(Ok(reply))
-    }
-
-    fn find_fault(alloc: Global, value: Value) -> Result<Option<Fault>, OutOfMemory> {
-        match text_or_other(value) {
-            Ok(name) => {
-                let failed = send_failed(name.as_str());
-                Ok(unless_read(alloc, Wanted::Reply, failed))
-            }
-            Err(other) => answer_fault::<S>(alloc, other),
-        }
-    }
-}
-
-/// The same, or null for a reply of the Security Token Service without credentials.
-pub(crate) struct StsSent;
-
-impl Part for StsSent {
-    ghost use Rattle.std.specs.Prelude.{Result};
-    ghost use Rattle.cfg_types.specs.declared.reply.Reply.{Reply};
-    ghost use Rattle.cfg_types.specs.declared.reply.FailKind.{FailKind};
-    ghost use Rattle.cfg_script.specs.Replies.{sts_reply};
-
-    type Read = Result<Reply, FailKind>;
-
-    ghost Plain = { Result Reply FailKind };
-
-    ghost seen = { λ r. r };
-
-    ghost form = { sts_reply };
-
-    fn read(alloc: Global, value: Value) -> Result<Result<Reply, FailKind>, ScriptError> {
-        if value.is_null() {
-            return Ok(Ok(Reply::Sts(StsReply {
-                credentials: None,
-                arn: None,
-            })));
-        }
-        Sent::<Sts>::read(alloc, value)
-    }
-
-    fn find_fault(alloc: Global, value: Value) -> Result<Option<Fault>, OutOfMemory> {
-        if value.is_null() {
-            return Ok(None);
-        }
-        Sent::<Sts>::find_fault(alloc, value)
-    }
-}
-
-/// The same of `GetRoleCredentials`.
-pub(crate) struct RoleSent;
-
-impl Part for RoleSent {
-    ghost use Rattle.std.specs.Prelude.{Result};
-    ghost use Rattle.cfg_types.specs.declared.reply.Reply.{Reply};
-    ghost use Rattle.cfg_types.specs.declared.reply.FailKind.{FailKind};
-    ghost use Rattle.cfg_script.specs.Replies.{role_reply};
-
-    type Read = Result<Reply, FailKind>;
-
-    ghost Plain = { Result Reply FailKind };
-
-    ghost seen = { λ r. r };
-
-    ghost form = { role_reply };
-
-    fn read(alloc: Global, value: Value) -> Result<Result<Reply, FailKind>, ScriptError> {
-        if value.is_null() {
-            return Ok(Ok(Reply::Role(RoleReply { credentials: None })));
-        }
-        Sent::<Role>::read(alloc, value)
-    }
-
-    fn find_fault(alloc: Global, value: Value) -> Result<Option<Fault>, OutOfMemory> {
-        if value.is_null() {
-            return Ok(None);
-        }
-        Sent::<Role>::find_fault(alloc, value)
-    }
-}
-
-/// The same of `CreateOAuth2Token`.
-pub(crate) struct SignInSent;
-
-impl Part for SignInSent {
-    ghost use Rattle.std.specs.Prelude.{Result};
-    ghost use Rattle.cfg_types.specs.declared.reply.Reply.{Reply};
-    ghost use Rattle.cfg_types.specs.declared.reply.FailKind.{FailKind};
-    ghost use Rattle.cfg_script.specs.Replies.{sign_in_reply};
-
-    type Read = Result<Reply, FailKind>;
-
-    ghost Plain = { Result Reply FailKind };
-
-    ghost seen = { λ r. r };
-
-    ghost form = { sign_in_reply };
-
-    fn read(alloc: Global, value: Value) -> Result<Result<Reply, FailKind>, ScriptError> {
-        if value.is_null() {
-            return Ok(Ok(Reply::SignIn(SignInReply { token: None })));
-        }
-        Sent::<SignsIn>::read(alloc, value)
-    }
-
-    fn find_fault(alloc: Global, value: Value) -> Result<Option<Fault>, OutOfMemory> {
-        if value.is_null() {
-            return Ok(None);
-        }
-        Sent::<SignsIn>::find_fault(alloc, value)
     }
 }

@@ -3,11 +3,10 @@ ghost use Rattle.std.specs.Prelude.{◌≡◌};
 ghost use Rattle.serde_json.specs.View.{view};
 ghost use Rattle.cfg_script.specs.Sections.{env_text_from};
 
-use crate::fault::{Fault, Wanted, unless_read};
-use crate::part::{Items, Part, pair_fault, read_pair};
-use crate::script::ScriptError;
-use crate::values::Named;
-use cfg_types::{EnvText, OutOfMemory, Text};
+use crate::fault::{FormError, Wanted, wanting};
+use crate::form::{Form, Items, read_pair};
+use crate::scalars::KeyText;
+use cfg_types::{EnvText, Text};
 use serde_json::Value;
 use std::alloc::Global;
 
@@ -22,9 +21,9 @@ fn read_env_text(value: Value) -> Option<EnvText>
 }
 
 /// A text, or null for a value that is not Unicode.
-pub(crate) struct Set;
+pub(crate) struct VariableText;
 
-impl Part for Set {
+impl Form for VariableText {
     ghost use Rattle.cfg_types.specs.declared.environment.EnvText.{EnvText};
     ghost use Rattle.cfg_script.specs.Sections.{env_text};
 
@@ -36,21 +35,17 @@ impl Part for Set {
 
     ghost form = { env_text };
 
-    fn read(_: Global, value: Value) -> Result<EnvText, ScriptError> {
-        read_env_text(value).ok_or(ScriptError::NoScript)
-    }
-
-    fn find_fault(alloc: Global, value: Value) -> Result<Option<Fault>, OutOfMemory> {
-        Ok(unless_read(alloc, Wanted::TextOrNull, read_env_text(value)))
+    fn read(alloc: Global, value: Value) -> Result<EnvText, FormError> {
+        wanting(alloc, Wanted::TextOrNull, read_env_text(value))
     }
 }
 
 /// A variable's name and what it is set to.
 pub(crate) struct Variable;
 
-impl Part for Variable {
+impl Form for Variable {
     ghost use Rattle.std.specs.Prelude.{List, ℕ};
-    ghost use Rattle.cfg_values.specs.TextMap.{named};
+    ghost use Rattle.cfg_base.specs.TextMap.{named};
     ghost use Rattle.cfg_types.specs.declared.environment.EnvText.{EnvText};
     ghost use Rattle.cfg_script.specs.Sections.{variable};
 
@@ -62,19 +57,15 @@ impl Part for Variable {
 
     ghost form = { variable };
 
-    fn read(alloc: Global, value: Value) -> Result<(String, EnvText), ScriptError> {
-        read_pair::<Named, Set>(alloc, value)
-    }
-
-    fn find_fault(alloc: Global, value: Value) -> Result<Option<Fault>, OutOfMemory> {
-        pair_fault::<Named, Set>(alloc, Wanted::Variable, value)
+    fn read(alloc: Global, value: Value) -> Result<(String, EnvText), FormError> {
+        read_pair::<KeyText, VariableText>(alloc, Wanted::Variable, value)
     }
 }
 
 /// A key and its value.
 pub(crate) struct Property;
 
-impl Part for Property {
+impl Form for Property {
     ghost use Rattle.cfg_script.specs.Script.{Property, property_bytes};
     ghost use Rattle.cfg_script.specs.Sections.{property_form};
 
@@ -86,19 +77,15 @@ impl Part for Property {
 
     ghost form = { property_form };
 
-    fn read(alloc: Global, value: Value) -> Result<(String, String), ScriptError> {
-        read_pair::<Named, Named>(alloc, value)
-    }
-
-    fn find_fault(alloc: Global, value: Value) -> Result<Option<Fault>, OutOfMemory> {
-        pair_fault::<Named, Named>(alloc, Wanted::Property, value)
+    fn read(alloc: Global, value: Value) -> Result<(String, String), FormError> {
+        read_pair::<KeyText, KeyText>(alloc, Wanted::Property, value)
     }
 }
 
 /// A section's name and its properties.
 pub(crate) struct Section;
 
-impl Part for Section {
+impl Form for Section {
     ghost use Rattle.cfg_script.specs.Script.{Section, section_bytes};
     ghost use Rattle.cfg_script.specs.Sections.{section};
 
@@ -110,11 +97,7 @@ impl Part for Section {
 
     ghost form = { section };
 
-    fn read(alloc: Global, value: Value) -> Result<(String, Vec<(String, String)>), ScriptError> {
-        read_pair::<Named, Items<Property>>(alloc, value)
-    }
-
-    fn find_fault(alloc: Global, value: Value) -> Result<Option<Fault>, OutOfMemory> {
-        pair_fault::<Named, Items<Property>>(alloc, Wanted::Section, value)
+    fn read(alloc: Global, value: Value) -> Result<(String, Vec<(String, String)>), FormError> {
+        read_pair::<KeyText, Items<Property>>(alloc, Wanted::Section, value)
     }
 }

@@ -1,24 +1,23 @@
 //! The members of a script, a row each: the settings, and the lists of the devices.
 ghost use Rattle.std.specs.Prelude.{◌≡◌, true, map, option_map, unwrap_or};
-ghost use Rattle.cfg_script.specs.Settings.{no_queues, lists_in, profiles_of, plain_with};
-ghost use Rattle.cfg_script.specs.Reading.{plain_in};
+ghost use Rattle.cfg_script.specs.Settings.{no_queues, lists_in, profiles_of, plain_in};
 ghost use Rattle.cfg_script.specs.Script.{plain, plain_profiles, section_bytes};
 
-use crate::fault::{Fault, Wanted};
-use crate::moments::ClockMoment;
-use crate::names::{
+use crate::fault::{FormError, Wanted};
+use crate::form::{Form, read_pair};
+use crate::member_names::{
     AssumeRole, Calls, Clock, Commands, CreateToken, Files, Http, ImdsGet, ImdsToken, Jitter,
     Lookups, Profiles, Refused, Region, Replies, RoleCredentials, Selected, Sessions, SignIn,
     Sleep, Unwritable, Variables, WebIdentity,
 };
-use crate::object::{object_fault, read_object};
-use crate::part::{Part, pair_fault, read_pair};
-use crate::replies::{Command, HttpSent, LookUp, RoleSent, Sent, SignInSent, StsSent, Tokens};
-use crate::script::{Script, ScriptError, ScriptProfiles};
+use crate::members::{ListOf, Member, Name, Optional};
+use crate::moments::ClockMoment;
+use crate::object::{Object, read_object};
+use crate::replies::{Command, HttpSent, LookUp, Role, Sent, SignsIn, Sts, Tokens};
+use crate::scalars::{Boolean, CallCount, ContentOrNull, KeyText, UnsignedInteger, ValueText};
+use crate::script::{Script, ScriptProfiles};
 use crate::sections::{Section, Variable};
-use crate::table::{Both, Group, ListOf, Member, Name, Optional};
-use crate::values::{CallCount, ContentOrNull, Named, Natural, Truth, Words};
-use cfg_types::{Bytes, OutOfMemory, Seq, Text};
+use cfg_types::{Bytes, Seq, Text};
 use cfg_world::DeviceLists;
 use serde_json::Value;
 use std::alloc::Global;
@@ -26,7 +25,7 @@ use std::alloc::Global;
 /// A file's path and its content.
 pub(crate) struct File;
 
-impl Part for File {
+impl Form for File {
     ghost use Rattle.std.specs.Prelude.{List, ℕ, Option};
     ghost use Rattle.cfg_script.specs.Settings.{file};
 
@@ -38,30 +37,26 @@ impl Part for File {
 
     ghost form = { file };
 
-    fn read(alloc: Global, value: Value) -> Result<(Text, Option<Bytes>), ScriptError> {
-        read_pair::<Words, ContentOrNull>(alloc, value)
-    }
-
-    fn find_fault(alloc: Global, value: Value) -> Result<Option<Fault>, OutOfMemory> {
-        pair_fault::<Words, ContentOrNull>(alloc, Wanted::File, value)
+    fn read(alloc: Global, value: Value) -> Result<(Text, Option<Bytes>), FormError> {
+        read_pair::<ValueText, ContentOrNull>(alloc, Wanted::File, value)
     }
 }
 
-type QueueRows = (
+type QueueMembers = (
     ListOf<Http, HttpSent>,
     (
         ListOf<ImdsToken, HttpSent>,
         (
             ListOf<ImdsGet, HttpSent>,
             (
-                ListOf<AssumeRole, StsSent>,
+                ListOf<AssumeRole, Sent<Sts>>,
                 (
-                    ListOf<WebIdentity, StsSent>,
+                    ListOf<WebIdentity, Sent<Sts>>,
                     (
-                        ListOf<RoleCredentials, RoleSent>,
+                        ListOf<RoleCredentials, Sent<Role>>,
                         (
                             ListOf<CreateToken, Sent<Tokens>>,
-                            (ListOf<SignIn, SignInSent>, ()),
+                            (ListOf<SignIn, Sent<SignsIn>>, ()),
                         ),
                     ),
                 ),
@@ -71,8 +66,8 @@ type QueueRows = (
 );
 
 // No list has an item.
-fn no_replies(alloc: Global) -> <QueueRows as Group>::Read
-    ensures { ⟦<QueueRows as Group>⟧.seen result ≡ no_queues }
+fn no_replies(alloc: Global) -> <QueueMembers as Object>::Read
+    ensures { ⟦<QueueMembers as Object>⟧.seen result ≡ no_queues }
 {
     let services = (
         Vec::new(alloc),
@@ -92,16 +87,16 @@ pub(crate) struct ReplyLists;
 
 impl Member for ReplyLists {
     ghost use Rattle.std.specs.Prelude.{codes};
-    ghost use Rattle.cfg_script.specs.Table.{row_or};
+    ghost use Rattle.cfg_script.specs.Objects.{member_or};
     ghost use Rattle.cfg_script.specs.Settings.{Queues, no_queues, replies};
 
-    type Read = <QueueRows as Group>::Read;
+    type Read = <QueueMembers as Object>::Read;
 
     ghost Plain = { Queues };
 
-    ghost seen = { ⟦<QueueRows as Group>⟧.seen };
+    ghost seen = { ⟦<QueueMembers as Object>⟧.seen };
 
-    ghost row = { row_or (codes "replies") no_queues replies };
+    ghost member_form = { member_or (codes "replies") no_queues replies };
 
     fn name() -> &'static str {
         Replies::name()
@@ -110,29 +105,22 @@ impl Member for ReplyLists {
     fn read(
         alloc: Global,
         member: Option<Value>,
-    ) -> Result<<QueueRows as Group>::Read, ScriptError> {
+    ) -> Result<<QueueMembers as Object>::Read, FormError> {
         match member {
-            Some(value) => read_object::<QueueRows>(alloc, value),
+            Some(value) => read_object::<QueueMembers>(alloc, Wanted::Replies, value),
             None => Ok(no_replies(alloc)),
-        }
-    }
-
-    fn find_fault(alloc: Global, member: Option<Value>) -> Result<Option<Fault>, OutOfMemory> {
-        match member {
-            Some(value) => object_fault::<QueueRows>(alloc, Wanted::Replies, value),
-            None => Ok(None),
         }
     }
 }
 
-pub(crate) type DeviceRows = (
+type DeviceMembers = (
     ListOf<Files, File>,
     (
-        ListOf<Unwritable, Words>,
+        ListOf<Unwritable, ValueText>,
         (
             ListOf<Clock, ClockMoment>,
             (
-                ListOf<Jitter, Natural>,
+                ListOf<Jitter, UnsignedInteger>,
                 (
                     ListOf<Commands, Command>,
                     (ListOf<Lookups, LookUp>, (ReplyLists, ())),
@@ -142,33 +130,10 @@ pub(crate) type DeviceRows = (
     ),
 );
 
-pub(crate) type SettingRows = (
-    ListOf<Variables, Variable>,
-    (
-        ListOf<Profiles, Section>,
-        (
-            ListOf<Sessions, Section>,
-            (
-                Optional<Refused, Words>,
-                (
-                    Optional<Selected, Named>,
-                    (
-                        Optional<Region, Named>,
-                        (Optional<Sleep, Truth>, (Optional<Calls, CallCount>, ())),
-                    ),
-                ),
-            ),
-        ),
-    ),
-);
-
-/// All members of a script.
-pub(crate) type ScriptRows = Both<SettingRows, DeviceRows>;
-
 // Each list in its place.
 #[tactic(auto, unfolding(crate::specs::Settings::lists_in))]
-fn lists(rows: <DeviceRows as Group>::Read) -> DeviceLists
-    ensures { result ≡ lists_in (⟦<DeviceRows as Group>⟧.seen rows) }
+fn lists(rows: <DeviceMembers as Object>::Read) -> DeviceLists
+    ensures { result ≡ lists_in (⟦<DeviceMembers as Object>⟧.seen rows) }
 {
     let (files, (unwritable, (clock, (jitter, (commands, (lookups, (queues, ()))))))) = rows;
     let (http, (imds_token, (imds_get, (assume_role, queues)))) = queues;
@@ -190,6 +155,68 @@ fn lists(rows: <DeviceRows as Group>::Read) -> DeviceLists
         sign_in: Seq::of(sign_in),
     }
 }
+
+/// The lists of the devices.
+pub(crate) struct Devices;
+
+impl Object for Devices {
+    ghost use Rattle.std.specs.Prelude.{Ok};
+    ghost use Rattle.cfg_base.specs.Gives.{◌>>=◌};
+    ghost use Rattle.cfg_world.specs.declared.script.DeviceLists.{DeviceLists};
+    ghost use Rattle.cfg_script.specs.Settings.{lists_in, devices};
+
+    type Read = DeviceLists;
+
+    type Places = <DeviceMembers as Object>::Places;
+
+    ghost Plain = { DeviceLists };
+
+    ghost seen = { λ lists. lists };
+
+    ghost object_form = { devices };
+
+    ghost read_on = { λ places ms. ⟦<DeviceMembers as Object>⟧.read_on places ms >>= λ rows. Ok (lists_in rows) };
+
+    fn empty() -> <DeviceMembers as Object>::Places {
+        DeviceMembers::empty()
+    }
+
+    fn put(places: &mut <DeviceMembers as Object>::Places, name: &str, value: Value) -> bool {
+        DeviceMembers::put(places, name, value)
+    }
+
+    fn read_places(
+        alloc: Global,
+        places: <DeviceMembers as Object>::Places,
+    ) -> Result<DeviceLists, FormError> {
+        let rows = DeviceMembers::read_places(alloc, places)?;
+        Ok(lists(rows))
+    }
+}
+
+/// All members of a script: the settings, and the lists of the devices.
+pub(crate) type ScriptMembers = (
+    ListOf<Variables, Variable>,
+    (
+        ListOf<Profiles, Section>,
+        (
+            ListOf<Sessions, Section>,
+            (
+                Optional<Refused, ValueText>,
+                (
+                    Optional<Selected, KeyText>,
+                    (
+                        Optional<Region, KeyText>,
+                        (
+                            Optional<Sleep, Boolean>,
+                            (Optional<Calls, CallCount>, Devices),
+                        ),
+                    ),
+                ),
+            ),
+        ),
+    ),
+);
 
 // Sections, unless they are refused.
 fn profiles_by(
@@ -223,13 +250,13 @@ fn call_count(calls: Option<u64>) -> u64
     }
 }
 
-// Each setting in its place.
-#[tactic(auto, unfolding(crate::specs::Settings::plain_with))]
-fn script_with(rows: <SettingRows as Group>::Read, devices: DeviceLists) -> Script
-    ensures { plain result ≡ plain_with (⟦<SettingRows as Group>⟧.seen rows) devices }
+/// Each member in its place.
+#[tactic(auto, unfolding(crate::specs::Settings::plain_in))]
+pub(crate) fn script_by(rows: <ScriptMembers as Object>::Read) -> Script
+    ensures { plain result ≡ plain_in (⟦<ScriptMembers as Object>⟧.seen rows) }
 {
     let (variables, (profiles, (sessions, (refused, rows)))) = rows;
-    let (selected, (region, (sleep, (calls, ())))) = rows;
+    let (selected, (region, (sleep, (calls, devices)))) = rows;
     let profiles = profiles_by(refused, profiles, sessions);
     let sleep = is_to_sleep(sleep);
     let calls = call_count(calls);
@@ -242,12 +269,4 @@ fn script_with(rows: <SettingRows as Group>::Read, devices: DeviceLists) -> Scri
         calls,
         devices,
     }
-}
-
-/// Each member in its place.
-pub(crate) fn script_by(rows: <ScriptRows as Group>::Read) -> Script
-    ensures { plain result ≡ plain_in (⟦<ScriptRows as Group>⟧.seen rows) }
-{
-    let (settings, devices) = rows;
-    script_with(settings, lists(devices))
 }

@@ -3,7 +3,7 @@ use Rattle.std.proofs.Common.{◌≡◌, ◌⊎◌, inl, inr, ℕ, Bool, true, f
 use Rattle.std.specs.Prelude.{codes, is_ok, IsSome, IsOk, option_map}
 use Rattle.std.specs.Result.{result_err}
 use Rattle.std.specs.Str.{encode_utf8_all}
-use Rattle.cfg_values.specs.Moment.{Moment}
+use Rattle.cfg_base.specs.Moment.{Moment}
 use Rattle.cfg_types.specs.Environment.{Variables, variable}
 use Rattle.cfg_types.specs.Replies.{role_in}
 use Rattle.cfg_types.specs.declared.environment.VarError.{VarError}
@@ -18,7 +18,7 @@ use Rattle.cfg_world.specs.declared.ask.Answer.TheVariants as answer
 use Rattle.cfg_world.specs.declared.ask.Question.TheVariants as question
 use Rattle.cfg_world.specs.declared.leaves.NotGranted.{NotGranted}
 use Rattle.cfg_world.specs.Fits.{Pair}
-use Rattle.cfg_world.specs.Inquiry.{Inquiry, Done, Ask, Reads, after}
+use Rattle.cfg_world.specs.Inquiry.{Done, Reads, after}
 use Rattle.cfg_world.specs.Leaves.{clock, moment_of, contents_of, granted_of}
 use Rattle.cfg_profile.specs.Configuration.{Configuration}
 use Rattle.cfg_profile.specs.Settings.{settings_of}
@@ -29,24 +29,27 @@ use Rattle.cfg_token.specs.declared.file_token.Renewal.TheVariants.{Granted, Pas
 use Rattle.cfg_token.specs.declared.sections.Sectioned.{Sectioned}
 use Rattle.cfg_token.specs.declared.sections.Sectioned.TheVariants.{Hit, Load}
 use Rattle.cfg_token.specs.declared.sso_token.CachedSsoToken.{CachedSsoToken}
-use Rattle.cfg_token.specs.declared.steps.Loaded.{Loaded}
+use Rattle.cfg_token.specs.declared.loading.Loaded.{Loaded}
 use Rattle.cfg_token.specs.declared.token_key.TokenKey.{TokenKey}
 use Rattle.cfg_token.specs.declared.token_key.TokenKey.TheVariants.{Sso}
-use Rattle.cfg_token.specs.Decisions.{decision, is_soon, is_refreshable}
-use Rattle.cfg_values.specs.Instant.{is_later_by}
+use Rattle.cfg_token.specs.Decisions.{decision, ends_soon, is_refreshable, outlasts_buffer}
 use Rattle.cfg_token.specs.Moments.{is_before}
 use Rattle.cfg_token.specs.Sections
 use Rattle.cfg_token.specs.SsoFile.{sso_file}
 use Rattle.cfg_token.specs.SsoText.{sso_text}
 use Rattle.cfg_token.specs.SsoTokens.{Given as GivenBy, home_path, loaded, sso_renewal, sso_rules}
+use Rattle.cfg_token.specs.Readings.{IsHit}
 use Rattle.cfg_token.proofs.Outcomes.{Gives, gives_reads, gives_after, gives_more}
-use Rattle.cfg_keeping.specs.Kinds.{Value, sso_in}
+use Rattle.cfg_token.proofs.Readings.{section_hits}
+use Rattle.cfg_kept.specs.Kinds.{Value, sso_in}
+use Rattle.cfg_kept.specs.SectionParts.{found_at}
+use Rattle.cfg_kept.specs.SsoHoldings.{sso_spot}
 use Rattle.cfg_sso.specs.declared.config.SsoProviderConfig.{SsoProviderConfig}
 use Rattle.cfg_sso.specs.RoleKeys.{Answer}
 use Rattle.cfg_sso.specs.Tokens.{Token, url_path, token_in, of_file, of_section, key_by}
-use Rattle.cfg_sso.specs.SsoCauses.{IsSectionPart, IsFilePart, IsTokenPart, why_keys, why_reply, why_granted, IsBehind, SsoCause}
+use Rattle.cfg_sso.specs.SsoCauses.{IsSsoPart, IsFilePart, IsTokenPart, why_keys, why_reply, why_granted, IsBehind, SsoCause}
 use Rattle.cfg_token.specs.Sections.{ok_of}
-use Rattle.cfg_sso.specs.InNoWay.{held_token, IsWritten, IsRenewed, IsRefreshed, IsInTime, IsSectionInTime, IsTokenInTime, kept_found, IsHit, HoldsKeys, IsGranted, AreGranted, NothingInTheWay}
+use Rattle.cfg_sso.specs.InNoWay.{held_token, IsWritten, IsRenewed, IsRefreshed, IsInTime, IsSectionInTime, IsTokenInTime, HoldsKeys, IsGranted, AreGranted, NothingInTheWay}
 
 abbrev Made : Type 0
 Made = Sectioned CachedSsoToken SsoTokenProviderError
@@ -88,8 +91,8 @@ not_refused false false h = absurd cc
 
 decided : (file : CachedSsoToken) (last : Option Moment) (now : Moment) → is_before now file.expires_at ≡ true → decision sso_rules file last now ≡ Refuse → ⊥
 decided file last now before h =
-    not_refused (is_soon sso_rules file now) (is_refreshable sso_rules file last now)
-    (subst (λ b. cond (not b && not (is_refreshable sso_rules file last now)) Refuse (cond (is_soon sso_rules file now && is_refreshable sso_rules file last now) Refresh Use) ≡ Refuse) before h)
+    not_refused (ends_soon sso_rules file now) (is_refreshable sso_rules file last now)
+    (subst (λ b. cond (not b && not (is_refreshable sso_rules file last now)) Refuse (cond (ends_soon sso_rules file now && is_refreshable sso_rules file last now) Refresh Use) ≡ Refuse) before h)
 
 decides_fine : (key : TokenKey) (settings : CallSettings) (path : List ℕ) (file : CachedSsoToken) (last : Option Moment) (now : Moment) (d : Decision) → decision sso_rules file last now ≡ d →
     Gives (Sections.decides sso_rules key settings path file now d) (λ part l. IfFine (IsRefreshed key file now part) l)
@@ -157,31 +160,11 @@ section_fine : (key : TokenKey) (env : Variables) (settings : CallSettings) (kep
     Gives (Sections.section sso_rules key env settings kept last) (IsFine key)
 unfolding Sections.section Sections.by_reading clock
 section_fine key env settings None last home = λ a. loaded_fine key env settings last a home
-section_fine key env settings (Some token) last home = λ a. either_way a (is_later_by token.expires_at (moment_of a) 300)
+section_fine key env settings (Some token) last home = λ a. either_way a (outlasts_buffer sso_rules token (moment_of a))
   where
     either_way : (a : Given) (fresh : Bool) → Gives (cond fresh (Done (Hit token)) (after (Sections.load sso_rules key env settings last) (λ l. Done (Load l)))) (λ part made. IsFine key ((question.Now, a) ∷ part) made)
     either_way a true = λ h. refl
     either_way a false = loaded_fine key env settings last a home
-
--- whatever a tree does, where the same holds of all that it may do
-gives_all : {R : Type 0} (p : Inquiry R) (P : List Pair → R → Type 0) → ((part : List Pair) (out : R) → P part out) → Gives p P
-gives_all (Done r) P f = f [] r
-gives_all (Ask q n) P f = λ a. gives_all (n a) (λ part out. P ((q, a) ∷ part) out) (λ part out. f ((q, a) ∷ part) out)
-
--- the section gave a token, where a kept one is handed out
-abbrev IfHit : Option CachedSsoToken → List Pair → Made → Type 0
-IfHit kept part made = IsHit kept part → IsOk (Sections.answer_of made)
-
-hit_fine : (key : TokenKey) (env : Variables) (settings : CallSettings) (kept : Option CachedSsoToken) (last : Option Moment) → Gives (Sections.section sso_rules key env settings kept last) (IfHit kept)
-unfolding Sections.section Sections.by_reading clock
-hit_fine key env settings None last = λ a. gives_all (after (Sections.load sso_rules key env settings last) (λ l. Done (Load l))) (λ part made. IfHit None ((question.Now, a) ∷ part) made) (λ part made h. absurd h)
-hit_fine key env settings (Some token) last = λ a. either_way a (is_later_by token.expires_at (moment_of a) 300) refl
-  where
-    either_way : (a : Given) (fresh : Bool) → is_later_by token.expires_at (moment_of a) 300 ≡ fresh →
-        Gives (cond fresh (Done (Hit token)) (after (Sections.load sso_rules key env settings last) (λ l. Done (Load l)))) (λ part made. IfHit (Some token) ((question.Now, a) ∷ part) made)
-    either_way a true is = λ h. refl
-    either_way a false is =
-        gives_all (after (Sections.load sso_rules key env settings last) (λ l. Done (Load l))) (λ part made. IfHit (Some token) ((question.Now, a) ∷ part) made) (λ part made h. absurd (never (sym is ∙ h)))
 
 -- ---- the token
 
@@ -210,35 +193,35 @@ read_token path (answer.Addresses addresses) h = absurd (never h)
 read_token path (answer.Replied reply) h = absurd (never h)
 read_token path (answer.Failed kind) h = absurd (never h)
 
-file_fine : (url : List ℕ) (home : Result (List ℕ) VarError) (part : List Pair) (token : Token) → IsHit None part ⊎ IsOk home → IsTokenInTime None part → IsFilePart (url_path url home) part token → IsOk token
+file_fine : (url : List ℕ) (home : Result (List ℕ) VarError) (part : List Pair) (token : Token) → IsHit sso_rules None part ⊎ IsOk home → IsTokenInTime None part → IsFilePart (url_path url home) part token → IsOk token
 file_fine url home part token (inl h) t p = absurd h
 file_fine url (Err e) part token (inr h) t p = absurd (never h)
 file_fine url (Ok home) part token (inr h) t p = subst (λ (x : Token). IsOk x) (sym p.2) (read_token _ p.0 (subst (IsTokenInTime None) p.1 t))
 
-made_fine : (key : TokenKey) (env : Variables) (settings : CallSettings) (kept : Option CachedSsoToken) (last : Option Moment) (part : List Pair) (made : Made) → IsHit kept part ⊎ IsOk (sso_rules.path key env) →
+made_fine : (key : TokenKey) (env : Variables) (settings : CallSettings) (kept : Option CachedSsoToken) (last : Option Moment) (part : List Pair) (made : Made) → IsHit sso_rules kept part ⊎ IsOk (sso_rules.path key env) →
     IsSectionInTime key part → Reads (Sections.section sso_rules key env settings kept last) part made → IsOk (Sections.answer_of made)
-made_fine key env settings kept last part made (inl hit) t reads = gives_reads (Sections.section sso_rules key env settings kept last) (IfHit kept) part made (hit_fine key env settings kept last) reads hit
+made_fine key env settings kept last part made (inl hit) t reads = section_hits sso_rules key env settings kept last part made reads hit
 made_fine key env settings kept last part made (inr path) t reads = gives_reads (Sections.section sso_rules key env settings kept last) (IsFine key) part made (section_fine key env settings kept last path) reads t
 
-path_fine : (session : List ℕ) (home : Result (List ℕ) VarError) (kept : Option CachedSsoToken) (part : List Pair) → IsHit kept part ⊎ IsOk home → IsHit kept part ⊎ IsOk (home_path session home)
+path_fine : (session : List ℕ) (home : Result (List ℕ) VarError) (kept : Option CachedSsoToken) (part : List Pair) → IsHit sso_rules kept part ⊎ IsOk home → IsHit sso_rules kept part ⊎ IsOk (home_path session home)
 path_fine session home kept part (inl hit) = inl hit
 path_fine session home kept part (inr known) = inr (home_fine session home known)
 
-session_fine : (conf : Configuration) (session region url : List ℕ) (found : List Value) (part : List Pair) (token : Token) → IsHit (kept_found found) part ⊎ IsOk (variable conf.environment (codes "HOME")) →
-    IsSectionInTime (Sso session region url) part → (given : GivenBy CachedSsoToken) → IsSectionPart conf (Sso session region url) found part given → token ≡ of_section given → IsOk token
+session_fine : (conf : Configuration) (session region url : List ℕ) (found : List Value) (part : List Pair) (token : Token) → IsHit sso_rules (found_at sso_spot found).token part ⊎ IsOk (variable conf.environment (codes "HOME")) →
+    IsSectionInTime (Sso session region url) part → (given : GivenBy CachedSsoToken) → IsSsoPart conf (Sso session region url) found part given → token ≡ of_section given → IsOk token
 session_fine conf session region url found part token home t given s told =
     let key = Sso session region url in
     let was = sso_in s.value in
     let known = path_fine session (variable conf.environment (codes "HOME")) was.token part
-    (subst (λ (f : List Value). IsHit (kept_found f) part ⊎ IsOk (variable conf.environment (codes "HOME"))) s.finds home) in
+    (subst (λ (f : List Value). IsHit sso_rules (found_at sso_spot f).token part ⊎ IsOk (variable conf.environment (codes "HOME"))) s.finds home) in
     let fine = made_fine key conf.environment (settings_of conf) was.token was.last part s.made known t s.reads in
     subst (λ (x : Token). IsOk x) (sym told) (told_fine given (subst (λ (x : GivenBy CachedSsoToken). IsOk x) (sym s.gives) fine))
 
 token_fine : (conf : Configuration) (name : Option (List ℕ)) (region url : List ℕ) (found : List Value) (part : List Pair) (token : Token) →
-    IsHit (kept_found found) part ⊎ IsOk (variable conf.environment (codes "HOME")) → IsTokenInTime (key_by name region url) part → IsTokenPart conf url (key_by name region url) found part token → IsOk token
+    IsHit sso_rules (found_at sso_spot found).token part ⊎ IsOk (variable conf.environment (codes "HOME")) → IsTokenInTime (key_by name region url) part → IsTokenPart conf url (key_by name region url) found part token → IsOk token
 token_fine conf None region url found part token home t p =
     file_fine url (variable conf.environment (codes "HOME")) part token
-    (subst (λ (f : List Value). IsHit (kept_found f) part ⊎ IsOk (variable conf.environment (codes "HOME"))) p.0 home) t p.1
+    (subst (λ (f : List Value). IsHit sso_rules (found_at sso_spot f).token part ⊎ IsOk (variable conf.environment (codes "HOME"))) p.0 home) t p.1
 token_fine conf (Some session) region url found part token home t p = session_fine conf session region url found part token home t p.0 p.1 p.2
 
 -- ---- the request

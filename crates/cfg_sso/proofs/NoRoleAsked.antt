@@ -5,10 +5,10 @@ use Rattle.cfg_world.specs.declared.ask.Answer.TheVariants as answer
 use Rattle.cfg_world.specs.Fits.{Pair}
 use Rattle.cfg_world.specs.Inquiry.{Inquiry, Done, Ask, after, if_ok}
 use Rattle.cfg_token.proofs.Outcomes.{Gives as AllGive}
-use Rattle.cfg_keeping.specs.Kinds.{Spot, Value, States}
-use Rattle.cfg_keeping.specs.KeptInquiry.{KeptInquiry, Gives, Puts, Finds, Leaves, Runs, Begins, leave, lift, onwards, onwards_if_ok}
-use Rattle.cfg_keeping.specs.Holds.{left_by, holding}
-use Rattle.cfg_keeping.proofs.Told.{run_begins}
+use Rattle.cfg_kept.specs.Kinds.{Spot, Value, States}
+use Rattle.cfg_kept.specs.KeptInquiry.{KeptInquiry, Gives, Puts, Finds, Leaves, Runs, Begins, leave, lift, onwards, onwards_if_ok}
+use Rattle.cfg_kept.specs.Holds.{left_by, holding}
+use Rattle.cfg_kept.proofs.Told.{run_begins}
 use Rattle.cfg_sso.specs.RoleRequests.{is_role_request, AsksNoRole}
 
 -- None of the tree's questions is such a request, whatever is answered and found.

@@ -10,15 +10,18 @@ use Rattle.cfg_profile.specs.Configuration.{Configuration}
 use Rattle.cfg_profile.specs.Settings.{settings_of}
 use Rattle.cfg_token.specs.declared.sso_token.CachedSsoToken.{CachedSsoToken}
 use Rattle.cfg_token.specs.declared.token_key.TokenKey.{TokenKey}
-use Rattle.cfg_token.specs.SsoTokens.{Given}
-use Rattle.cfg_keeping.specs.Kinds.{Value, sso_in}
+use Rattle.cfg_token.specs.SsoTokens.{Given, sso_rules}
+use Rattle.cfg_kept.specs.Kinds.{Value, sso_in}
 use Rattle.cfg_sso.specs.declared.config.SsoProviderConfig.{SsoProviderConfig}
 use Rattle.cfg_sso.specs.RoleKeys.{Answer}
 use Rattle.cfg_sso.specs.Tokens.{Token, url_path, of_section, sso_key}
 use Rattle.cfg_sso.specs.SsoCauses.{IsFilePart, IsTokenPart, IsBehind, SsoCause}
 use Rattle.cfg_world.specs.LastReadings.{last_reading}
-use Rattle.cfg_sso.specs.RoleRequests.{AsksNoRole, EndsAfter, SendsOnce, SendsNothing}
-use Rattle.cfg_sso.proofs.SectionWalks.{section_asks_no_role, section_lasts}
+use Rattle.cfg_token.specs.Readings.{EndsAfter}
+use Rattle.cfg_token.specs.SsoTells.{sso_tells}
+use Rattle.cfg_token.proofs.Readings.{section_lasts}
+use Rattle.cfg_sso.specs.RoleRequests.{AsksNoRole, SendsOnce, SendsNothing}
+use Rattle.cfg_sso.proofs.SectionWalks.{section_asks_no_role}
 
 file_asks_no_role : (path : Result (List ℕ) CachedSsoTokenError) (part : List Pair) (token : Token) → IsFilePart path part token → AsksNoRole part
 file_asks_no_role (Err e) part token h = subst AsksNoRole (sym h.0) tt
@@ -36,16 +39,16 @@ unfolding of_section
 given_token (Ok t) token h = cc
 given_token (Err e) token h = cc
 
-lasting : (part : List Pair) (answer given : Given CachedSsoToken) (token : CachedSsoToken) → given ≡ answer → given ≡ Ok token → IfOk answer (λ t. EndsAfter (last_reading part) t) → EndsAfter (last_reading part) token
-lasting part answer given token is ok h = subst (λ r. IfOk r (λ t. EndsAfter (last_reading part) t)) (sym is ∙ ok) h
+lasting : (part : List Pair) (answer given : Given CachedSsoToken) (token : CachedSsoToken) → given ≡ answer → given ≡ Ok token → IfOk answer (λ t. EndsAfter (last_reading part) t.expires_at) → EndsAfter (last_reading part) token.expires_at
+lasting part answer given token is ok h = subst (λ r. IfOk r (λ t. EndsAfter (last_reading part) t.expires_at)) (sym is ∙ ok) h
 
 pub token_lasts : (conf : Configuration) (url : List ℕ) (key : Option TokenKey) (found : List Value) (part : List Pair) (token : CachedSsoToken) → IsTokenPart conf url key found part (Ok token) →
-    IfSome key (λ k. EndsAfter (last_reading part) token)
+    IfSome key (λ k. EndsAfter (last_reading part) token.expires_at)
 token_lasts conf url None found part token h = tt
 token_lasts conf url (Some key) found part token h =
     let s = h.1 in
     lasting part _ h.0 token s.gives (given_token h.0 token h.2)
-    (section_lasts key conf.environment (settings_of conf) (sso_in s.value).token (sso_in s.value).last part s.made s.reads)
+    (section_lasts sso_rules sso_tells key conf.environment (settings_of conf) (sso_in s.value).token (sso_in s.value).last part s.made s.reads)
 
 no_credentials : (out : Answer) (e : CredentialsError) → result_err out ≡ Some e → is_ok out ≡ false
 no_credentials (Ok keys) e h = cc

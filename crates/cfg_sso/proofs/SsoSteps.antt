@@ -1,26 +1,20 @@
 -- How the calls of a provider of IAM Identity Center are put together.
 use Rattle.std.proofs.Common.{◌≡◌, List, Option, Some, None, IfSome, Result, Ok, Err, sym, ◌∙◌, ap, subst}
-use Rattle.std.specs.Prelude.{ℕ, true, is_some, IsSome}
-use Rattle.cfg_types.specs.Environment.{Variables}
-use Rattle.cfg_types.specs.declared.settings.CallSettings.{CallSettings}
-use Rattle.cfg_world.specs.declared.ask.Question.{Question}
+use Rattle.std.specs.Prelude.{ℕ, true, is_some}
 use Rattle.cfg_world.specs.declared.asking.Asking.{Ghosts}
 use Rattle.cfg_world.specs.declared.asking.Stop.{Stop}
 use Rattle.cfg_world.specs.declared.asking.Stop.TheVariants.{OutOfMemory, Open}
 use Rattle.cfg_world.specs.Inquiry.{Inquiry}
 use Rattle.cfg_world.specs.Follows.{Follows}
 use Rattle.cfg_profile.specs.Configuration.{Configuration}
-use Rattle.cfg_profile.specs.Settings.{settings_of}
 use Rattle.cfg_token.specs.declared.sso_token.CachedSsoToken.{CachedSsoToken}
 use Rattle.cfg_token.specs.declared.token_key.TokenKey.{TokenKey}
 use Rattle.cfg_token.specs.declared.token_key.TokenKey.TheVariants.{Sso}
 use Rattle.cfg_token.specs.SsoTokens.{Given}
-use Rattle.cfg_keeping.specs.KeptInquiry.{KeptInquiry, Gives, lift}
-use Rattle.cfg_keeping.specs.KeyedStates.{is_sso_key}
-use Rattle.cfg_keeping.specs.Holds.{Holdings, HoldsEnds, HoldsBreaks, HoldsHalts, HoldsFollows}
-use Rattle.cfg_keeping.specs.SsoHoldings.{sso_holding}
-use Rattle.cfg_keeping.proofs.HoldingSteps.{holds_ends_then, holds_waits_then, holds_breaks_then, holds_waits_first, holds_breaks_first, holds_ends, holds_waits, holds_breaks, holds_said, holds_breaks_here}
-use Rattle.cfg_keeping.proofs.Told.{run_begins}
+use Rattle.cfg_kept.specs.KeptInquiry.{KeptInquiry, Gives, lift}
+use Rattle.cfg_kept.specs.KeyedStates.{is_sso_key}
+use Rattle.cfg_kept.specs.Holds.{Holdings, HoldsEnds, HoldsBreaks, HoldsHalts, HoldsFollows}
+use Rattle.cfg_kept.proofs.HoldingSteps.{holds_ends_then, holds_waits_then, holds_breaks_then, holds_waits_first, holds_breaks_first, holds_ends, holds_waits, holds_breaks, holds_said, holds_breaks_here}
 use Rattle.cfg_sso.specs.declared.config.SsoProviderConfig.{SsoProviderConfig}
 use Rattle.cfg_sso.specs.RoleKeys.{Answer}
 use Rattle.cfg_sso.specs.Tokens.{Token, section_of, of_section, session_token, url_token, key_by, sso_key, HasKey, token_by, sso_token}
@@ -41,14 +35,6 @@ session_has_key sso session held is has = ap is_sso_key (held_key sso session he
 
 module _ {W : Type 0} (w : Ghosts W) where
   -- ---- a section
-
-  -- a section by the settings of a configuration
-  pub section_told : (conf : Configuration) (env : Variables) (settings : CallSettings) (key : Option TokenKey) (old new : W) (before later : Holdings) (result : Result (Given CachedSsoToken) Stop) →
-      env ≡ conf.environment → settings ≡ settings_of conf → IfSome key (λ k. HoldsFollows w (sso_holding k env settings) old before new later result) →
-      IfSome key (λ k. HoldsFollows w (section_of conf k) old before new later result)
-  section_told conf env settings key old new before later result same set h =
-      subst (λ e. IfSome key (λ k. HoldsFollows w (sso_holding k e (settings_of conf)) old before new later result)) same
-      (subst (λ s. IfSome key (λ k. HoldsFollows w (sso_holding k env s) old before new later result)) set h)
 
   -- memory ran out before anything was found
   pub nothing_found : (conf : Configuration) (key : Option TokenKey) (old : W) (before : Holdings) → IfSome key (λ k. HoldsBreaks w (section_of conf k) old before old before)
@@ -128,28 +114,3 @@ module _ {W : Type 0} (w : Ghosts W) where
   bearer_halts conf held key old new before later Open has h = holds_waits_first (λ g. Gives (bearer g)) (subst (λ o. IfSome o (λ k. HoldsHalts w (section_of conf k) old before new later Open)) has h)
   bearer_halts conf held key old new before later OutOfMemory has h =
       holds_breaks_first (λ g. Gives (bearer g)) (subst (λ o. IfSome o (λ k. HoldsHalts w (section_of conf k) old before new later OutOfMemory)) has h)
-
--- ---- a call over a world
-
--- none is not some
-pub no_question : IsSome {T = Question} None → ⊥
-no_question h = absurd cc
-
--- where no question is left open, memory ran out
-pub broken : {W R : Type 0} {w : Ghosts W} {tree : KeptInquiry R} {old new : W} {before later : Holdings} (stop : Stop) → HoldsHalts w tree old before new later stop → (IsSome (w.open_question new) → ⊥) → HoldsBreaks w tree old before new later
-broken Open h n = absurd (n h.is_open)
-broken OutOfMemory h n = h
-
--- a call that came to its end has begun
-pub ended_breaks : {W R : Type 0} {w : Ghosts W} (tree : KeptInquiry R) (old new : W) (before later : Holdings) (out : R) → HoldsEnds w tree old before new later out → HoldsBreaks w tree old before new later
-ended_breaks tree old new before later out h = record {
-  part = h.part;
-  grows = h.grows;
-  fits = h.fits;
-  made = h.made;
-  same = h.same;
-  counted = h.counted;
-  found = h.found;
-  finds = h.finds;
-  begins = run_begins tree before.kept later.kept h.found h.part out h.runs;
-}

@@ -11,10 +11,10 @@ use Rattle.cfg_profile.specs.Configuration.{Configuration}
 use Rattle.cfg_token.specs.declared.sso_token.CachedSsoToken.{CachedSsoToken}
 use Rattle.cfg_token.specs.declared.token_key.TokenKey.{TokenKey}
 use Rattle.cfg_token.specs.SsoTokens.{Given}
-use Rattle.cfg_keeping.specs.Kinds.{Value}
-use Rattle.cfg_keeping.specs.KeptInquiry.{KeptInquiry, Gives, onwards}
+use Rattle.cfg_kept.specs.Kinds.{Value}
+use Rattle.cfg_kept.specs.KeptInquiry.{KeptInquiry, Gives, onwards}
 use Rattle.cfg_sso.specs.Tokens.{section_of}
-use Rattle.cfg_sso.specs.SsoCauses.{IsSectionPart}
+use Rattle.cfg_sso.specs.SsoCauses.{IsSsoPart}
 
 abbrev pub Bearer : Type 0
 Bearer = Result BearerToken TokenError
@@ -40,5 +40,5 @@ is_memory (Err e) = is_memory_class (token_class e)
 -- The part is that of a section, and the answer tells what it gave.
 pub record BearerCause (conf : Configuration) (key : TokenKey) (found : List Value) (part : List Pair) (out : Bearer) : Type 0 where
   pub given : Given CachedSsoToken
-  pub of_section : IsSectionPart conf key found part given
+  pub of_section : IsSsoPart conf key found part given
   pub tells : out ≡ bearer given

@@ -1,6 +1,6 @@
 -- Calls in whose way nothing stands.
 use Rattle.std.specs.Prelude.{◌≡◌, ◌⊎◌, List, [], ◌∷◌, true, Option, Some, None, IsSome, IsOk, Result, Ok, Err, codes}
-use Rattle.cfg_values.specs.Moment.{Moment}
+use Rattle.cfg_base.specs.Moment.{Moment}
 use Rattle.cfg_types.specs.Environment.{variable}
 use Rattle.cfg_types.specs.Replies.{role_in}
 use Rattle.cfg_types.specs.declared.errors.sso.SsoTokenProviderError.{SsoTokenProviderError}
@@ -16,13 +16,15 @@ use Rattle.cfg_token.specs.declared.file_token.Renewal.{Renewal}
 use Rattle.cfg_token.specs.declared.file_token.Renewal.TheVariants.{Granted, Passed, Refused}
 use Rattle.cfg_token.specs.declared.sso_token.CachedSsoToken.{CachedSsoToken}
 use Rattle.cfg_token.specs.declared.token_key.TokenKey.{TokenKey}
-use Rattle.cfg_values.specs.Instant.{is_later_by}
 use Rattle.cfg_token.specs.Moments.{is_before}
+use Rattle.cfg_token.specs.Readings.{IsHit}
 use Rattle.cfg_token.specs.Sections.{ok_of}
 use Rattle.cfg_token.specs.SsoFile.{sso_file}
 use Rattle.cfg_token.specs.SsoText.{sso_text}
-use Rattle.cfg_token.specs.SsoTokens.{sso_renewal}
-use Rattle.cfg_keeping.specs.Kinds.{Value, sso_in}
+use Rattle.cfg_token.specs.SsoTokens.{sso_renewal, sso_rules}
+use Rattle.cfg_kept.specs.Kinds.{Value}
+use Rattle.cfg_kept.specs.SectionParts.{found_at}
+use Rattle.cfg_kept.specs.SsoHoldings.{sso_spot}
 use Rattle.cfg_sso.specs.declared.config.SsoProviderConfig.{SsoProviderConfig}
 use Rattle.cfg_sso.specs.Tokens.{sso_key}
 
@@ -66,17 +68,6 @@ IsTokenInTime (Some key) part = IsSectionInTime key part
 IsTokenInTime None [] = Unit {0}
 IsTokenInTime None (file ∷ part) = IsSome (held_token file.1)
 
--- the token that was found kept
-abbrev pub kept_found : List Value → Option CachedSsoToken
-kept_found [] = None
-kept_found (value ∷ found) = (sso_in value).token
-
--- A kept token has more than 300 seconds left by the first reading, and is handed out: no file is looked for.
-abbrev pub IsHit : Option CachedSsoToken → List Pair → Type 0
-IsHit (Some token) (first ∷ part) = is_later_by token.expires_at (moment_of first.1) 300 ≡ true
-IsHit (Some token) [] = ⊥
-IsHit None part = ⊥
-
 -- The reply holds credentials with an id and a secret of their access key.
 pub record HasKeys (given : RoleCredentials) : Type 0 where
   pub id : IsSome given.access_key_id
@@ -97,6 +88,6 @@ AreGranted (e ∷ rest) = IsGranted (granted_of role_in e.1)
 -- A kept token is handed out, or the home directory is known; the token is in time or renewed, and the
 -- request is granted.
 pub record NothingInTheWay (conf : Configuration) (sso : SsoProviderConfig) (found : List Value) (token_part role_part : List Pair) : Type 0 where
-  pub home : IsHit (kept_found found) token_part ⊎ IsOk (variable conf.environment (codes "HOME"))
+  pub home : IsHit sso_rules (found_at sso_spot found).token token_part ⊎ IsOk (variable conf.environment (codes "HOME"))
   pub token : IsTokenInTime (sso_key sso) token_part
   pub role : AreGranted role_part

@@ -2,7 +2,7 @@
 use Rattle.cfg_world.specs.declared.asking.Asking.{Ghosts}
 use Rattle.cfg_profile.specs.Configuration.{Configuration}
 use Rattle.cfg_token.specs.declared.token_key.TokenKey.{TokenKey}
-use Rattle.cfg_keeping.specs.Holds.{Holdings, HoldsEnds}
+use Rattle.cfg_kept.specs.Holds.{Holdings, HoldsEnds}
 use Rattle.cfg_sso.specs.declared.config.SsoProviderConfig.{SsoProviderConfig}
 use Rattle.cfg_sso.specs.RoleKeys.{Answer}
 use Rattle.cfg_sso.specs.SsoCredentials.{sso_credentials}

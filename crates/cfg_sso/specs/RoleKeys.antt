@@ -1,7 +1,7 @@
 -- One request for the credentials of a role.
 use Rattle.std.specs.Prelude.{ℕ, ◌*◌, ℤ, pos, unsigned_abs, List, [], ◌∷◌, ◌++◌, Option, Some, None, Result, Ok, Err, codes}
 use Rattle.std.specs.Int.{int_div_euclid, int_rem_euclid}
-use Rattle.cfg_values.specs.Moment.{Moment}
+use Rattle.cfg_base.specs.Moment.{Moment}
 use Rattle.cfg_types.specs.Keys.{Keys, bare_keys}
 use Rattle.cfg_types.specs.declared.credentials.AwsCredentialFeature.TheVariants.{CredentialsSso}
 use Rattle.cfg_types.specs.declared.errors.CredentialsError.{CredentialsError}

@@ -1,6 +1,5 @@
 -- What is sent for the credentials of a role, and with which token.
 use Rattle.std.specs.Prelude.{◌≡◌, List, [], ◌∷◌, ◌++◌, Bool, true, false, Option, Some, None, IfSome, Ok, is_ok}
-use Rattle.cfg_values.specs.Moment.{Moment}
 use Rattle.cfg_types.specs.declared.request.Request.TheVariants as request
 use Rattle.cfg_world.specs.declared.ask.Question.{Question}
 use Rattle.cfg_world.specs.declared.ask.Question.TheVariants as question
@@ -9,8 +8,8 @@ use Rattle.cfg_world.specs.Fits.{Pair}
 use Rattle.cfg_world.specs.LastReadings.{last_reading}
 use Rattle.cfg_profile.specs.Configuration.{Configuration}
 use Rattle.cfg_token.specs.declared.sso_token.CachedSsoToken.{CachedSsoToken}
-use Rattle.cfg_token.specs.Moments.{is_before}
-use Rattle.cfg_keeping.specs.Kinds.{Value}
+use Rattle.cfg_token.specs.Readings.{EndsAfter}
+use Rattle.cfg_kept.specs.Kinds.{Value}
 use Rattle.cfg_sso.specs.declared.config.SsoProviderConfig.{SsoProviderConfig}
 use Rattle.cfg_sso.specs.RoleKeys.{Answer, request as request_of}
 use Rattle.cfg_sso.specs.Tokens.{sso_key}
@@ -26,11 +25,6 @@ abbrev pub AsksNoRole : List Pair → Type 0
 AsksNoRole [] = Unit {0}
 AsksNoRole (e ∷ part) = (is_role_request e.0 ≡ false) × AsksNoRole part
 
--- There is such a reading, and the token ends after it.
-abbrev pub EndsAfter : Option Moment → CachedSsoToken → Type 0
-EndsAfter None token = ⊥
-EndsAfter (Some now) token = is_before now token.expires_at ≡ true
-
 -- Behind the part that gave a token stands one request with it, and no other. A session's token ends
 -- after the last reading of its section.
 pub record SendsOnce (conf : Configuration) (sso : SsoProviderConfig) (found : List Value) (part : List Pair) : Type 0 where
@@ -40,7 +34,7 @@ pub record SendsOnce (conf : Configuration) (sso : SsoProviderConfig) (found : L
   pub parts : part ≡ token_part ++ (question.Send (request.GetRoleCredentials (request_of conf sso token)), given) ∷ []
   pub of_token : IsTokenPart conf sso.start_url (sso_key sso) found token_part (Ok token)
   pub alone : AsksNoRole token_part
-  pub unexpired : IfSome (sso_key sso) (λ key. EndsAfter (last_reading token_part) token)
+  pub unexpired : IfSome (sso_key sso) (λ key. EndsAfter (last_reading token_part) token.expires_at)
 
 -- Nothing is sent for the role, and there are no credentials.
 pub record SendsNothing (part : List Pair) (out : Answer) : Type 0 where

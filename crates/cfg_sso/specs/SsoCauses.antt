@@ -9,7 +9,6 @@ use Rattle.cfg_types.specs.declared.errors.ProviderCause.TheVariants as cause
 use Rattle.cfg_types.specs.declared.errors.UnhandledCause.{UnhandledCause}
 use Rattle.cfg_types.specs.declared.errors.UnhandledCause.TheVariants.{SsoNoCredentials, SsoNoAccessKey, SsoNoSecretKey}
 use Rattle.cfg_types.specs.declared.errors.sso.CachedSsoTokenError.{CachedSsoTokenError}
-use Rattle.cfg_types.specs.declared.errors.sso.SsoTokenProviderError.{SsoTokenProviderError}
 use Rattle.cfg_types.specs.declared.reply.sso.RoleReply.{RoleReply}
 use Rattle.cfg_types.specs.declared.reply.sso.RoleCredentials.{RoleCredentials}
 use Rattle.cfg_types.specs.declared.request.Request.TheVariants as request
@@ -18,30 +17,24 @@ use Rattle.cfg_world.specs.declared.ask.Answer.{Answer as Given}
 use Rattle.cfg_world.specs.declared.leaves.NotGranted.{NotGranted}
 use Rattle.cfg_world.specs.declared.leaves.NotGranted.TheVariants.{Failed, Refused}
 use Rattle.cfg_world.specs.Fits.{Pair}
-use Rattle.cfg_world.specs.Inquiry.{Reads}
 use Rattle.cfg_world.specs.Leaves.{contents_of, granted_of}
 use Rattle.cfg_profile.specs.Configuration.{Configuration}
 use Rattle.cfg_profile.specs.Settings.{settings_of}
-use Rattle.cfg_token.specs.declared.sections.Sectioned.{Sectioned}
 use Rattle.cfg_token.specs.declared.sso_token.CachedSsoToken.{CachedSsoToken}
 use Rattle.cfg_token.specs.declared.token_key.TokenKey.{TokenKey}
-use Rattle.cfg_token.specs.Sections.{section, answer_of}
 use Rattle.cfg_token.specs.SsoTokens.{Given as GivenBy, sso_rules}
-use Rattle.cfg_keeping.specs.Kinds.{SsoSection, Value, spot_of, sso_in}
+use Rattle.cfg_kept.specs.Kinds.{Value}
+use Rattle.cfg_kept.specs.SectionParts.{IsSectionPart}
+use Rattle.cfg_kept.specs.SsoHoldings.{sso_spot}
 use Rattle.cfg_sso.specs.declared.config.SsoProviderConfig.{SsoProviderConfig}
 use Rattle.cfg_sso.specs.RoleKeys.{Answer, request as request_of}
 use Rattle.cfg_sso.specs.Tokens.{Token, url_path, token_in, of_file, of_section, sso_key}
 
 -- ---- the token
 
--- The part of a section found this value, and gave this token or error by the rules of the section.
-pub record IsSectionPart (conf : Configuration) (key : TokenKey) (found : List Value) (part : List Pair) (given : GivenBy CachedSsoToken) : Type 0 where
-  pub value : Value
-  pub spot : spot_of value ≡ SsoSection
-  pub finds : found ≡ value ∷ []
-  pub made : Sectioned CachedSsoToken SsoTokenProviderError
-  pub reads : Reads (section sso_rules key conf.environment (settings_of conf) (sso_in value).token (sso_in value).last) part made
-  pub gives : given ≡ answer_of made
+-- The part is that of a section of the token of this key, by this configuration.
+abbrev pub IsSsoPart : Configuration → TokenKey → List Value → List Pair → GivenBy CachedSsoToken → Type 0
+IsSsoPart conf key found part given = IsSectionPart sso_rules sso_spot key conf.environment (settings_of conf) found part given
 
 -- A file that has no path is not read. Another is read once, and gives what it holds, or why not.
 abbrev pub IsFilePart : Result (List ℕ) CachedSsoTokenError → List Pair → Token → Type 0
@@ -51,7 +44,7 @@ IsFilePart (Ok path) part token = (given : Given) × (part ≡ (question.Read pa
 -- The part of the token: of a section, where a session is named, and else of the start URL's file.
 abbrev pub IsTokenPart : Configuration → List ℕ → Option TokenKey → List Value → List Pair → Token → Type 0
 IsTokenPart conf url None found part token = (found ≡ []) × IsFilePart (url_path url (variable conf.environment (codes "HOME"))) part token
-IsTokenPart conf url (Some key) found part token = (given : GivenBy CachedSsoToken) × IsSectionPart conf key found part given × (token ≡ of_section given)
+IsTokenPart conf url (Some key) found part token = (given : GivenBy CachedSsoToken) × IsSsoPart conf key found part given × (token ≡ of_section given)
 
 -- ---- the request
 

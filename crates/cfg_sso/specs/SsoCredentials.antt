@@ -1,7 +1,7 @@
 -- Credentials of IAM Identity Center.
 use Rattle.std.specs.Prelude.{Ok, Err}
 use Rattle.cfg_world.specs.Inquiry.{Inquiry, Done}
-use Rattle.cfg_keeping.specs.KeptInquiry.{KeptInquiry, lift, onwards}
+use Rattle.cfg_kept.specs.KeptInquiry.{KeptInquiry, lift, onwards}
 use Rattle.cfg_profile.specs.Configuration.{Configuration}
 use Rattle.cfg_sso.specs.declared.config.SsoProviderConfig.{SsoProviderConfig}
 use Rattle.cfg_sso.specs.RoleKeys.{Answer, exchange}

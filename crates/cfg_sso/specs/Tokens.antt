@@ -13,6 +13,8 @@ use Rattle.cfg_types.specs.declared.reply.FailKind.{FailKind}
 use Rattle.cfg_world.specs.Inquiry.{Inquiry, Done, after}
 use Rattle.cfg_world.specs.Leaves.{reading_file}
 use Rattle.cfg_profile.specs.Configuration.{Configuration}
+use Rattle.cfg_profile.specs.declared.chain.BaseProvider.{BaseProvider}
+use Rattle.cfg_profile.specs.declared.chain.BaseProvider.TheVariants as base
 use Rattle.cfg_profile.specs.Settings.{settings_of}
 use Rattle.cfg_token.specs.declared.sso_token.CachedSsoToken.{CachedSsoToken}
 use Rattle.cfg_token.specs.declared.token_key.TokenKey.{TokenKey}
@@ -20,8 +22,8 @@ use Rattle.cfg_token.specs.declared.token_key.TokenKey.TheVariants.{Sso}
 use Rattle.cfg_token.specs.Paths.{sso_path}
 use Rattle.cfg_token.specs.SsoFile.{sso_file}
 use Rattle.cfg_token.specs.SsoTokens.{Given}
-use Rattle.cfg_keeping.specs.KeptInquiry.{KeptInquiry, Gives, lift, onwards}
-use Rattle.cfg_keeping.specs.SsoHoldings.{sso_holding}
+use Rattle.cfg_kept.specs.KeptInquiry.{KeptInquiry, Gives, lift, onwards}
+use Rattle.cfg_kept.specs.SsoHoldings.{sso_holding}
 use Rattle.cfg_sso.specs.declared.config.SsoProviderConfig.{SsoProviderConfig}
 
 -- a token, or why there are no credentials
@@ -81,6 +83,11 @@ key_by (Some session) region url = Some (Sso session region url)
 
 abbrev pub sso_key : SsoProviderConfig → Option TokenKey
 sso_key sso = key_by sso.session_name sso.region sso.start_url
+
+-- whose token a base needs: that of a session of IAM Identity Center, where it names one
+abbrev pub session_of_base : BaseProvider → Option TokenKey
+session_of_base (base.Sso session region url account role) = key_by session region url
+session_of_base _ = None
 
 -- Where a key is needed, it is the one that is held.
 abbrev pub HasKey : Option TokenKey → Option TokenKey → Type 0

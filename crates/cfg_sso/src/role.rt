@@ -146,7 +146,7 @@ fn mark(credentials: Credentials) -> Result<Credentials, OutOfMemory>
     Ok(credentials)
 }
 
-// So many milliseconds after the epoch.
+// So many milliseconds after the epoch, cut downwards: the nanoseconds of a moment are never below 0.
 fn moment_at(millis: i64) -> Instant
     ensures { result ≡ moment_at_of millis }
 {

@@ -1,10 +1,10 @@
 //! The token of a session.
 ghost use Rattle.std.specs.Prelude.{◌≡◌, IfSome, true};
-ghost use Rattle.cfg_keeping.specs.Holds.{HoldsFollows};
-ghost use Rattle.cfg_keeping.specs.KeyedStates.{is_sso_key};
+ghost use Rattle.cfg_kept.specs.Holds.{HoldsFollows};
+ghost use Rattle.cfg_kept.specs.KeyedStates.{is_sso_key};
 ghost use Rattle.cfg_sso.specs.Tokens.{of_section as of_section_of, section_of, session_token as session_token_of};
 
-use cfg_keeping::Keeper;
+use cfg_kept::Keeper;
 use cfg_profile::{ProviderConfig, call_settings};
 use cfg_token::CachedSsoToken;
 use cfg_types::{CredentialsError, ProviderCause, SsoTokenProviderError};
@@ -19,7 +19,8 @@ pub(crate) fn section<P: Keeper, A: Asking>(
     asking: &mut A,
 ) -> Result<Result<CachedSsoToken, SsoTokenProviderError>, Stop>
     requires { is_sso_key (P.key_held keeper.old) ≡ true }
-    ensures follows { IfSome (P.key_held keeper.old) (λ key. HoldsFollows ⟦<A as Asking>⟧ (section_of config.now key) asking.old (P.holdings keeper.old) asking.new (P.holdings keeper.new) result) }
+    ensures follows { IfSome (P.key_held keeper.old) (λ key.
+        HoldsFollows ⟦<A as Asking>⟧ (section_of config.now key) asking.old (P.holdings keeper.old) asking.new (P.holdings keeper.new) result) }
     ensures key { P.key_held keeper.new ≡ P.key_held keeper.old }
 {
     match call_settings(alloc, config) {
@@ -36,7 +37,8 @@ pub(crate) fn session_token<P: Keeper, A: Asking>(
     asking: &mut A,
 ) -> Result<Result<CachedSsoToken, CredentialsError>, Stop>
     requires { is_sso_key (P.key_held keeper.old) ≡ true }
-    ensures follows { IfSome (P.key_held keeper.old) (λ key. HoldsFollows ⟦<A as Asking>⟧ (session_token_of config.now key) asking.old (P.holdings keeper.old) asking.new (P.holdings keeper.new) result) }
+    ensures follows { IfSome (P.key_held keeper.old) (λ key.
+        HoldsFollows ⟦<A as Asking>⟧ (session_token_of config.now key) asking.old (P.holdings keeper.old) asking.new (P.holdings keeper.new) result) }
     ensures key { P.key_held keeper.new ≡ P.key_held keeper.old }
 {
     match section(alloc, config, keeper, asking) {

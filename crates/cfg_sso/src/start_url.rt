@@ -2,7 +2,6 @@
 ghost use Rattle.std.specs.Prelude.{◌≡◌, ◌≢◌, IfOk, codes};
 ghost use Rattle.cfg_types.specs.Environment.{variable};
 ghost use Rattle.cfg_world.specs.Follows.{Follows};
-ghost use Rattle.cfg_world.specs.Leaves.{reading_file};
 ghost use Rattle.cfg_sso.specs.Tokens.{url_path as url_path_of, token_in as token_in_of, file_token as file_token_of, of_file as of_file_of, url_token as url_token_of};
 
 use cfg_profile::ProviderConfig;
@@ -14,7 +13,7 @@ use cfg_types::{
 use cfg_world::{Asking, Stop, read_file};
 use std::alloc::Global;
 
-/// The token in the file that a start URL names. Its expiry is not looked at.
+/// The token in the file that a start URL names. As in aws-config, its expiry is not looked at.
 #[tactic(auto, using(cfg_world::proofs::Inquiries::asking_steps, crate::proofs::QuietSteps::quiet_steps), unfolding(crate::specs::Tokens::url_token))]
 pub(crate) fn url_token<A: Asking>(
     alloc: Global,
@@ -58,21 +57,9 @@ fn file_token<A: Asking>(
 ) -> Result<Result<CachedSsoToken, CachedSsoTokenError>, Stop>
     ensures { Follows ⟦<A as Asking>⟧ (file_token_of file.now) asking.old asking.new result }
 {
-    let contents = contents(alloc, file, asking)?;
+    let contents = read_file(alloc, file, asking)?;
     let token = token_in(alloc, file, contents)?;
     Ok(token)
-}
-
-#[tactic(auto, using(cfg_world::proofs::Inquiries::asking_steps))]
-fn contents<A: Asking>(
-    alloc: Global,
-    file: &Text,
-    asking: &mut A,
-) -> Result<Result<Bytes, FailKind>, Stop>
-    ensures { Follows ⟦<A as Asking>⟧ (reading_file file.now) asking.old asking.new result }
-{
-    let path = file.copy(alloc)?;
-    read_file(alloc, path, asking)
 }
 
 #[tactic(auto, unfolding(crate::specs::Tokens::token_in))]

@@ -1,7 +1,7 @@
 -- What the readers of objects answer of a file.
 use Rattle.std.proofs.Common.{◌≡◌, ◌⊎◌, inl, inr, ℕ, List, [], ◌∷◌, length, Bool, true, false, cond, Option, Some, None, refl, sym, ap, subst, ◌∙◌}
 use Rattle.std.specs.Prelude.{Result, Ok, Err, ◌==◌}
-use Rattle.cfg_values.specs.Gives.{◌>>=◌}
+use Rattle.cfg_base.specs.Gives.{◌>>=◌}
 use Rattle.cfg_types.specs.declared.document.JsonError.{JsonError}
 use Rattle.cfg_types.specs.declared.document.JsonError.TheVariants as json
 use Rattle.cfg_types.specs.declared.errors.sso.CachedSsoTokenError.{CachedSsoTokenError}
@@ -14,7 +14,7 @@ use Rattle.cfg_json.specs.Reading.{after_white_space}
 use Rattle.cfg_json.specs.ReadingObjects.{ReadMembers, Answer, answer_of, opened, object_at, object_answer}
 use Rattle.cfg_json.specs.Answers.{Answers, MemberList, member_list, OpensObject, OpensOther, HasNoObject, OnlyWhiteSpaceFrom, only_white_space, only_from, only_answer, with_end, only_list_answer}
 use Rattle.cfg_json.specs.Documents.{IsDocument, date_in}
-use Rattle.cfg_values.specs.Moment.{Moment}
+use Rattle.cfg_base.specs.Moment.{Moment}
 use Rattle.cfg_types.specs.declared.document.Field.{Field}
 use Rattle.cfg_types.specs.declared.document.Field.TheVariants as field
 use Rattle.cfg_json.proofs.AnswerLaws.{only_found_is, only_not_object_is, only_syntax_is, only_more_is}

@@ -5,13 +5,13 @@ use Rattle.cfg_world.specs.Fits.{Pair}
 use Rattle.cfg_world.specs.Inquiry.{Inquiry, Done, after, Reads}
 use Rattle.cfg_token.specs.declared.token_key.TokenKey.{TokenKey}
 use Rattle.cfg_types.specs.Environment.{Variables}
-use Rattle.cfg_values.specs.Moment.{Moment}
+use Rattle.cfg_base.specs.Moment.{Moment}
 use Rattle.cfg_types.specs.declared.settings.CallSettings.{CallSettings}
-use Rattle.cfg_token.specs.declared.steps.Loaded.{Loaded}
+use Rattle.cfg_token.specs.declared.loading.Loaded.{Loaded}
 use Rattle.cfg_token.specs.declared.sections.Sectioned.{Sectioned}
 use Rattle.cfg_token.specs.declared.sections.Sectioned.TheVariants.{Hit, Load}
 use Rattle.cfg_token.specs.Rules.{Rules}
-use Rattle.cfg_values.specs.Instant.{is_later_by}
+use Rattle.cfg_token.specs.Decisions.{outlasts_buffer}
 use Rattle.cfg_token.specs.Sections
 use Rattle.cfg_token.specs.Sections.{section, load, ok_of, noted_or}
 use Rattle.cfg_world.specs.Leaves.{clock, moment_of}
@@ -39,7 +39,7 @@ load_from_nothing : {T E : Type 0} (t : Rules T E) (key : TokenKey) (env : Varia
 unfolding section clock Sections.by_reading
 load_from_nothing t key env settings None last journal l h = h
 load_from_nothing t key env settings (Some token) last [] l h = h
-load_from_nothing {T} {E} t key env settings (Some token) last (e ∷ journal) l h = (h.0, either_way (is_later_by (t.expiry token) (moment_of e.1) 300) h.1)
+load_from_nothing {T} {E} t key env settings (Some token) last (e ∷ journal) l h = (h.0, either_way (outlasts_buffer t token (moment_of e.1)) h.1)
   where
     either_way : (fresh : Bool) → Reads (cond fresh (Done (Hit token)) (after (load t key env settings last) (λ l. Done (Load l)))) journal (Load l) →
         Reads (after (load t key env settings last) (λ l. Done (Load l))) journal (Load l)

@@ -6,3 +6,4 @@ pub mod NotedSteps
 pub mod HistorySteps
 pub mod SectionSteps
 pub mod Outcomes
+pub mod Readings

@@ -6,7 +6,7 @@ use Rattle.cfg_world.specs.Fits.{Pair}
 use Rattle.cfg_world.specs.Inquiry.{Inquiry, Done, Ask, Reads, after}
 use Rattle.cfg_token.specs.declared.token_key.TokenKey.{TokenKey}
 use Rattle.cfg_types.specs.Environment.{Variables}
-use Rattle.cfg_values.specs.Moment.{Moment}
+use Rattle.cfg_base.specs.Moment.{Moment}
 use Rattle.cfg_types.specs.declared.settings.CallSettings.{CallSettings}
 use Rattle.cfg_token.specs.declared.file_token.Renewal.{Renewal}
 use Rattle.cfg_token.specs.declared.file_token.Renewal.TheVariants.{Granted, Passed, Refused}
@@ -14,12 +14,12 @@ use Rattle.cfg_token.specs.declared.file_token.Unsaved.{Unsaved}
 use Rattle.cfg_token.specs.declared.file_token.Unsaved.TheVariants.{NoText, NotWritten}
 use Rattle.cfg_token.specs.declared.decision.Decision.{Decision}
 use Rattle.cfg_token.specs.declared.decision.Decision.TheVariants.{Use, Refresh, Refuse}
-use Rattle.cfg_token.specs.declared.steps.Loaded.{Loaded}
+use Rattle.cfg_token.specs.declared.loading.Loaded.{Loaded}
 use Rattle.cfg_token.specs.declared.sections.Sectioned.{Sectioned}
 use Rattle.cfg_token.specs.declared.sections.Sectioned.TheVariants.{Hit, Load}
 use Rattle.cfg_token.specs.Rules.{Rules, Tells}
-use Rattle.cfg_token.specs.Moments.{is_before, has_passed}
-use Rattle.cfg_token.specs.Decisions.{is_expired, is_soon, decision}
+use Rattle.cfg_token.specs.Moments.{is_before, buffer_seconds, seconds_between_attempts, may_attempt}
+use Rattle.cfg_token.specs.Decisions.{is_expired, outlasts_buffer, ends_soon, decision}
 use Rattle.cfg_token.specs.Sections
 use Rattle.cfg_token.specs.Sections.{ok_of}
 use Rattle.cfg_world.specs.Leaves.{clock, moment_of}
@@ -28,7 +28,7 @@ use Rattle.cfg_token.specs.Histories.{FinishedLoad, IsLoad, Machine}
 use Rattle.cfg_token.specs.SectionCalls.{is_memory}
 use Rattle.std.specs.Option.{option_to_list, option_or}
 use Rattle.std.specs.Prelude.{ℤ, ◌+ℤ◌, ◌≤ℤ◌, int_lt, IfOk}
-use Rattle.cfg_values.specs.Instant.{number, nanos_in, is_later_by}
+use Rattle.cfg_base.specs.Instant.{number, nanos_in}
 use Rattle.std.proofs.lemmas.Int.{ints}
 use Rattle.cfg_world.specs.declared.ask.Question.TheVariants as question
 
@@ -114,7 +114,7 @@ pub gives_more : {R : Type 0} (p : Inquiry R) (P Q : List Pair → R → Type 0)
 gives_more (Done r) P Q f g = f [] r g
 gives_more (Ask q next) P Q f g = λ a. gives_more (next a) (λ J x. P ((q, a) ∷ J) x) (λ J x. Q ((q, a) ∷ J) x) (λ J x. f ((q, a) ∷ J) x) (g a)
 
--- What is refreshed is 30 seconds or more after the last attempt.
+-- What is refreshed is long enough after the last attempt.
 refreshed : (expired soon can passed : Bool) → cond (expired && not (can && passed)) Refuse (cond (soon && (can && passed)) Refresh Use) ≡ Refresh → passed ≡ true
 refreshed expired soon can true h = refl
 refreshed true soon true false h = cc
@@ -133,10 +133,10 @@ used true false true s h = absurd (no (s refl))
     no : false ≡ true → ⊥
     no e = cc
 
-soon_too : (now end : ℤ) → not (int_lt now end) ≡ true → not (int_lt (now +ℤ nanos_in 300) end) ≡ true
-soon_too now end h = by (int_lt now end) (int_lt (now +ℤ nanos_in 300) end) refl refl h
+soon_too : (now end : ℤ) → not (int_lt now end) ≡ true → not (int_lt (now +ℤ nanos_in buffer_seconds) end) ≡ true
+soon_too now end h = by (int_lt now end) (int_lt (now +ℤ nanos_in buffer_seconds) end) refl refl h
   where
-    by : (a b : Bool) → int_lt now end ≡ a → int_lt (now +ℤ nanos_in 300) end ≡ b → not a ≡ true → not b ≡ true
+    by : (a b : Bool) → int_lt now end ≡ a → int_lt (now +ℤ nanos_in buffer_seconds) end ≡ b → not a ≡ true → not b ≡ true
     by true b e f k = cc
     by false true e f k = absurd (omega (arith, ints, e, f))
     by false false e f k = refl
@@ -148,7 +148,7 @@ not_not false h = cc
 -- a load that notes its second reading, and only where the last attempt is long enough ago
 pub record Fair {T E : Type 0} (t : Rules T E) (last : Option Moment) (part : List Pair) (l : Loaded T E) : Type 0 where
   pub tells : NoMemory t l.outcome
-  pub passed : IfSome l.noted (λ now. has_passed last now ≡ true)
+  pub passed : IfSome l.noted (λ now. may_attempt last now ≡ true)
   pub reading : (first : Pair) → IfSome l.noted (λ now. second_reading (first ∷ part) ≡ now)
   pub lasts : (first : Pair) → IfOk l.outcome (λ token. is_before (second_reading (first ∷ part)) (t.expiry token) ≡ true)
 
@@ -157,13 +157,13 @@ module _ {T E : Type 0} (t : Rules T E) (tells : Tells t) where
   fair_error last part e h = record { tells = h; passed = tt; reading = λ first. tt; lasts = λ first. tt }
 
   -- a refresh at this reading
-  fair_refresh : (last : Option Moment) (file : Pair) (second : Pair) (rest : List Pair) (l : Loaded T E) → has_passed last (moment_of second.1) ≡ true →
+  fair_refresh : (last : Option Moment) (file : Pair) (second : Pair) (rest : List Pair) (l : Loaded T E) → may_attempt last (moment_of second.1) ≡ true →
       Sound t (moment_of second.1) l → Fair t last (file ∷ second ∷ rest) l
   fair_refresh last file second rest l h s = record { tells = s.tells; passed = noted_passed l.noted s.noted; reading = λ first. s.noted; lasts = λ first. s.lasts }
     where
-      noted_passed : (o : Option Moment) → IfSome o (λ n. moment_of second.1 ≡ n) → IfSome o (λ now. has_passed last now ≡ true)
+      noted_passed : (o : Option Moment) → IfSome o (λ n. moment_of second.1 ≡ n) → IfSome o (λ now. may_attempt last now ≡ true)
       noted_passed None k = tt
-      noted_passed (Some n) k = ap (has_passed last) (sym k) ∙ h
+      noted_passed (Some n) k = ap (may_attempt last) (sym k) ∙ h
 
   decides_fair : (key : TokenKey) (settings : CallSettings) (last : Option Moment) (path : List ℕ) (file : T) (read second : Pair) (d : Decision) →
       decision t file last (moment_of second.1) ≡ d →
@@ -171,11 +171,11 @@ module _ {T E : Type 0} (t : Rules T E) (tells : Tells t) where
   decides_fair key settings last path file read second Refuse is = fair_error last (read ∷ second ∷ []) t.expired tells.expired
   decides_fair key settings last path file read second Use is =
       let now = moment_of second.1 in
-      let fresh : is_expired t file now ≡ false = used (is_expired t file now) (is_soon t file now) (t.refreshable file now && has_passed last now) (λ e. soon_too (number now) (number (t.expiry file)) e) is in
+      let fresh : is_expired t file now ≡ false = used (is_expired t file now) (ends_soon t file now) (t.refreshable file now && may_attempt last now) (λ e. soon_too (number now) (number (t.expiry file)) e) is in
       record { tells = tt; passed = tt; reading = λ first. tt; lasts = λ first. not_not (is_before now (t.expiry file)) fresh }
   decides_fair key settings last path file read second Refresh is =
       let now = moment_of second.1 in
-      let h = refreshed (is_expired t file now) (is_soon t file now) (t.refreshable file now) (has_passed last now) is in
+      let h = refreshed (is_expired t file now) (ends_soon t file now) (t.refreshable file now) (may_attempt last now) is in
       gives_more (Sections.refreshes t key settings path file now) (λ J l. Sound t now l) (λ J l. Fair t last (read ∷ second ∷ J) l) (λ J l s. fair_refresh last read second J l h s) (refreshes_sound t tells key settings path file now)
 
   unread_tells : (path : List ℕ) (e : E) → (let r : Result T E = Err (t.unread path) in r) ≡ Err e → t.is_memory e ≡ false
@@ -210,9 +210,9 @@ module _ {T E : Type 0} (t : Rules T E) (tells : Tells t) where
 -- each attempt is long enough after the one before
 abbrev pub Chain : Option Moment → List Moment → Type 0
 Chain last [] = Unit {0}
-Chain last (n ∷ ns) = (has_passed last n ≡ true) × Chain (Some n) ns
+Chain last (n ∷ ns) = (may_attempt last n ≡ true) × Chain (Some n) ns
 
-chain_note : (last noted : Option Moment) (ns : List Moment) → IfSome noted (λ n. has_passed last n ≡ true) → Chain (option_or noted last) ns → Chain last (option_to_list noted ++ ns)
+chain_note : (last noted : Option Moment) (ns : List Moment) → IfSome noted (λ n. may_attempt last n ≡ true) → Chain (option_or noted last) ns → Chain last (option_to_list noted ++ ns)
 chain_note last None ns h k = k
 chain_note last (Some n) ns h k = (h, k)
 
@@ -223,17 +223,17 @@ not_below x y h = by (int_lt x y) refl h
     by true e k = cc
     by false e k = omega (arith, ints)
 
-further : (x y z : ℤ) → x ≤ℤ y → (y +ℤ nanos_in 30) ≤ℤ z → x ≤ℤ z
+further : (x y z : ℤ) → x ≤ℤ y → (y +ℤ nanos_in seconds_between_attempts) ≤ℤ z → x ≤ℤ z
 further x y z h k = omega (arith, ints)
 
 -- the last attempt and a later one
-passed_after : (l n a : Moment) → has_passed (Some l) n ≡ true → n ≡ a → (number l +ℤ nanos_in 30) ≤ℤ number a
-passed_after l n a h e = subst (λ x. (number l +ℤ nanos_in 30) ≤ℤ number x) e (not_below (number n) (number l +ℤ nanos_in 30) h)
+passed_after : (l n a : Moment) → may_attempt (Some l) n ≡ true → n ≡ a → (number l +ℤ nanos_in seconds_between_attempts) ≤ℤ number a
+passed_after l n a h e = subst (λ x. (number l +ℤ nanos_in seconds_between_attempts) ≤ℤ number x) e (not_below (number n) (number l +ℤ nanos_in seconds_between_attempts) h)
 
-later : (l n a : Moment) → has_passed (Some l) n ≡ true → (number n +ℤ nanos_in 30) ≤ℤ number a → (number l +ℤ nanos_in 30) ≤ℤ number a
-later l n a h k = further (number l +ℤ nanos_in 30) (number n) (number a) (not_below (number n) (number l +ℤ nanos_in 30) h) k
+later : (l n a : Moment) → may_attempt (Some l) n ≡ true → (number n +ℤ nanos_in seconds_between_attempts) ≤ℤ number a → (number l +ℤ nanos_in seconds_between_attempts) ≤ℤ number a
+later l n a h k = further (number l +ℤ nanos_in seconds_between_attempts) (number n) (number a) (not_below (number n) (number l +ℤ nanos_in seconds_between_attempts) h) k
 
-chain_after : (l : Moment) (ns : List Moment) → Chain (Some l) ns → (i : ℕ) (a : Moment) → slice_get ns i ≡ Some a → (number l +ℤ nanos_in 30) ≤ℤ number a
+chain_after : (l : Moment) (ns : List Moment) → Chain (Some l) ns → (i : ℕ) (a : Moment) → slice_get ns i ≡ Some a → (number l +ℤ nanos_in seconds_between_attempts) ≤ℤ number a
 chain_after l [] h i a at = cc
 chain_after l (n ∷ ns) h zero a at = passed_after l n a h.0 (some_is at)
   where
@@ -246,8 +246,8 @@ chain_spaced last [] h i j a b lt x y = cc
 chain_spaced last (n ∷ ns) h i zero a b lt x y = absurd (omega (arith, lt))
 chain_spaced last (n ∷ ns) h zero (suc j) a b lt x y = some_first x (chain_after n ns h.1 j b y)
   where
-    some_first : Some n ≡ Some a → (number n +ℤ nanos_in 30) ≤ℤ number b → (number a +ℤ nanos_in 30) ≤ℤ number b
-    some_first e k = let same : n ≡ a = cc in subst (λ z. (number z +ℤ nanos_in 30) ≤ℤ number b) same k
+    some_first : Some n ≡ Some a → (number n +ℤ nanos_in seconds_between_attempts) ≤ℤ number b → (number a +ℤ nanos_in seconds_between_attempts) ≤ℤ number b
+    some_first e k = let same : n ≡ a = cc in subst (λ z. (number z +ℤ nanos_in seconds_between_attempts) ≤ℤ number b) same k
 chain_spaced last (n ∷ ns) h (suc i) (suc j) a b lt x y = chain_spaced (Some n) ns h.1 i j a b (omega (arith, lt)) x y
 
 all_spaced : (last : Option Moment) (ns : List Moment) → Chain last ns → Spaced (option_to_list last ++ ns)
@@ -270,7 +270,7 @@ module _ {T E : Type 0} (t : Rules T E) (tells : Tells t) where
   pub section_fair : (key : TokenKey) (env : Variables) (settings : CallSettings) (kept : Option T) (last : Option Moment) → Gives (Sections.section t key env settings kept last) (λ J s. FairSection t last J s)
   unfolding Sections.section clock Sections.by_reading
   section_fair key env settings None last = λ a. loaded_fair key env settings last (question.Now, a)
-  section_fair key env settings (Some token) last = λ a. either_way (question.Now, a) (is_later_by (t.expiry token) (moment_of a) 300)
+  section_fair key env settings (Some token) last = λ a. either_way (question.Now, a) (outlasts_buffer t token (moment_of a))
     where
       either_way : (first : Pair) (fresh : Bool) → Gives (cond fresh (Done (Hit token)) (after (Sections.load t key env settings last) (λ l. Done (Load l)))) (λ J s. FairSection t last (first ∷ J) s)
       either_way first true = tt
@@ -281,7 +281,7 @@ module _ {T E : Type 0} (t : Rules T E) (tells : Tells t) where
   record_fair kept last r i =
       gives_reads (Sections.section t i.key i.env i.settings kept last) (λ J s. FairSection t last J s) r.receipts _ (section_fair i.key i.env i.settings kept last) i.reads
 
-  record_passed : (last : Option Moment) (receipts : List Pair) (l : Loaded T E) → FairSection t last receipts (Load l) → IfSome l.noted (λ now. has_passed last now ≡ true)
+  record_passed : (last : Option Moment) (receipts : List Pair) (l : Loaded T E) → FairSection t last receipts (Load l) → IfSome l.noted (λ now. may_attempt last now ≡ true)
   record_passed last [] l h = absurd h
   record_passed last (e ∷ receipts) l h = h.passed
 

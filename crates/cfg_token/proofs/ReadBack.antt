@@ -4,9 +4,9 @@ use Rattle.std.specs.Prelude.{Result, Ok, Err}
 use Rattle.std.specs.Option.{option_or}
 use Rattle.std.specs.Str.{IsAscii, chars, encode_utf8_all, all_scalars, str_eq_ignore_ascii_case}
 use Rattle.std.proofs.lemmas.Str.{IsUtf8-from_ascii, chars-encodes, chars-IsAscii}
-use Rattle.cfg_values.specs.Moment.{Moment}
-use Rattle.cfg_values.specs.Text.{characters}
-use Rattle.cfg_values.specs.Gives.{◌>>=◌}
+use Rattle.cfg_base.specs.Moment.{Moment}
+use Rattle.cfg_base.specs.Text.{characters}
+use Rattle.cfg_base.specs.Gives.{◌>>=◌}
 use Rattle.cfg_types.specs.Field.{field_name}
 use Rattle.cfg_types.specs.declared.document.Field.{Field}
 use Rattle.cfg_types.specs.declared.document.Field.TheVariants as field

@@ -6,7 +6,7 @@ use Rattle.cfg_world.specs.Follows.{Breaks}
 use Rattle.cfg_world.proofs.Inquiries.{breaks_here}
 use Rattle.cfg_token.specs.declared.token_key.TokenKey.{TokenKey}
 use Rattle.cfg_types.specs.Environment.{Variables}
-use Rattle.cfg_values.specs.Moment.{Moment}
+use Rattle.cfg_base.specs.Moment.{Moment}
 use Rattle.cfg_token.specs.Sections.{section}
 use Rattle.cfg_types.specs.declared.settings.CallSettings.{CallSettings}
 use Rattle.cfg_token.specs.declared.sections.Sectioned.{Sectioned}

@@ -1,7 +1,7 @@
 -- A token's file has one text, or none.
 use Rattle.std.proofs.Common.{◌≡◌, inl, inr, List, ℕ, Option, Some, None, refl, sym, ap, ◌∙◌}
 use Rattle.std.specs.Prelude.{option_map}
-use Rattle.cfg_values.specs.Moment.{Moment}
+use Rattle.cfg_base.specs.Moment.{Moment}
 use Rattle.cfg_token.specs.declared.sso_token.CachedSsoToken.{CachedSsoToken}
 use Rattle.cfg_token.specs.DateTexts.{date_of}
 use Rattle.cfg_token.specs.SsoText.{dated_text, date_if_there, sso_text, IsWrittenIfThere, IsOutsideIfThere, IsSsoText, HasNoText}

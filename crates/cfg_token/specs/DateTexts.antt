@@ -1,7 +1,7 @@
 -- The text of a moment's date, as a function of the moment.
 use Rattle.std.specs.Prelude.{ℕ, zero, suc, ◌+◌, ◌-◌, ◌/◌, ◌%◌, ℤ, pos, negsuc, ◌+ℤ◌, List, ◌||◌, cond, Bool, Option, Some, None, nat_le, int_lt, unsigned_abs}
 use Rattle.jiff_core.specs.Calendar.{day_count}
-use Rattle.cfg_values.specs.Moment.{Moment}
+use Rattle.cfg_base.specs.Moment.{Moment}
 use Rattle.cfg_json.specs.declared.dates.local.LocalTime.{LocalTime}
 use Rattle.cfg_json.specs.WritingDates.{date_text}
 

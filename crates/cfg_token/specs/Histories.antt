@@ -1,7 +1,7 @@
 -- What the state of a token keeps, and that it is a history of loads.
 use Rattle.std.specs.Prelude.{◌≡◌, List, [], ◌∷◌, ◌++◌, Option, Some, None, Result, Ok, Err, IsSome, true}
 use Rattle.std.specs.List.{fold}
-use Rattle.cfg_values.specs.Moment.{Moment}
+use Rattle.cfg_base.specs.Moment.{Moment}
 use Rattle.cfg_world.specs.Fits.{Pair}
 use Rattle.cfg_world.specs.Inquiry.{Reads}
 use Rattle.cfg_token.specs.declared.token_key.TokenKey.{TokenKey}

@@ -13,3 +13,4 @@ pub mod Spacing
 pub mod SectionCalls
 pub mod SsoTokens
 pub mod SsoTells
+pub mod Readings

@@ -56,3 +56,8 @@ pub record Answers {A T E : Type 0} (t : Rules T E) (a : Ghosts A) (key : TokenK
 pub record Interrupted {A T E : Type 0} (t : Rules T E) (a : Ghosts A) (key : TokenKey) (env : Variables) (settings : CallSettings) (old : A) (before : History T E) (new : A) (later : History T E) : Type 0 where
   pub breaks : Breaks a (section_on t key before env settings) old new
   pub history : later ≡ before
+
+-- what a section answers, or why it was stopped
+abbrev pub SectionAnswers : {A T E : Type 0} → Rules T E → Ghosts A → TokenKey → Variables → CallSettings → A → History T E → A → History T E → Result (Result T E) Stop → Type 0
+SectionAnswers t a key env settings old before new later (Ok answer) = Answers t a key env settings old before new later answer
+SectionAnswers t a key env settings old before new later (Err stop) = SectionHalts t a key env settings old before new later stop

@@ -2,7 +2,7 @@
 -- where that is due.
 use Rattle.std.specs.Prelude.{ℕ, List, cond, Option, Some, None, Result, Ok, Err}
 use Rattle.std.specs.Option.{option_or}
-use Rattle.cfg_values.specs.Moment.{Moment}
+use Rattle.cfg_base.specs.Moment.{Moment}
 use Rattle.cfg_types.specs.Environment.{Variables}
 use Rattle.cfg_types.specs.declared.settings.CallSettings.{CallSettings}
 use Rattle.cfg_world.specs.declared.ask.Question.TheVariants as question
@@ -16,12 +16,11 @@ use Rattle.cfg_token.specs.declared.file_token.Renewal.TheVariants.{Granted, Pas
 use Rattle.cfg_token.specs.declared.file_token.Unsaved.TheVariants.{NoText, NotWritten}
 use Rattle.cfg_token.specs.declared.decision.Decision.{Decision}
 use Rattle.cfg_token.specs.declared.decision.Decision.TheVariants.{Use, Refresh, Refuse}
-use Rattle.cfg_token.specs.declared.steps.Loaded.{Loaded}
+use Rattle.cfg_token.specs.declared.loading.Loaded.{Loaded}
 use Rattle.cfg_token.specs.declared.sections.Sectioned.{Sectioned}
 use Rattle.cfg_token.specs.declared.sections.Sectioned.TheVariants.{Hit, Load}
 use Rattle.cfg_token.specs.Rules.{Rules}
-use Rattle.cfg_values.specs.Instant.{is_later_by}
-use Rattle.cfg_token.specs.Decisions.{is_expired, decision}
+use Rattle.cfg_token.specs.Decisions.{is_expired, outlasts_buffer, decision}
 
 -- how a load ends: with this token or error, and an attempt noted at this reading or none
 abbrev pub gives : {T E : Type 0} → Result T E → Option Moment → Loaded T E
@@ -90,10 +89,10 @@ module _ {T E : Type 0} (t : Rules T E) where
   unfoldable pub load : TokenKey → Variables → CallSettings → Option Moment → Inquiry (Loaded T E)
   load key env settings last = loads_from key settings last (t.path key env)
 
-  -- a kept token with more than 300 seconds left is handed out; else it is dropped and a load begins
+  -- a kept token that is not to be refreshed yet is handed out; else it is dropped and a load begins
   unfoldable pub by_reading : TokenKey → Variables → CallSettings → Option T → Option Moment → Moment → Inquiry (Sectioned T E)
   by_reading key env settings None last r = after (load key env settings last) (λ l. Done (Load l))
-  by_reading key env settings (Some token) last r = cond (is_later_by (t.expiry token) r 300) (Done (Hit token)) (after (load key env settings last) (λ l. Done (Load l)))
+  by_reading key env settings (Some token) last r = cond (outlasts_buffer t token r) (Done (Hit token)) (after (load key env settings last) (λ l. Done (Load l)))
 
   unfoldable pub section : TokenKey → Variables → CallSettings → Option T → Option Moment → Inquiry (Sectioned T E)
   section key env settings kept last = after clock (by_reading key env settings kept last)

@@ -1,12 +1,12 @@
 -- The attempts that the records of a state note.
 use Rattle.std.specs.Prelude.{◌≡◌, ℕ, ◌<◌, ◌+ℤ◌, ◌≤ℤ◌, List, [], ◌∷◌, ◌++◌, Some, IfSome, IfOk, true, slice_get, pos}
 use Rattle.std.specs.Option.{option_to_list}
-use Rattle.cfg_values.specs.Moment.{Moment}
-use Rattle.cfg_values.specs.Instant.{number, nanos_in}
+use Rattle.cfg_base.specs.Moment.{Moment}
+use Rattle.cfg_base.specs.Instant.{number, nanos_in}
 use Rattle.cfg_world.specs.Fits.{Pair}
 use Rattle.cfg_world.specs.Leaves.{moment_of}
 use Rattle.cfg_token.specs.Rules.{Rules}
-use Rattle.cfg_token.specs.Moments.{is_before}
+use Rattle.cfg_token.specs.Moments.{is_before, seconds_between_attempts}
 use Rattle.cfg_token.specs.Histories.{FinishedLoad, History}
 
 -- the second reading of a load, which stands behind the first one and the file
@@ -33,6 +33,6 @@ NotedAtReading r = IfSome r.noted (λ now. second_reading r.receipts ≡ now)
 abbrev pub EndsAfterReading : {T E : Type 0} → Rules T E → FinishedLoad T E → Type 0
 EndsAfterReading t r = IfOk r.outcome (λ token. is_before (second_reading r.receipts) (t.expiry token) ≡ true)
 
--- of two attempts the later one is at least 30 seconds after the earlier one
+-- of two attempts the later one is long enough after the earlier one
 abbrev pub Spaced : List Moment → Type 0
-Spaced all = (i j : ℕ) (a b : Moment) → i < j → slice_get all i ≡ Some a → slice_get all j ≡ Some b → (number a +ℤ nanos_in 30) ≤ℤ number b
+Spaced all = (i j : ℕ) (a b : Moment) → i < j → slice_get all i ≡ Some a → slice_get all j ≡ Some b → (number a +ℤ nanos_in seconds_between_attempts) ≤ℤ number b

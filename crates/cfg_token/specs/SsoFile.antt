@@ -1,8 +1,8 @@
 -- The file of a token of IAM Identity Center.
 use Rattle.std.specs.Prelude.{◌≡◌, ◌⊎◌, ℕ, List, Bool, Option, Some, None, Result, Ok, Err, if◌then◌else◌}
 use Rattle.std.specs.Str.{encode_utf8_all, str_eq_ignore_ascii_case}
-use Rattle.cfg_values.specs.Gives.{Gives, IsSaid, ◌>>=◌}
-use Rattle.cfg_values.specs.Moment.{Moment}
+use Rattle.cfg_base.specs.Gives.{Gives, IsSaid, ◌>>=◌}
+use Rattle.cfg_base.specs.Moment.{Moment}
 use Rattle.cfg_types.specs.Field.{field_name, json_error_text}
 use Rattle.cfg_types.specs.declared.document.Field.{Field}
 use Rattle.cfg_types.specs.declared.document.Field.TheVariants as field
@@ -47,6 +47,19 @@ abbrev pub optional_date : Field → Option (List ℕ) → Read (Option Moment)
 optional_date f None = Ok None
 optional_date f (Some text) = dated f (date_in text) >>= λ moment. Ok (Some moment)
 
+-- a token with this access token and these dates, and the texts that the members have
+abbrev pub token_with : List Member → List ℕ → Moment → Option Moment → CachedSsoToken
+token_with ms access expiry registration = record {
+  access_token = access;
+  expires_at = expiry;
+  refresh_token = text_of ms field.RefreshToken;
+  client_id = text_of ms field.ClientId;
+  client_secret = text_of ms field.ClientSecret;
+  registration_expires_at = registration;
+  region = text_of ms field.Region;
+  start_url = text_of ms field.StartUrl;
+}
+
 -- The token of a file's members. Both of its first two fields have to be there, and each date has to be one.
 unfoldable pub token_of : List Member → Read CachedSsoToken
 token_of ms =
@@ -54,16 +67,7 @@ token_of ms =
     required field.LowerExpiresAt (text_of ms field.LowerExpiresAt) >>= λ end.
     dated field.LowerExpiresAt (date_in end) >>= λ expiry.
     optional_date field.RegistrationExpiresAt (text_of ms field.RegistrationExpiresAt) >>= λ registration.
-    Ok (record {
-      access_token = access;
-      expires_at = expiry;
-      refresh_token = text_of ms field.RefreshToken;
-      client_id = text_of ms field.ClientId;
-      client_secret = text_of ms field.ClientSecret;
-      registration_expires_at = registration;
-      region = text_of ms field.Region;
-      start_url = text_of ms field.StartUrl;
-    })
+    Ok (token_with ms access expiry registration)
 
 -- the answer to bytes that are no object, or not only one
 abbrev pub text_fault : JsonError → CachedSsoTokenError

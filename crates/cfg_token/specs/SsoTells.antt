@@ -2,8 +2,8 @@
 use Rattle.std.specs.Prelude.{◌≡◌, ℕ, List, Bool, true, false, ◌||◌, cond, ℤ, pos, ◌+ℤ◌, int_lt, Option, Some, None, Result, Ok, Err, codes, refl}
 use Rattle.std.proofs.Common.{subst, arith}
 use Rattle.std.proofs.lemmas.Int.{ints}
-use Rattle.cfg_values.specs.Moment.{Moment}
-use Rattle.cfg_values.specs.Instant.{number}
+use Rattle.cfg_base.specs.Moment.{Moment}
+use Rattle.cfg_base.specs.Instant.{number}
 use Rattle.cfg_types.specs.Environment.{Variables, variable}
 use Rattle.cfg_types.specs.declared.environment.VarError.{VarError}
 use Rattle.cfg_types.specs.declared.reply.Reply.TheVariants as reply

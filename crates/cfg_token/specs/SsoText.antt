@@ -1,9 +1,9 @@
 -- The text that is written for a token of IAM Identity Center.
 use Rattle.std.specs.Prelude.{◌≡◌, ◌⊎◌, ℕ, List, [], true, Option, Some, None, option_map, Result, Ok, Err}
 use Rattle.std.specs.Str.{all_scalars}
-use Rattle.cfg_values.specs.Gives.{Gives}
-use Rattle.cfg_values.specs.Moment.{Moment}
-use Rattle.cfg_values.specs.Text.{characters}
+use Rattle.cfg_base.specs.Gives.{Gives}
+use Rattle.cfg_base.specs.Moment.{Moment}
+use Rattle.cfg_base.specs.Text.{characters}
 use Rattle.cfg_types.specs.Field.{field_name}
 use Rattle.cfg_types.specs.declared.document.Field.{Field}
 use Rattle.cfg_types.specs.declared.document.Field.TheVariants as field

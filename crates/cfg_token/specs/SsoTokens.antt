@@ -2,7 +2,7 @@
 use Rattle.std.specs.Prelude.{ℕ, List, [], Bool, true, false, ◌&&◌, ◌||◌, cond, ℤ, pos, ◌+ℤ◌, int_lt, Option, Some, None, option_map, Result, Ok, Err, codes, unwrap_or, is_some}
 use Rattle.std.specs.Option.{option_or}
 use Rattle.std.specs.Str.{encode_utf8_all}
-use Rattle.cfg_values.specs.Moment.{Moment}
+use Rattle.cfg_base.specs.Moment.{Moment}
 use Rattle.cfg_types.specs.Environment.{Variables, variable}
 use Rattle.cfg_types.specs.declared.environment.VarError.{VarError}
 use Rattle.cfg_types.specs.declared.settings.CallSettings.{CallSettings}

@@ -1,13 +1,12 @@
-//! The loads of a token, and what they leave.
-ghost use Rattle.std.specs.Prelude.{◌≡◌, ◌<◌, ◌++◌, [], None, Option, Some, IfOk, vec_len, vec_capacity};
-ghost use Rattle.std.specs.Option.{option_copied, option_to_list};
-ghost use Rattle.cfg_token.specs.Histories.{token_of, kept_in, last_in, noted_by, record_of, load_made, IsLoad};
+//! Finished loads, and loads that gave a token.
+ghost use Rattle.std.specs.Prelude.{◌≡◌, ◌<◌, ◌++◌, None, Option, Some, IfOk, vec_len, vec_capacity};
+ghost use Rattle.std.specs.Option.{option_to_list};
+ghost use Rattle.cfg_token.specs.Histories.{token_of, noted_by, record_of, load_made, IsLoad};
 
 use crate::file_token::FileToken;
-use crate::sections::{Sectioned, follow_section};
-use crate::token_key::TokenKey;
-use cfg_types::{CallSettings, Env, Instant, OutOfMemory, TryCopy};
-use cfg_world::{Asking, Receipt, Stop};
+use crate::sections::Sectioned;
+use cfg_types::{Instant, OutOfMemory, TryCopy};
+use cfg_world::Receipt;
 use std::alloc::Global;
 use std::marker::Model;
 
@@ -49,7 +48,7 @@ impl<T: FileToken> Record<T> {
         self.noted
     }
 
-    fn copy(&self, alloc: Global) -> Result<Record<T>, OutOfMemory>
+    pub(crate) fn copy(&self, alloc: Global) -> Result<Record<T>, OutOfMemory>
         ensures { IfOk result (λ r. r ≡ self.now) }
     {
         let receipts = copy_receipts(alloc, &self.receipts)?;
@@ -145,116 +144,6 @@ impl<T: FileToken> Load<T> {
     }
 }
 
-/// The loads of one token so far, from an origin on. They name no key.
-#[derive(Drop)]
-pub struct Loads<T: FileToken> {
-    alloc: Global,
-    load: Option<Load<T>>,
-    last: Option<Instant>,
-    records: Vec<Record<T>>,
-}
-
-impl<T: FileToken> Model for Loads<T> {
-    ghost use Rattle.cfg_token.specs.Histories.{History, IsHistory};
-
-    ghost Value = { History T T.Error };
-
-    ghost view = { λ s. record { load = s.load; last = s.last; records = s.records.items } };
-
-    ghost invariant = { λ s. IsHistory T.rules (record { load = s.load; last = s.last; records = s.records.items }) };
-}
-
-impl<T: FileToken> Loads<T> {
-    ghost use Rattle.cfg_token.specs.Histories.{IsHistory};
-
-    /// No load was made, and no attempt is noted.
-    pub fn new(alloc: Global) -> Loads<T>
-        ensures { result ≡ record { load = None; last = None; records = [] } }
-    {
-        Loads {
-            alloc,
-            load: None,
-            last: None,
-            records: Vec::new(alloc),
-        }
-    }
-
-    /// The loads since the origin, in order. Each is one from what those before it leave.
-    pub fn records(&self) -> &[Record<T>]
-        ensures is { result.now ≡ self.now.records }
-        ensures history { IsHistory T.rules self.now }
-    {
-        self.records.as_slice()
-    }
-
-    /// The token that is kept: that of the last load, if it gave one.
-    pub fn kept(&self) -> Option<&T>
-        ensures { option_copied result ≡ kept_in self.now }
-    {
-        match self.records.last() {
-            Some(record) => match record.outcome() {
-                Ok(token) => Some(token),
-                Err(_) => None,
-            },
-            None => match &self.load {
-                Some(load) => Some(load.token()),
-                None => None,
-            },
-        }
-    }
-
-    /// The reading of the clock at which the last attempt was noted, if any was.
-    pub fn last_attempt(&self) -> Option<Instant>
-        ensures { result ≡ last_in self.now }
-    {
-        last_noted(self.last, &self.records)
-    }
-}
-
-impl<T: FileToken> Loads<T> {
-    ghost use Rattle.cfg_token.specs.Histories.{load_in, trimmed};
-
-    /// What the loads began with: the load that gave the token kept then, and the reading of the last
-    /// attempt noted before.
-    pub fn origin(&self) -> (Option<&Load<T>>, Option<Instant>)
-        ensures load { option_copied result.0 ≡ self.now.load }
-        ensures last { result.1 ≡ self.now.last }
-    {
-        (self.load.as_ref(), self.last)
-    }
-
-    /// A copy of the load that gave the kept token, or none where no token is kept. `OutOfMemory` where
-    /// memory runs out.
-    pub fn load(&self) -> Result<Option<Load<T>>, OutOfMemory>
-        ensures { IfOk result (λ l. l ≡ load_in self.now) }
-    {
-        match self.records.split_last() {
-            Some((record, earlier)) => {
-                let before = last_noted(self.last, earlier);
-                let load = token_load(record.copy(self.alloc)?, before);
-                Ok(load)
-            }
-            None => match &self.load {
-                Some(load) => Ok(Some(load.copy(self.alloc)?)),
-                None => Ok(None),
-            },
-        }
-    }
-
-    /// The origin becomes what is kept now, and there are no records. Nothing is copied.
-    pub fn trim(&mut self)
-        ensures { self.new ≡ trimmed self.old }
-    {
-        let last = self.last_attempt();
-        if let Some(record) = self.records.pop() {
-            let before = last_noted(self.last, &self.records);
-            self.last = last;
-            self.load = token_load(record, before);
-            self.records.clear();
-        }
-    }
-}
-
 // The last attempt after these loads.
 pub(crate) fn last_noted<T: FileToken>(
     last: Option<Instant>,
@@ -265,51 +154,6 @@ pub(crate) fn last_noted<T: FileToken>(
     records
         .iter()
         .fold(last, |last, record| record.noted.or(last))
-}
-
-impl<T: FileToken> Loads<T> {
-    ghost use Rattle.std.specs.Prelude.{true};
-    ghost use Rattle.cfg_token.specs.SectionCalls.{SectionFollows};
-
-    /// One section, over anything that can be asked, with a key of the token's kind: the kept token
-    /// while more than 300 seconds of it are left, else a load, whose record is added. The place of
-    /// the record is taken before the first question.
-    ///
-    /// # Errors
-    ///
-    /// Why it was stopped: memory ran out, or a question was left open. The loads are then as they
-    /// were. An error of the token's kind is the outcome of the load.
-    #[tactic(auto, using(crate::proofs::SectionSteps::section_steps))]
-    pub fn follow<A: Asking>(
-        &mut self,
-        key: &TokenKey,
-        env: &Env,
-        settings: &CallSettings,
-        asking: &mut A,
-    ) -> Result<Sectioned<T, T::Error>, Stop>
-        requires { T.rules.is_kind key.now ≡ true }
-        ensures { SectionFollows T.rules ⟦<A as Asking>⟧ key.now env.now settings.now asking.old self.old asking.new self.new result }
-    {
-        let Ok(()) = self.records.reserve(1) else {
-            return Err(Stop::OutOfMemory);
-        };
-        let Ok(mut receipts) = Vec::with_capacity(self.alloc, 5) else {
-            return Err(Stop::OutOfMemory);
-        };
-        let made = follow_section(
-            self.alloc,
-            key,
-            env,
-            settings,
-            self.kept(),
-            self.last_attempt(),
-            asking,
-            &mut receipts,
-        )?;
-        let record = finished_load(self.alloc, &made, receipts)?;
-        put_in_place(&mut self.records, record);
-        Ok(made)
-    }
 }
 
 // The record of a section that finished a load.

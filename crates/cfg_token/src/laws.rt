@@ -21,12 +21,12 @@ pub fn refreshes_are_spaced<T: FileToken>(state: &TokenState<T>)
     // Each is the second reading among its load's receipts.
     ensures readings { (i : ℕ) (r : _) → slice_get state.now.loads.records i ≡ Some r → NotedAtReading r }
 {
-    let _records = state.loads.records();
+    let _records = state.records();
 }
 
 /// A token that a load gave ends after the load's second reading of the clock, which is its last.
 pub fn handed_out_tokens_last<T: FileToken>(state: &TokenState<T>)
     ensures { (i : ℕ) (r : _) → slice_get state.now.loads.records i ≡ Some r → EndsAfterReading T.rules r }
 {
-    let _records = state.loads.records();
+    let _records = state.records();
 }

@@ -21,7 +21,7 @@ pub fn read_clock<A: Asking>(asking: &mut A, receipts: &mut Vec<Receipt>) -> Res
         Answer::Moment(moment) => *moment,
         _ => unreachable!(),
     };
-    note(receipts, receipt)?;
+    note_receipt(receipts, receipt)?;
     Ok(moment)
 }
 
@@ -42,7 +42,7 @@ pub fn read_file<T: FileToken, A: Asking>(
         Answer::Contents(bytes) => T::parse(alloc, bytes.as_slice())?,
         _ => Err(T::read_error(alloc, path)?),
     };
-    note(receipts, receipt)?;
+    note_receipt(receipts, receipt)?;
     Ok(outcome)
 }
 
@@ -59,17 +59,18 @@ pub fn ask_renewal<T: FileToken, A: Asking>(
     receipts: &mut Vec<Receipt>,
 ) -> Result<Renewal<T, T::Error>, Stop>
     requires { T.rules.is_kind key.now ≡ true }
-    ensures { Notes ⟦<A as Asking>⟧ (asks_renewal T.rules key.now settings.now file.now now) asking.old receipts.old.items asking.new receipts.new.items result }
+    ensures { Notes ⟦<A as Asking>⟧ (asks_renewal T.rules key.now settings.now file.now now)
+        asking.old receipts.old.items asking.new receipts.new.items result }
 {
     let request = file.refresh_request(alloc, key, settings)?;
     let receipt = asking.put(Question::Send(request))?;
     let renewal = file.renew(alloc, key, now, receipt.entry().answer())?;
-    note(receipts, receipt)?;
+    note_receipt(receipts, receipt)?;
     Ok(renewal)
 }
 
 /// One receipt more. Where memory runs out it is `OutOfMemory`, and the receipt is given up.
-pub fn note(receipts: &mut Vec<Receipt>, receipt: Receipt) -> Result<(), OutOfMemory>
+pub fn note_receipt(receipts: &mut Vec<Receipt>, receipt: Receipt) -> Result<(), OutOfMemory>
     ensures { OnOk result (receipts.new.items ≡ receipts.old.items ++ receipt ∷ []) }
 {
     receipts.push(receipt)?;

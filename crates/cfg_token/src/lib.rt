@@ -6,10 +6,12 @@
 
 pub mod decision;
 pub mod file_token;
-pub mod history;
+mod history;
 pub mod laws;
 mod leaves;
 pub mod lifetime;
+mod loading;
+pub mod loads;
 pub mod lookup;
 pub mod paths;
 mod sections;
@@ -17,8 +19,7 @@ mod sso;
 mod sso_file;
 mod sso_token;
 mod sso_writing;
-pub mod state;
-mod steps;
+mod state;
 mod token_key;
 
 pub use cfg_types::{

@@ -27,6 +27,7 @@ pub fn cached_sso_token_path(
     Ok(Text::from_string(path))
 }
 
+// The identifier is hashed as it is, be it empty or `a/../b`: the path has its digest alone.
 fn hashed(alloc: Global, identifier: &str) -> Result<String, OutOfMemory>
     ensures { IfOk result (λ name. string_bytes name ≡ encode_lower (sha1 identifier.now)) }
 {

@@ -3,9 +3,10 @@ ghost use Rattle.std.specs.Option.{option_copied};
 ghost use Rattle.cfg_token.specs.Notes.{Notes};
 ghost use Rattle.cfg_token.specs.Sections.{section as section_of, by_reading};
 
+use crate::decision::outlasts_buffer;
 use crate::file_token::FileToken;
 use crate::leaves::read_clock;
-use crate::steps::{Loaded, load};
+use crate::loading::{Loaded, load};
 use crate::token_key::TokenKey;
 use cfg_types::{CallSettings, Env, Instant, TryCopy};
 use cfg_world::{Asking, Receipt, Stop};
@@ -35,7 +36,8 @@ pub fn follow_section<T: FileToken, A: Asking>(
     receipts: &mut Vec<Receipt>,
 ) -> Result<Sectioned<T, T::Error>, Stop>
     requires { T.rules.is_kind key.now ≡ true }
-    ensures { Notes ⟦<A as Asking>⟧ (section_of T.rules key.now env.now settings.now (option_copied kept.entry) last) asking.old receipts.old.items asking.new receipts.new.items result }
+    ensures { Notes ⟦<A as Asking>⟧ (section_of T.rules key.now env.now settings.now (option_copied kept.entry) last)
+        asking.old receipts.old.items asking.new receipts.new.items result }
 {
     let reading = read_clock(asking, receipts)?;
     follow_reading(
@@ -57,10 +59,11 @@ fn follow_reading<T: FileToken, A: Asking>(
     receipts: &mut Vec<Receipt>,
 ) -> Result<Sectioned<T, T::Error>, Stop>
     requires { T.rules.is_kind key.now ≡ true }
-    ensures { Notes ⟦<A as Asking>⟧ (by_reading T.rules key.now env.now settings.now (option_copied kept.entry) last reading) asking.old receipts.old.items asking.new receipts.new.items result }
+    ensures { Notes ⟦<A as Asking>⟧ (by_reading T.rules key.now env.now settings.now (option_copied kept.entry) last reading)
+        asking.old receipts.old.items asking.new receipts.new.items result }
 {
     if let Some(token) = kept {
-        if token.expires_at().is_later_by(300, reading) {
+        if outlasts_buffer(token, reading) {
             let token = token.copy(alloc)?;
             return Ok(Sectioned::Hit(token));
         }

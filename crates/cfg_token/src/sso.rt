@@ -109,6 +109,7 @@ impl FileToken for CachedSsoToken {
         now: Instant,
         answer: &Answer,
     ) -> Result<Renewal<CachedSsoToken, SsoTokenProviderError>, OutOfMemory> {
+        // As in aws-config, a refresh that failed is no error: the file's token may still serve.
         let Answer::Replied(Reply::Token(reply)) = answer else {
             return Ok(Renewal::Passed);
         };
@@ -130,6 +131,7 @@ impl FileToken for CachedSsoToken {
     }
 
     fn save_error(fault: Unsaved) -> Option<SsoTokenProviderError> {
+        // As in aws-config, a token that could not be saved is not handed out.
         let error = match fault {
             Unsaved::NoText => CachedSsoTokenError::FailedToFormatDateTime,
             Unsaved::NotWritten(path) => CachedSsoTokenError::IoError {

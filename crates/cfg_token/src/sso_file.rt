@@ -1,7 +1,7 @@
 ghost use Rattle.std.specs.Prelude.{◌≡◌, IfOk};
-ghost use Rattle.cfg_values.specs.Gives.{IsSaid};
+ghost use Rattle.cfg_base.specs.Gives.{IsSaid};
 ghost use Rattle.cfg_json.specs.Documents.{date_in};
-ghost use Rattle.cfg_token.specs.SsoFile.{text_of, required as required_text, dated, optional_date, token_of, sso_file, UnlessMemory, AnswersFile, IsFaultOf, ReadsMembers};
+ghost use Rattle.cfg_token.specs.SsoFile.{text_of, required as required_text, dated, optional_date, token_with, token_of, sso_file, UnlessMemory, AnswersFile, IsFaultOf, ReadsMembers};
 
 use crate::lookup::{copy_text, find_text};
 use crate::sso_token::CachedSsoToken;
@@ -52,7 +52,7 @@ fn file_members(alloc: Global, bytes: &[u8]) -> Result<Members, CachedSsoTokenEr
     }
 }
 
-// A fault of the text.
+// A fault of the text. Both texts are those of a document of credentials: one wording for one fault.
 fn text_fault(alloc: Global, error: JsonError) -> CachedSsoTokenError
     ensures { IsFaultOf error result }
 {
@@ -132,7 +132,7 @@ fn with_texts(
     expires_at: Instant,
     registration_expires_at: Option<Instant>,
 ) -> Result<CachedSsoToken, OutOfMemory>
-    ensures { IfOk result (λ token. token ≡ record { access_token = access.now; expires_at = expires_at; refresh_token = text_of members.now Field.RefreshToken; client_id = text_of members.now Field.ClientId; client_secret = text_of members.now Field.ClientSecret; registration_expires_at = registration_expires_at; region = text_of members.now Field.Region; start_url = text_of members.now Field.StartUrl }) }
+    ensures { IfOk result (λ token. token ≡ token_with members.now access.now expires_at registration_expires_at) }
 {
     let access_token = access.copy(alloc)?;
     let refresh_token = copy_text(alloc, members, Field::RefreshToken)?;

@@ -1,24 +1,21 @@
 //! What is known of one token.
-ghost use Rattle.std.specs.Prelude.{◌≡◌, ◌∷◌, [], None, Some, IfOk, true, false};
+ghost use Rattle.std.specs.Prelude.{◌≡◌, [], None, IfOk, true, false};
 ghost use Rattle.std.specs.Option.{option_copied};
-ghost use Rattle.cfg_token.specs.Sections.{answer_of};
 ghost use Rattle.cfg_token.specs.Histories.{kept_in, last_in, load_in, trimmed, IsHistory};
-ghost use Rattle.cfg_token.specs.SectionCalls.{is_memory, Answers, Interrupted};
+ghost use Rattle.cfg_token.specs.SectionCalls.{is_memory, Answers, Interrupted, SectionAnswers};
 
 use crate::file_token::FileToken;
-use crate::history::{Load, Loads, Record};
-use crate::sections::Sectioned;
+use crate::history::{Load, Record};
+use crate::loads::{Loads, section_on};
 use crate::token_key::TokenKey;
 use cfg_types::{CallSettings, Env, Instant, OutOfMemory};
-use cfg_world::{Asking, Devices, World};
+use cfg_world::{Asking, Devices, Stop, World};
 use std::alloc::Global;
 
-/// What is known of the token of one key.
+/// What is known of the token of one key. Contracts see the key, and the loads of its token.
 pub struct TokenState<T: FileToken> {
-    /// Whose token it is.
-    pub key: TokenKey,
-    /// The loads of the token, and what they leave.
-    pub loads: Loads<T>,
+    key: TokenKey,
+    loads: Loads<T>,
 }
 
 impl<T: FileToken> Drop for TokenState<T> {
@@ -36,6 +33,23 @@ impl<T: FileToken> TokenState<T> {
             key,
             loads: Loads::new(alloc),
         }
+    }
+
+    /// The state of the token of this key, of which these are the loads. They name no key, so that they
+    /// have to be this token's.
+    pub fn from_parts(key: TokenKey, loads: Loads<T>) -> TokenState<T>
+        ensures { result ≡ record { key = key; loads = loads } }
+    {
+        TokenState { key, loads }
+    }
+
+    /// The key, and the loads of its token.
+    pub fn into_parts(self) -> (TokenKey, Loads<T>)
+        ensures key { result.0 ≡ self.key }
+        ensures loads { result.1 ≡ self.loads }
+    {
+        let TokenState { key, loads } = self;
+        (key, loads)
     }
 
     /// Whose token it is.
@@ -90,6 +104,25 @@ impl<T: FileToken> TokenState<T> {
     {
         self.loads.trim();
     }
+
+    /// One section, as [`section`] is one, over anything that can be asked.
+    ///
+    /// # Errors
+    ///
+    /// The outer error says why it was stopped: memory ran out, or a question was left open. The state
+    /// is then as it was. The inner one is the load's.
+    pub fn follow<A: Asking>(
+        &mut self,
+        env: &Env,
+        settings: &CallSettings,
+        asking: &mut A,
+    ) -> Result<Result<T, T::Error>, Stop>
+        requires { T.rules.is_kind self.old.key ≡ true }
+        ensures answers { SectionAnswers T.rules ⟦<A as Asking>⟧ self.old.key env.now settings.now asking.old self.old.loads asking.new self.new.loads result }
+        ensures key { self.new.key ≡ self.old.key }
+    {
+        self.loads.follow(&self.key, env, settings, asking)
+    }
 }
 
 /// Hands out the kept token while more than 300 seconds of it are left. Else the token's file is
@@ -107,37 +140,11 @@ pub fn section<T: FileToken, D: Devices>(
     world: &mut World<D>,
 ) -> Result<T, T::Error>
     requires { T.rules.is_kind state.old.key ≡ true }
-    ensures finished { is_memory T.rules result ≡ false → Answers T.rules ⟦<World<D> as Asking>⟧ state.old.key env.now settings.now world.old state.old.loads world.new state.new.loads result }
+    ensures finished { is_memory T.rules result ≡ false →
+        Answers T.rules ⟦<World<D> as Asking>⟧ state.old.key env.now settings.now world.old state.old.loads world.new state.new.loads result }
     ensures key { state.new.key ≡ state.old.key }
-    ensures stopped { is_memory T.rules result ≡ true → Interrupted T.rules ⟦<World<D> as Asking>⟧ state.old.key env.now settings.now world.old state.old.loads world.new state.new.loads }
+    ensures stopped { is_memory T.rules result ≡ true →
+        Interrupted T.rules ⟦<World<D> as Asking>⟧ state.old.key env.now settings.now world.old state.old.loads world.new state.new.loads }
 {
     section_on(&mut state.loads, &state.key, env, settings, world)
-}
-
-/// A section, as [`section`] is one, on the loads of a key, with the same errors.
-pub fn section_on<T: FileToken, D: Devices>(
-    loads: &mut Loads<T>,
-    key: &TokenKey,
-    env: &Env,
-    settings: &CallSettings,
-    world: &mut World<D>,
-) -> Result<T, T::Error>
-    requires { T.rules.is_kind key.now ≡ true }
-    ensures finished { is_memory T.rules result ≡ false → Answers T.rules ⟦<World<D> as Asking>⟧ key.now env.now settings.now world.old loads.old world.new loads.new result }
-    ensures stopped { is_memory T.rules result ≡ true → Interrupted T.rules ⟦<World<D> as Asking>⟧ key.now env.now settings.now world.old loads.old world.new loads.new }
-{
-    match loads.follow(key, env, settings, world) {
-        Ok(made) => answer(made),
-        Err(_) => Err(T::out_of_memory()),
-    }
-}
-
-/// What a section answers: the kept token, or what the load gave.
-pub fn answer<T, E>(made: Sectioned<T, E>) -> Result<T, E>
-    ensures { result ≡ answer_of made }
-{
-    match made {
-        Sectioned::Hit(token) => Ok(token),
-        Sectioned::Load(loaded) => loaded.outcome,
-    }
 }

@@ -3,8 +3,8 @@ use Rattle.std.proofs.Common.{◌≡◌, ℕ, List, [], ◌∷◌, ◌++◌, Boo
 use Rattle.std.specs.Char.{is_whitespace, encode_utf8}
 use Rattle.std.specs.Str.{IsUtf8, encode_utf8_all, NonePass, NoCharPasses}
 use Rattle.std.proofs.lemmas.Str.{chars_from_encodes, cons_from_encodes, encodes-append}
-use Rattle.cfg_values.specs.Text.{characters}
-use Rattle.cfg_values.proofs.TextLemmas.{characters-chars}
+use Rattle.cfg_base.specs.Text.{characters}
+use Rattle.cfg_base.proofs.TextLemmas.{characters-chars}
 use Rattle.cfg_types.specs.Commands.{program, has_white_space, shown_command}
 
 none-there : (cs : List ℕ) → NonePass is_whitespace cs → has_white_space cs ≡ false

@@ -1,6 +1,7 @@
 -- What is shown of a command whose arguments may be secrets.
-use Rattle.std.specs.Prelude.{ℕ, List, [], ◌∷◌, ◌++◌, Bool, true, false, if◌then◌else◌, codes}
+use Rattle.std.specs.Prelude.{◌≡◌, ℕ, List, [], ◌∷◌, ◌++◌, Bool, true, false, if◌then◌else◌, codes}
 use Rattle.std.specs.Char.{is_whitespace}
+use Rattle.std.specs.Str.{encode_utf8_all}
 
 -- the text before the first white space
 abbrev pub program : List ℕ → List ℕ
@@ -15,3 +16,7 @@ has_white_space (c ∷ text) = if is_whitespace c then true else has_white_space
 -- the text before the first white space, and a note where something is left out
 abbrev pub shown_command : List ℕ → List ℕ
 shown_command text = program text ++ (if has_white_space text then codes " ** arguments redacted **" else [])
+
+-- There is white space in the text, and these bytes are what stands before the first of it.
+abbrev pub StandsBefore : List ℕ → List ℕ → Type 0
+StandsBefore bytes text = (has_white_space text ≡ true) × (bytes ≡ encode_utf8_all (program text))

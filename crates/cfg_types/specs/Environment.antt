@@ -5,11 +5,15 @@ use Rattle.cfg_types.specs.declared.environment.EnvText.{EnvText}
 use Rattle.cfg_types.specs.declared.environment.EnvText.TheVariants as value
 use Rattle.cfg_types.specs.declared.environment.VarError.{VarError}
 use Rattle.cfg_types.specs.declared.environment.VarError.TheVariants.{NotPresent, NotUnicode}
-use Rattle.cfg_values.specs.TextMap.{Named}
+use Rattle.cfg_base.specs.TextMap.{Named}
 
 -- environment variables by the bytes of their names
 abbrev pub Variables : Type 0
 Variables = Named EnvText
+
+-- environment variables in the order of a list
+abbrev pub ListedVariables : Type 0
+ListedVariables = List (List ℕ × EnvText)
 
 -- what a value reads as
 abbrev pub read_value : Option EnvText → Result (List ℕ) VarError

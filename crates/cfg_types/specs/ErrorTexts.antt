@@ -102,10 +102,18 @@ abbrev pub loop_text : List (List ℕ) → List ℕ → Option (List ℕ)
 loop_text path next =
     Some (codes "profile formed an infinite loop. first we loaded ") ++? (quoted_list path ++? Some (codes ", then attempted to reload " ++ encode_utf8_all next))
 
+-- a name between two texts, and a message behind them
+abbrev pub name_and_message : List ℕ → List ℕ → List ℕ → List ℕ → List ℕ
+name_and_message before name between message = before ++ (encode_utf8_all name ++ (between ++ encode_utf8_all message))
+
+-- the session that a profile names is not there
+abbrev pub missing_session_text : List ℕ → List ℕ → List ℕ
+missing_session_text session profile = codes "sso-session named `" ++ (encode_utf8_all session ++ (codes "` (referenced by profile `" ++ (encode_utf8_all profile ++ codes "`) was not found")))
+
 -- what a profile asks for that is not built, and more words where there are some
 abbrev pub feature_text : List ℕ → Option (List ℕ) → List ℕ
 feature_text feature None = codes "This behavior requires following cargo feature(s) enabled: " ++ (encode_utf8_all feature ++ codes ". ")
-feature_text feature (Some m) = codes "This behavior requires following cargo feature(s) enabled: " ++ (encode_utf8_all feature ++ (codes ". " ++ encode_utf8_all m))
+feature_text feature (Some m) = name_and_message (codes "This behavior requires following cargo feature(s) enabled: ") feature (codes ". ") m
 
 -- why a profile gives no credentials
 abbrev pub profile_text : ProfileFileError → Option (List ℕ)
@@ -113,14 +121,13 @@ profile_text (profile.InvalidProfile text) = Some (codes "invalid profile: " ++ 
 profile_text profile.NoProfilesDefined = Some (codes "No profiles were defined")
 profile_text (profile.ProfileDidNotContainCredentials p) = Some (codes "profile `" ++ (encode_utf8_all p ++ codes "` did not contain credential information"))
 profile_text (profile.CredentialLoop path next) = loop_text path next
-profile_text (profile.MissingCredentialSource p m) = Some (codes "missing credential source in `" ++ (encode_utf8_all p ++ (codes "`: " ++ encode_utf8_all m)))
-profile_text (profile.InvalidCredentialSource p m) = Some (codes "invalid credential source in `" ++ (encode_utf8_all p ++ (codes "`: " ++ encode_utf8_all m)))
-profile_text (profile.MissingProfile p m) = Some (codes "profile `" ++ (encode_utf8_all p ++ (codes "` was not defined: " ++ encode_utf8_all m)))
+profile_text (profile.MissingCredentialSource p m) = Some (name_and_message (codes "missing credential source in `") p (codes "`: ") m)
+profile_text (profile.InvalidCredentialSource p m) = Some (name_and_message (codes "invalid credential source in `") p (codes "`: ") m)
+profile_text (profile.MissingProfile p m) = Some (name_and_message (codes "profile `") p (codes "` was not defined: ") m)
 profile_text (profile.UnknownProvider name) = Some (codes "profile referenced `" ++ (encode_utf8_all name ++ codes "` provider but that provider is not supported"))
 profile_text (profile.FeatureNotEnabled feature m) = Some (feature_text feature m)
-profile_text (profile.MissingSsoSession p session) =
-    Some (codes "sso-session named `" ++ (encode_utf8_all session ++ (codes "` (referenced by profile `" ++ (encode_utf8_all p ++ codes "`) was not found"))))
-profile_text (profile.InvalidSsoConfig p m) = Some (codes "profile `" ++ (encode_utf8_all p ++ (codes "` has invalid SSO config: " ++ encode_utf8_all m)))
+profile_text (profile.MissingSsoSession p session) = Some (missing_session_text session p)
+profile_text (profile.InvalidSsoConfig p m) = Some (name_and_message (codes "profile `") p (codes "` has invalid SSO config: ") m)
 profile_text profile.TokenProviderConfig =
     Some (codes "selected profile will resolve an access token instead of credentials since it doesn't have `sso_account_id` and `sso_role_name` set. Specify both `sso_account_id` and `sso_role_name` to let this profile resolve credentials.")
 profile_text profile.OutOfMemory = Some (codes "out of memory")

@@ -1,6 +1,6 @@
 -- Credentials as contracts see them.
 use Rattle.std.specs.Prelude.{ℕ, List, [], Option, None}
-use Rattle.cfg_values.specs.Moment.{Moment}
+use Rattle.cfg_base.specs.Moment.{Moment}
 use Rattle.cfg_types.specs.declared.credentials.AwsCredentialFeature.{AwsCredentialFeature}
 
 -- id, secret, session token, expiry, account, provider and features

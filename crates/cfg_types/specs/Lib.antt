@@ -1,6 +1,6 @@
 pub mod Environment
 pub mod Keys
-pub mod Shown
+pub mod DebugTexts
 pub mod Field
 pub mod DocumentText
 pub mod Classes

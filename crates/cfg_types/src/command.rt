@@ -1,10 +1,10 @@
 //! Commands whose arguments may be secrets, and what a command leaves behind.
 ghost use Rattle.std.specs.Prelude.{◌≡◌, IfOk, true, false, MatchOption};
 ghost use Rattle.std.specs.Str.{encode_utf8_all};
-ghost use Rattle.cfg_values.specs.Text.{characters};
-ghost use Rattle.cfg_types.specs.Commands.{program, has_white_space};
+ghost use Rattle.cfg_base.specs.Text.{characters};
+ghost use Rattle.cfg_types.specs.Commands.{has_white_space, StandsBefore};
 
-use cfg_values::{Bytes, OutOfMemory, Text, TryCopy};
+use cfg_base::{Bytes, OutOfMemory, Text, TryCopy};
 use std::alloc::Global;
 use std::fmt;
 use std::marker::Model;
@@ -99,7 +99,7 @@ fn write_redacted<W: fmt::Write>(program: &str, f: &mut fmt::Formatter<W>) -> fm
 
 // The text before the first white space, where there is any.
 fn before_white_space(text: &str) -> Option<&str>
-    ensures { MatchOption result (has_white_space (characters text.now) ≡ false) (λ before. (has_white_space (characters text.now) ≡ true) × (before.now ≡ encode_utf8_all (program (characters text.now)))) }
+    ensures { MatchOption result (has_white_space (characters text.now) ≡ false) (λ before. StandsBefore before.now (characters text.now)) }
 {
     let (before, _) = text.split_once(char::is_whitespace)?;
     Some(before)
@@ -148,7 +148,7 @@ impl TryCopy for Finished {
 // The output of a command may hold keys: the text shows neither stream.
 impl fmt::Debug for Finished {
     ghost use Rattle.std.specs.Prelude.{Some};
-    ghost use Rattle.cfg_types.specs.Shown.{shown_finished};
+    ghost use Rattle.cfg_types.specs.DebugTexts.{shown_finished};
 
     ghost debug_output = { λ d. Some (shown_finished d.status) };
 

@@ -1,9 +1,9 @@
 //! Credentials, and the builder that puts them together.
 ghost use Rattle.std.specs.Prelude.{◌≡◌, ◌++◌, ◌∷◌, IfOk, OnOk, OnErr, Some, None, [], Option, option_map};
 ghost use Rattle.std.specs.Str.{encode_utf8_all};
-ghost use Rattle.cfg_values.specs.Text.{characters};
+ghost use Rattle.cfg_base.specs.Text.{characters};
 
-use cfg_values::{Instant, OutOfMemory, Seq, Text, TryCopy, copy_option};
+use cfg_base::{Instant, OutOfMemory, Seq, Text, TryCopy, copy_option};
 use std::alloc::Global;
 use std::fmt;
 use std::marker::Model;
@@ -225,7 +225,7 @@ impl Credentials {
 // The text depends on neither the secret nor the session token.
 impl fmt::Debug for Credentials {
     ghost use Rattle.std.specs.Prelude.{Some};
-    ghost use Rattle.cfg_types.specs.Shown.{shown_credentials};
+    ghost use Rattle.cfg_types.specs.DebugTexts.{shown_credentials};
 
     ghost debug_output = { λ c. Some (shown_credentials c.provider_name c.access_key_id c.expiry c.account_id) };
 
@@ -248,7 +248,7 @@ struct ShownKey<'a> {
 
 impl fmt::Display for ShownKey<'_> {
     ghost use Rattle.std.specs.Prelude.{Some};
-    ghost use Rattle.cfg_types.specs.Shown.{shown_key};
+    ghost use Rattle.cfg_types.specs.DebugTexts.{shown_key};
 
     ghost output = { λ k. Some (shown_key k.provider.now k.id.now) };
 
@@ -268,7 +268,7 @@ pub(crate) struct ShownExpiry(pub(crate) Option<Instant>);
 
 impl fmt::Display for ShownExpiry {
     ghost use Rattle.std.specs.Prelude.{Some};
-    ghost use Rattle.cfg_types.specs.Shown.{shown_expiry};
+    ghost use Rattle.cfg_types.specs.DebugTexts.{shown_expiry};
 
     ghost output = { λ e. Some (shown_expiry e.0) };
 
@@ -290,7 +290,7 @@ pub struct ShownAccount<'a>(pub Option<&'a Text>);
 
 impl fmt::Display for ShownAccount<'_> {
     ghost use Rattle.std.specs.Prelude.{Some};
-    ghost use Rattle.cfg_types.specs.Shown.{shown_account};
+    ghost use Rattle.cfg_types.specs.DebugTexts.{shown_account};
 
     ghost output = { λ a. Some (shown_account (option_map (λ t. t.now) a.0)) };
 
@@ -438,6 +438,7 @@ impl CredentialsBuilder {
     pub fn build(self) -> Result<Credentials, OutOfMemory>
         ensures { IfOk result (λ credentials. credentials ≡ self) }
     {
+        // An Ok always: every `build` answers a Result, so that a caller writes one form.
         let CredentialsBuilder { alloc: _, built } = self;
         Ok(built)
     }

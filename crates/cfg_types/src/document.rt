@@ -2,7 +2,7 @@
 ghost use Rattle.std.specs.Prelude.{◌≡◌};
 ghost use Rattle.cfg_types.specs.Field.{field_name};
 
-use cfg_values::{OutOfMemory, Text, TryCopy};
+use cfg_base::{OutOfMemory, Text, TryCopy};
 use std::alloc::{AllocError, AllocFailed, Global};
 use std::error::Error;
 use std::fmt;

@@ -1,12 +1,12 @@
 //! Environment variables that are handed in, and how they are read.
 ghost use Rattle.std.specs.Prelude.{◌≡◌, IfOk, MatchResult, Ok, Err, map, option_map};
 ghost use Rattle.std.specs.Str.{encode_utf8_all};
-ghost use Rattle.cfg_values.specs.Text.{characters};
-ghost use Rattle.cfg_values.specs.TextMap.{named};
-ghost use Rattle.cfg_values.specs.Entries.{each_set};
+ghost use Rattle.cfg_base.specs.Text.{characters};
+ghost use Rattle.cfg_base.specs.TextMap.{named};
+ghost use Rattle.cfg_base.specs.Entries.{each_set};
 ghost use Rattle.cfg_types.specs.Environment.{variable, readable as readable_of};
 
-use cfg_values::{OutOfMemory, Text, TextMap, TryCopy};
+use cfg_base::{OutOfMemory, Text, TextMap, TryCopy};
 use std::alloc::Global;
 use std::marker::Model;
 
@@ -48,7 +48,7 @@ pub struct Env {
 
 impl Model for Env {
     ghost use Rattle.std.specs.Coded.{coded_list};
-    ghost use Rattle.cfg_values.specs.TextMap.{Named, named_code};
+    ghost use Rattle.cfg_base.specs.TextMap.{Named, named_code};
     ghost use Rattle.cfg_types.specs.declared.environment.EnvText.{EnvText};
     ghost use Rattle.cfg_types.specs.contracts.environment.EnvText.{the_row};
 
@@ -67,6 +67,7 @@ impl Env {
     {
         let mut variables = TextMap::with_capacity(alloc, vars.len())?;
         for (name, value) in vars {
+            // In place of an earlier value: of two equal names the later counts.
             variables.set(name, value)?;
         }
         Ok(Env { variables })

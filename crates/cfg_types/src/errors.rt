@@ -1,23 +1,23 @@
 //! Every error of the resolver, each with its cause.
 ghost use Rattle.std.specs.Prelude.{◌≡◌, IfOk};
 ghost use Rattle.std.specs.Str.{encode_utf8_all};
-ghost use Rattle.cfg_values.specs.Text.{characters};
+ghost use Rattle.cfg_base.specs.Text.{characters};
 ghost use Rattle.cfg_types.specs.Classes.{class_of, class_name, is_memory as is_memory_of};
 ghost use Rattle.cfg_types.specs.declared.errors.CredentialsError.TheVariants as error;
 
-use cfg_values::{Boxed, OutOfMemory, Seq, Text};
+use cfg_base::{Boxed, OutOfMemory, Seq, Text};
 
 mod causes;
 mod container;
+mod credentials_display;
 pub mod imds;
 mod login;
 mod pieces;
 mod process;
 mod profile;
-mod shown;
 mod sso;
 mod token;
-mod token_shown;
+mod token_display;
 
 use crate::credentials::Credentials;
 use crate::document::InvalidJsonCredentials;

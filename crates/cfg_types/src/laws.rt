@@ -1,15 +1,16 @@
 //! Laws of plain data, each on a call that shows it.
 ghost use Rattle.std.specs.Prelude.{◌≡◌, List, ℕ, Some, None};
 ghost use Rattle.std.specs.FinMap.{get};
-ghost use Rattle.cfg_values.specs.Entries.{each_set, HasNoName, IsLastUnder};
+ghost use Rattle.cfg_base.specs.Entries.{each_set, HasNoName, IsLastUnder};
+ghost use Rattle.cfg_types.specs.Environment.{ListedVariables};
 ghost use Rattle.cfg_types.specs.Commands.{program, has_white_space, shown_command};
 ghost use Rattle.cfg_types.specs.declared.environment.EnvText.{EnvText as Setting};
 
 /// Environment variables of a list: the value of a name is the one that its last entry gives, and a
 /// name that no entry has is not set.
 pub fn the_last_value_of_a_name_counts()
-    ensures set { (entries : List (List ℕ × Setting)) (name : List ℕ) (value : Setting) → IsLastUnder name value entries → get (each_set entries) name ≡ Some value }
-    ensures unset { (entries : List (List ℕ × Setting)) (name : List ℕ) → HasNoName name entries → get (each_set entries) name ≡ None }
+    ensures set { (entries : ListedVariables) (name : List ℕ) (value : Setting) → IsLastUnder name value entries → get (each_set entries) name ≡ Some value }
+    ensures unset { (entries : ListedVariables) (name : List ℕ) → HasNoName name entries → get (each_set entries) name ≡ None }
 {}
 
 /// What is shown of a command depends on nothing but the text before its first white space, and

@@ -1,5 +1,5 @@
 //! Plain data of the credential resolver: the environment, credentials, tokens, requests, replies and
-//! every error. It stands on cfg_values, whose texts and moments it hands on, and on `itoa`, which
+//! every error. It stands on cfg_base, whose texts and moments it hands on, and on `itoa`, which
 //! prints numbers. The layers above may use every type here as a value: contracts see texts and
 //! sequences as lists, and a moment as its seconds and nanoseconds.
 #![tactic(auto)]
@@ -16,7 +16,7 @@ pub mod request;
 pub mod settings;
 pub mod token;
 
-pub use cfg_values::{
+pub use cfg_base::{
     Address, Boxed, Bytes, Instant, OutOfMemory, Seq, Text, TextMap, TryCopy, copy_option,
     is_blank, texts, trimmed,
 };

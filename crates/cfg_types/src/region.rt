@@ -1,9 +1,9 @@
 //! Names of regions.
 ghost use Rattle.std.specs.Prelude.{◌≡◌, IfOk};
 ghost use Rattle.std.specs.Str.{encode_utf8_all};
-ghost use Rattle.cfg_values.specs.Text.{characters};
+ghost use Rattle.cfg_base.specs.Text.{characters};
 
-use cfg_values::{OutOfMemory, Text, TryCopy};
+use cfg_base::{OutOfMemory, Text, TryCopy};
 use std::alloc::Global;
 use std::fmt;
 use std::marker::Model;

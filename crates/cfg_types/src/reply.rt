@@ -7,7 +7,7 @@ mod sign_in;
 mod sso;
 mod sts;
 
-use cfg_values::{OutOfMemory, Text, TryCopy};
+use cfg_base::{OutOfMemory, Text, TryCopy};
 pub use http::{Header, HttpReply};
 pub use sign_in::{SignInReply, SignInToken};
 pub use sso::{RoleCredentials, RoleReply, TokenReply};

@@ -6,7 +6,7 @@ mod sign_in;
 mod sso;
 mod sts;
 
-use cfg_values::{OutOfMemory, TryCopy};
+use cfg_base::{OutOfMemory, TryCopy};
 pub use http::{Http, MetadataGet, MetadataToken};
 pub use sign_in::CreateOAuth2Token;
 pub use sso::{CreateToken, GetRoleCredentials};

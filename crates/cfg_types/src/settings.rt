@@ -2,7 +2,7 @@
 ghost use Rattle.std.specs.Prelude.{◌≡◌, IfOk};
 
 use crate::region::Region;
-use cfg_values::{OutOfMemory, TryCopy, copy_option};
+use cfg_base::{OutOfMemory, TryCopy, copy_option};
 use std::alloc::Global;
 
 /// Limits of time, in milliseconds. None leaves the limit to the transport.

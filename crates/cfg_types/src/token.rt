@@ -1,10 +1,10 @@
 //! Tokens, and texts that are not shown.
 ghost use Rattle.std.specs.Prelude.{◌≡◌, IfOk};
 ghost use Rattle.std.specs.Str.{encode_utf8_all};
-ghost use Rattle.cfg_values.specs.Text.{characters};
+ghost use Rattle.cfg_base.specs.Text.{characters};
 
 use crate::credentials::ShownExpiry;
-use cfg_values::{Instant, OutOfMemory, Text, TryCopy};
+use cfg_base::{Instant, OutOfMemory, Text, TryCopy};
 use std::alloc::Global;
 use std::fmt;
 use std::marker::Model;
@@ -55,7 +55,7 @@ impl Token {
 // The text does not depend on the token.
 impl fmt::Debug for Token {
     ghost use Rattle.std.specs.Prelude.{Some};
-    ghost use Rattle.cfg_types.specs.Shown.{shown_token};
+    ghost use Rattle.cfg_types.specs.DebugTexts.{shown_token};
 
     ghost debug_output = { λ t. Some (shown_token t.expiry) };
 

@@ -9,5 +9,5 @@ pub mod OneFails
 pub mod PathIndex
 pub mod Scripted
 pub mod HandedOver
-pub mod Shown
+pub mod ShownFailures
 pub mod Sameness

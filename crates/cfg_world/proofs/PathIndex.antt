@@ -13,8 +13,8 @@ use Rattle.std.proofs.lemmas.Option.{slice_get_read}
 use Rattle.std.proofs.lemmas.List.Folds.{list_any-append}
 use Rattle.std.proofs.lemmas.Slice.Eq.{bytes_eq-Decides}
 use Rattle.std.proofs.lemmas.Bool.Decides.{same_from_decides, Decides-like}
-use Rattle.cfg_values.specs.Text.{characters}
-use Rattle.cfg_values.specs.TextMap.{Named}
+use Rattle.cfg_base.specs.Text.{characters}
+use Rattle.cfg_base.specs.TextMap.{Named}
 use Rattle.cfg_world.specs.Script.{latest}
 use Rattle.cfg_world.specs.Paths.{held_at, Finds, Lists}
 

@@ -1,8 +1,8 @@
 -- One question more to scripted devices.
 use Rattle.std.proofs.Common.{rules, arith, ◌≡◌, ℕ, zero, suc, ◌+◌, ◌≤◌, List, [], ◌∷◌, ◌++◌, map, Option, Some, None, Result, Ok, Err, refl, sym, ap, ◌∙◌, subst}
 use Rattle.std.specs.Prelude.{pos, ◌≤ℤ◌, unwrap_or, slice_get, All, min, length, if◌then◌else◌, Bool, true, false}
-use Rattle.cfg_values.specs.Moment.{Moment}
-use Rattle.cfg_values.specs.declared.address.Address.{Address}
+use Rattle.cfg_base.specs.Moment.{Moment}
+use Rattle.cfg_base.specs.declared.address.Address.{Address}
 use Rattle.cfg_types.specs.declared.reply.FailKind.{FailKind}
 use Rattle.cfg_types.specs.declared.reply.FailKind.TheVariants.{Dispatch, Io}
 use Rattle.cfg_types.specs.declared.command.Finished.{Finished}

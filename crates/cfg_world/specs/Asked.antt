@@ -33,6 +33,10 @@ pub record Asked (old_faults new_faults : Faults) (old_allows new_allows old_sta
   -- devices that stood for a list stand for it with this entry behind it
   pub stands : IfSome given (λ a. StandsOn old_stands new_stands ((asked, a) ∷ []))
 
+-- One question was put to devices of these counts, that allow and stand for these lists.
+abbrev pub AskedOf : {D : Type 0} → (D → Faults) → (D → List Pair → Type 0) → (D → List Pair → Type 0) → D → D → Question → Option Answer → Type 0
+AskedOf faults allows stands old new = Asked (faults old) (faults new) (allows old) (allows new) (stands old) (stands new)
+
 -- the answer of a device that failed, if it has one
 abbrev pub failure_of : Fault → Option Answer
 failure_of (Failed kind) = Some (answer.Failed kind)

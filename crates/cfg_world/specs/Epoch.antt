@@ -1,6 +1,6 @@
 -- Where a clock stands that has no reading.
 use Rattle.std.specs.Prelude.{pos}
-use Rattle.cfg_values.specs.Moment.{Moment}
+use Rattle.cfg_base.specs.Moment.{Moment}
 
 -- the epoch
 abbrev pub epoch : Moment

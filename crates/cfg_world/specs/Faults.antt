@@ -32,6 +32,10 @@ count_of (question.Run command) faults = faults.commands
 count_of (question.LookUp host) faults = faults.lookups
 count_of (question.Send request) faults = faults.transport
 
+-- the count that a failure of the question raises rose, or was full
+abbrev pub CountRose : Question → Faults → Faults → Type 0
+CountRose asked old new = Rose (count_of asked old) (count_of asked new)
+
 -- the kinds of device that can fail
 pub data Device : Type 0 where
   Files : Device

@@ -5,7 +5,7 @@ use Rattle.cfg_world.specs.declared.ask.Answer.{Answer}
 use Rattle.cfg_world.specs.declared.ask.Answer.TheVariants as answer
 use Rattle.cfg_world.specs.declared.devices.Devices.{Ghosts}
 use Rattle.cfg_world.specs.Faults.{Faults}
-use Rattle.cfg_world.specs.Asked.{Asked}
+use Rattle.cfg_world.specs.Grows.{AskedBy}
 use Rattle.cfg_world.specs.Tallies.{one_more, raised, first_failure}
 
 -- the devices within, the number of the call that fails, how many calls there were, and how often a
@@ -26,7 +26,7 @@ counted_on f = record f { calls = next_call f }
 
 -- The question was handed on: the devices within were asked, and this is their answer.
 pub record HandedOn {D : Type 0} (d : Ghosts D) (old new : Faulty D) (asked : Question) (given : Option Answer) : Type 0 where
-  pub inner : Asked (d.faults old.inner) (d.faults new.inner) (d.allows old.inner) (d.allows new.inner) (d.stands old.inner) (d.stands new.inner) asked given
+  pub inner : AskedBy d old.inner new.inner asked given
   pub at : new.at ≡ old.at
   pub calls : new.calls ≡ old.calls
   pub own : new.own ≡ old.own

@@ -1,10 +1,16 @@
 -- What a stretch of a world's life adds to the journal, and what it keeps.
-use Rattle.std.specs.Prelude.{◌≡◌, List, ◌++◌}
+use Rattle.std.specs.Prelude.{◌≡◌, List, ◌++◌, Option}
+use Rattle.cfg_world.specs.declared.ask.Question.{Question}
+use Rattle.cfg_world.specs.declared.ask.Answer.{Answer}
 use Rattle.cfg_world.specs.declared.devices.Devices.{Ghosts}
 use Rattle.cfg_world.specs.Fits.{Pair, EachFits}
 use Rattle.cfg_world.specs.Faults.{Counted}
-use Rattle.cfg_world.specs.Asked.{Same, StandsOn}
+use Rattle.cfg_world.specs.Asked.{AskedOf, Same, StandsOn}
 use Rattle.cfg_world.specs.Held.{Held}
+
+-- One question was put to these devices.
+abbrev pub AskedBy : {D : Type 0} → Ghosts D → D → D → Question → Option Answer → Type 0
+AskedBy d = AskedOf d.faults d.allows d.stands
 
 -- The journal grew by exactly this part. Devices that stood for a list stand for it with the part behind
 -- it, whatever of the list the journal still has.

@@ -1,5 +1,5 @@
 -- What devices answer that answers are handed to.
-use Rattle.std.specs.Prelude.{◌≡◌, ℕ, ◌+◌, min, List, [], ◌∷◌, length, Option, Some, None, Result, Ok, Err, slice_get}
+use Rattle.std.specs.Prelude.{◌≡◌, ℕ, ◌+◌, min, Bool, if◌then◌else◌, List, [], ◌∷◌, length, Option, Some, None, Result, Ok, Err, slice_get}
 use Rattle.cfg_types.specs.declared.reply.Reply.{Reply}
 use Rattle.cfg_types.specs.declared.reply.FailKind.{FailKind}
 use Rattle.cfg_types.specs.declared.reply.FailKind.TheVariants.{Dispatch, Io}
@@ -69,6 +69,10 @@ HandedOut old new asked (Some given) = Answered old new asked given
 abbrev pub or_io : {T : Type 0} → (T → Answer) → Option T → Answer
 or_io of (Some x) = of x
 or_io of None = answer.Failed Io
+
+-- that a file was written, or the failure with `Io`
+abbrev pub written_or_io : Bool → Answer
+written_or_io written = if written then answer.Written else answer.Failed Io
 
 -- the reply, or how the transport failed
 abbrev pub sent : Result Reply FailKind → Answer

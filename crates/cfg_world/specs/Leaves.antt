@@ -1,8 +1,8 @@
 -- One question, and what its answer is read as. An answer that does not fit its question never comes;
 -- it is read as something, so that each reading is a function.
 use Rattle.std.specs.Prelude.{ℕ, List, pos, Option, Some, None, ok_or, Result, Ok, Err}
-use Rattle.cfg_values.specs.Moment.{Moment}
-use Rattle.cfg_values.specs.declared.address.Address.{Address}
+use Rattle.cfg_base.specs.Moment.{Moment}
+use Rattle.cfg_base.specs.declared.address.Address.{Address}
 use Rattle.cfg_types.specs.declared.command.Finished.{Finished}
 use Rattle.cfg_types.specs.declared.request.Request.{Request}
 use Rattle.cfg_types.specs.declared.request.Request.TheVariants as request

@@ -2,7 +2,7 @@
 use Rattle.std.specs.Prelude.{◌≡◌, ℕ, ◌+◌, ◌-◌, pos, ◌≤ℤ◌, Bool, List, [], ◌∷◌, ◌++◌, length, map, fold, Option, Some, None, option_and_then, Result, Ok, Err, if◌then◌else◌, slice_get, nat_lt, unwrap_or, All}
 use Rattle.std.specs.List.{list_any}
 use Rattle.std.specs.Str.{bytes_eq}
-use Rattle.cfg_values.specs.Moment.{Moment}
+use Rattle.cfg_base.specs.Moment.{Moment}
 use Rattle.cfg_types.specs.declared.reply.FailKind.{FailKind}
 use Rattle.cfg_types.specs.declared.reply.FailKind.TheVariants.{Dispatch, Io}
 use Rattle.cfg_types.specs.declared.reply.Reply.{Reply}
@@ -43,6 +43,10 @@ queue_of (request.AssumeRoleWithWebIdentity call) = WebIdentity
 queue_of (request.GetRoleCredentials call) = RoleCredentials
 queue_of (request.CreateToken call) = CreateToken
 queue_of (request.CreateOAuth2Token call) = SignIn
+
+-- no answers at all
+abbrev pub no_answers : DeviceLists
+no_answers = record { files = []; unwritable = []; clock = []; jitter = []; commands = []; lookups = []; http = []; imds_token = []; imds_get = []; assume_role = []; web_identity = []; role_credentials = []; create_token = []; sign_in = [] }
 
 -- how far each list was read, and the writes that were granted, in order
 pub record Place : Type 0 where

@@ -1,6 +1,6 @@
 -- Scripted devices: their own fields, as contracts see them.
 use Rattle.std.specs.Prelude.{ℕ, List}
-use Rattle.cfg_values.specs.TextMap.{Named}
+use Rattle.cfg_base.specs.TextMap.{Named}
 use Rattle.cfg_world.specs.declared.script.DeviceLists.{DeviceLists}
 use Rattle.cfg_world.specs.declared.script.Places.{Places}
 use Rattle.cfg_world.specs.declared.script.FaultCounts.{FaultCounts}

@@ -1,5 +1,5 @@
 -- Counts of faults as devices keep and raise them.
-use Rattle.std.specs.Prelude.{◌≡◌, ◌≤◌, ℕ, ◌+◌, min, List, Result, Ok, Err}
+use Rattle.std.specs.Prelude.{◌≡◌, ◌≤◌, ℕ, ◌+◌, min, List, Option, Some, None, Result, Ok, Err}
 use Rattle.cfg_world.specs.declared.ask.Question.{Question}
 use Rattle.cfg_world.specs.declared.ask.Question.TheVariants as question
 use Rattle.cfg_types.specs.declared.reply.FailKind.{FailKind}
@@ -33,6 +33,11 @@ raised (question.Send request) faults = record faults { transport = one_more fau
 abbrev pub faults_after : Question → Answer → Faults → Faults
 faults_after asked (answer.Failed kind) faults = raised asked faults
 faults_after asked _ faults = faults
+
+-- A failure is counted once, and nothing else is counted.
+abbrev pub CountedOnce : Question → Option Answer → Faults → Faults → Type 0
+CountedOnce asked None old new = new ≡ old
+CountedOnce asked (Some given) old new = new ≡ faults_after asked given old
 
 -- no count is beyond the end of 64 bits
 pub record Small (f : Faults) : Type 0 where

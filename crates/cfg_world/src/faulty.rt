@@ -85,8 +85,9 @@ impl<D: Devices> FaultDevices<D> {
 /// They allow every list of entries, and stand for every list.
 impl<D: Devices> Devices for FaultDevices<D> {
     ghost use Rattle.std.specs.Prelude.{Some};
-    ghost use Rattle.cfg_values.specs.Text.{characters};
-    ghost use Rattle.cfg_world.specs.Asked.{Asked, answer_of, written_answer};
+    ghost use Rattle.cfg_base.specs.Text.{characters};
+    ghost use Rattle.cfg_world.specs.Asked.{answer_of, written_answer};
+    ghost use Rattle.cfg_world.specs.Grows.{AskedBy};
     ghost use Rattle.cfg_world.specs.Tallies.{sum_of, any_list};
     ghost use Rattle.cfg_world.specs.Faulty.{Faulty, HandedOn, Numbered};
 
@@ -99,21 +100,21 @@ impl<D: Devices> Devices for FaultDevices<D> {
     ghost stands_allowed = { λ f entries h. h };
 
     fn now(&mut self) -> Instant
-        ensures asked { Asked (sum_of (D.faults self.old.inner) self.old.own) (sum_of (D.faults self.new.inner) self.new.own) any_list any_list any_list any_list Question.Now (Some (Answer.Moment result)) }
+        ensures asked { AskedBy ⟦<Self as Devices>⟧ self.old self.new Question.Now (Some (Answer.Moment result)) }
         ensures handed_on { HandedOn ⟦<D as Devices>⟧ self.old self.new Question.Now (Some (Answer.Moment result)) }
     {
         self.inner.now()
     }
 
     fn jitter(&mut self) -> u64
-        ensures asked { Asked (sum_of (D.faults self.old.inner) self.old.own) (sum_of (D.faults self.new.inner) self.new.own) any_list any_list any_list any_list Question.Jitter (Some (Answer.Jitter result)) }
+        ensures asked { AskedBy ⟦<Self as Devices>⟧ self.old self.new Question.Jitter (Some (Answer.Jitter result)) }
         ensures handed_on { HandedOn ⟦<D as Devices>⟧ self.old self.new Question.Jitter (Some (Answer.Jitter result)) }
     {
         self.inner.jitter()
     }
 
     fn read(&mut self, path: &str) -> Result<Bytes, Fault>
-        ensures asked { Asked (sum_of (D.faults self.old.inner) self.old.own) (sum_of (D.faults self.new.inner) self.new.own) any_list any_list any_list any_list (Question.Read (characters path.now)) (answer_of Answer.Contents result) }
+        ensures asked { AskedBy ⟦<Self as Devices>⟧ self.old self.new (Question.Read (characters path.now)) (answer_of Answer.Contents result) }
         ensures numbered { Numbered ⟦<D as Devices>⟧ self.old self.new (Question.Read (characters path.now)) (answer_of Answer.Contents result) }
     {
         if self.is_due() {
@@ -124,7 +125,7 @@ impl<D: Devices> Devices for FaultDevices<D> {
     }
 
     fn write(&mut self, path: &str, bytes: &[u8]) -> Result<(), Fault>
-        ensures asked { Asked (sum_of (D.faults self.old.inner) self.old.own) (sum_of (D.faults self.new.inner) self.new.own) any_list any_list any_list any_list (Question.Write (characters path.now) bytes.now) (written_answer result) }
+        ensures asked { AskedBy ⟦<Self as Devices>⟧ self.old self.new (Question.Write (characters path.now) bytes.now) (written_answer result) }
         ensures numbered { Numbered ⟦<D as Devices>⟧ self.old self.new (Question.Write (characters path.now) bytes.now) (written_answer result) }
     {
         if self.is_due() {
@@ -135,7 +136,7 @@ impl<D: Devices> Devices for FaultDevices<D> {
     }
 
     fn run(&mut self, command: &str) -> Result<Finished, Fault>
-        ensures asked { Asked (sum_of (D.faults self.old.inner) self.old.own) (sum_of (D.faults self.new.inner) self.new.own) any_list any_list any_list any_list (Question.Run (characters command.now)) (answer_of Answer.Finished result) }
+        ensures asked { AskedBy ⟦<Self as Devices>⟧ self.old self.new (Question.Run (characters command.now)) (answer_of Answer.Finished result) }
         ensures numbered { Numbered ⟦<D as Devices>⟧ self.old self.new (Question.Run (characters command.now)) (answer_of Answer.Finished result) }
     {
         if self.is_due() {
@@ -146,7 +147,7 @@ impl<D: Devices> Devices for FaultDevices<D> {
     }
 
     fn look_up(&mut self, host: &str) -> Result<Seq<Address>, Fault>
-        ensures asked { Asked (sum_of (D.faults self.old.inner) self.old.own) (sum_of (D.faults self.new.inner) self.new.own) any_list any_list any_list any_list (Question.LookUp (characters host.now)) (answer_of Answer.Addresses result) }
+        ensures asked { AskedBy ⟦<Self as Devices>⟧ self.old self.new (Question.LookUp (characters host.now)) (answer_of Answer.Addresses result) }
         ensures numbered { Numbered ⟦<D as Devices>⟧ self.old self.new (Question.LookUp (characters host.now)) (answer_of Answer.Addresses result) }
     {
         if self.is_due() {
@@ -157,7 +158,7 @@ impl<D: Devices> Devices for FaultDevices<D> {
     }
 
     fn send(&mut self, request: &Request) -> Result<Reply, Fault>
-        ensures asked { Asked (sum_of (D.faults self.old.inner) self.old.own) (sum_of (D.faults self.new.inner) self.new.own) any_list any_list any_list any_list (Question.Send request.now) (answer_of Answer.Replied result) }
+        ensures asked { AskedBy ⟦<Self as Devices>⟧ self.old self.new (Question.Send request.now) (answer_of Answer.Replied result) }
         ensures numbered { Numbered ⟦<D as Devices>⟧ self.old self.new (Question.Send request.now) (answer_of Answer.Replied result) }
     {
         if self.is_due() {

@@ -1,8 +1,8 @@
 //! Devices that give the answers that they were handed.
-ghost use Rattle.std.specs.Prelude.{◌≡◌, ◌+◌, pos, ◌≤ℤ◌, IfOk, option_map, if◌then◌else◌};
+ghost use Rattle.std.specs.Prelude.{◌≡◌, ◌+◌, pos, ◌≤ℤ◌, IfOk, option_map};
 ghost use Rattle.cfg_world.specs.Fits.{Fits};
 ghost use Rattle.cfg_world.specs.Tallies.{no_faults, one_more};
-ghost use Rattle.cfg_world.specs.Handed.{Handed, used_by, IsGiven, or_io, sent, next_answer};
+ghost use Rattle.cfg_world.specs.Handed.{Handed, used_by, IsGiven, or_io, written_or_io, sent, next_answer};
 
 use crate::ask::{Answer, Question};
 use crate::devices::Devices;
@@ -81,8 +81,9 @@ impl HandedDevices {
 /// entries as they have answered questions, which they count up to the end of 64 bits.
 impl Devices for HandedDevices {
     ghost use Rattle.std.specs.Prelude.{Some};
-    ghost use Rattle.cfg_values.specs.Text.{characters};
-    ghost use Rattle.cfg_world.specs.Asked.{Asked, answer_of, written_answer};
+    ghost use Rattle.cfg_base.specs.Text.{characters};
+    ghost use Rattle.cfg_world.specs.Asked.{answer_of, written_answer};
+    ghost use Rattle.cfg_world.specs.Grows.{AskedBy};
     ghost use Rattle.cfg_world.specs.Handed.{Allows, Stands, HandedOut};
 
     ghost faults = { λ h. h.faults };
@@ -95,7 +96,7 @@ impl Devices for HandedDevices {
 
     #[tactic(auto, using(crate::proofs::HandedOver::handing))]
     fn now(&mut self) -> Instant
-        ensures asked { Asked self.old.faults self.new.faults (Allows self.old) (Allows self.new) (Stands self.old) (Stands self.new) Question.Now (Some (Answer.Moment result)) }
+        ensures asked { AskedBy ⟦<Self as Devices>⟧ self.old self.new Question.Now (Some (Answer.Moment result)) }
         ensures handed { HandedOut self.old self.new Question.Now (Some (Answer.Moment result)) }
     {
         let moment = moment_in(self.next());
@@ -105,7 +106,7 @@ impl Devices for HandedDevices {
 
     #[tactic(auto, using(crate::proofs::HandedOver::handing))]
     fn jitter(&mut self) -> u64
-        ensures asked { Asked self.old.faults self.new.faults (Allows self.old) (Allows self.new) (Stands self.old) (Stands self.new) Question.Jitter (Some (Answer.Jitter result)) }
+        ensures asked { AskedBy ⟦<Self as Devices>⟧ self.old self.new Question.Jitter (Some (Answer.Jitter result)) }
         ensures handed { HandedOut self.old self.new Question.Jitter (Some (Answer.Jitter result)) }
     {
         let number = number_in(self.next());
@@ -115,7 +116,7 @@ impl Devices for HandedDevices {
 
     #[tactic(auto, using(crate::proofs::HandedOver::handing))]
     fn read(&mut self, path: &str) -> Result<Bytes, Fault>
-        ensures asked { Asked self.old.faults self.new.faults (Allows self.old) (Allows self.new) (Stands self.old) (Stands self.new) (Question.Read (characters path.now)) (answer_of Answer.Contents result) }
+        ensures asked { AskedBy ⟦<Self as Devices>⟧ self.old self.new (Question.Read (characters path.now)) (answer_of Answer.Contents result) }
         ensures handed { HandedOut self.old self.new (Question.Read (characters path.now)) (answer_of Answer.Contents result) }
     {
         let Ok(given) = contents_in(*self.answers.allocator(), self.next()) else {
@@ -133,7 +134,7 @@ impl Devices for HandedDevices {
 
     #[tactic(auto, using(crate::proofs::HandedOver::handing))]
     fn write(&mut self, path: &str, bytes: &[u8]) -> Result<(), Fault>
-        ensures asked { Asked self.old.faults self.new.faults (Allows self.old) (Allows self.new) (Stands self.old) (Stands self.new) (Question.Write (characters path.now) bytes.now) (written_answer result) }
+        ensures asked { AskedBy ⟦<Self as Devices>⟧ self.old self.new (Question.Write (characters path.now) bytes.now) (written_answer result) }
         ensures handed { HandedOut self.old self.new (Question.Write (characters path.now) bytes.now) (written_answer result) }
     {
         let written = is_written(self.next());
@@ -148,7 +149,7 @@ impl Devices for HandedDevices {
 
     #[tactic(auto, using(crate::proofs::HandedOver::handing))]
     fn run(&mut self, command: &str) -> Result<Finished, Fault>
-        ensures asked { Asked self.old.faults self.new.faults (Allows self.old) (Allows self.new) (Stands self.old) (Stands self.new) (Question.Run (characters command.now)) (answer_of Answer.Finished result) }
+        ensures asked { AskedBy ⟦<Self as Devices>⟧ self.old self.new (Question.Run (characters command.now)) (answer_of Answer.Finished result) }
         ensures handed { HandedOut self.old self.new (Question.Run (characters command.now)) (answer_of Answer.Finished result) }
     {
         let Ok(given) = finished_in(*self.answers.allocator(), self.next()) else {
@@ -166,7 +167,7 @@ impl Devices for HandedDevices {
 
     #[tactic(auto, using(crate::proofs::HandedOver::handing))]
     fn look_up(&mut self, host: &str) -> Result<Seq<Address>, Fault>
-        ensures asked { Asked self.old.faults self.new.faults (Allows self.old) (Allows self.new) (Stands self.old) (Stands self.new) (Question.LookUp (characters host.now)) (answer_of Answer.Addresses result) }
+        ensures asked { AskedBy ⟦<Self as Devices>⟧ self.old self.new (Question.LookUp (characters host.now)) (answer_of Answer.Addresses result) }
         ensures handed { HandedOut self.old self.new (Question.LookUp (characters host.now)) (answer_of Answer.Addresses result) }
     {
         let Ok(given) = addresses_in(*self.answers.allocator(), self.next()) else {
@@ -184,7 +185,7 @@ impl Devices for HandedDevices {
 
     #[tactic(auto, using(crate::proofs::HandedOver::handing))]
     fn send(&mut self, request: &Request) -> Result<Reply, Fault>
-        ensures asked { Asked self.old.faults self.new.faults (Allows self.old) (Allows self.new) (Stands self.old) (Stands self.new) (Question.Send request.now) (answer_of Answer.Replied result) }
+        ensures asked { AskedBy ⟦<Self as Devices>⟧ self.old self.new (Question.Send request.now) (answer_of Answer.Replied result) }
         ensures handed { HandedOut self.old self.new (Question.Send request.now) (answer_of Answer.Replied result) }
     {
         let Ok(sent) = reply_in(*self.answers.allocator(), request, self.next()) else {
@@ -238,7 +239,7 @@ fn contents_in(alloc: Global, given: Option<&Answer>) -> Result<Option<Bytes>, O
 }
 
 fn is_written(given: Option<&Answer>) -> bool
-    ensures { (path bytes : _) → IsGiven (option_map (λ a. a.now) given.entry) (Question.Write path bytes) (if result then Answer.Written else Answer.Failed FailKind.Io) }
+    ensures { (path bytes : _) → IsGiven (option_map (λ a. a.now) given.entry) (Question.Write path bytes) (written_or_io result) }
 {
     match given {
         Some(Answer::Written) => true,

@@ -8,9 +8,10 @@ ghost use Rattle.cfg_world.specs.Leaves.{clock, jitter, reading_file, writing_fi
 use crate::ask::{Answer, Question};
 use crate::asking::{Asking, Stop};
 use cfg_types::{
-    Address, AssumeRole, AssumeRoleWithWebIdentity, Bytes, CreateOAuth2Token, CreateToken,
-    FailKind, Finished, GetRoleCredentials, Http, HttpReply, Instant, MetadataGet, MetadataToken,
-    Refusal, Reply, Request, RoleReply, Seq, SignInReply, StsReply, Text, TokenReply,
+    Address, AssumeRole, AssumeRoleWithWebIdentity, Bytes, CommandWithSensitiveArgs,
+    CreateOAuth2Token, CreateToken, FailKind, Finished, GetRoleCredentials, Http, HttpReply,
+    Instant, MetadataGet, MetadataToken, Refusal, Reply, Request, RoleReply, Seq, SignInReply,
+    StsReply, Text, TokenReply, TryCopy,
 };
 use std::alloc::Global;
 
@@ -48,14 +49,15 @@ pub fn read_jitter<A: Asking>(asking: &mut A) -> Result<u64, Stop>
 }
 
 /// What the file of this path holds, or `Io` where it cannot be read. The outer error is a stop.
-#[tactic(auto, unfolding(crate::specs::Leaves::reading_file))]
+#[tactic(auto, using(crate::proofs::Inquiries::asking_steps), unfolding(crate::specs::Leaves::reading_file))]
 pub fn read_file<A: Asking>(
     alloc: Global,
-    path: Text,
+    path: &Text,
     asking: &mut A,
 ) -> Result<Result<Bytes, FailKind>, Stop>
-    ensures { Follows ⟦<A as Asking>⟧ (reading_file path) asking.old asking.new result }
+    ensures { Follows ⟦<A as Asking>⟧ (reading_file path.now) asking.old asking.new result }
 {
+    let path = path.copy(alloc)?;
     let receipt = asking.put(Question::Read { path })?;
     Ok(receipt.into_answer(alloc)?.into_contents())
 }
@@ -75,14 +77,15 @@ pub fn write_file<A: Asking>(
 }
 
 /// What this command leaves behind, or `Io` where it did not run. The outer error is a stop.
-#[tactic(auto, unfolding(crate::specs::Leaves::running))]
+#[tactic(auto, using(crate::proofs::Inquiries::asking_steps), unfolding(crate::specs::Leaves::running))]
 pub fn run_command<A: Asking>(
     alloc: Global,
-    command: Text,
+    command: &CommandWithSensitiveArgs,
     asking: &mut A,
 ) -> Result<Result<Finished, FailKind>, Stop>
-    ensures { Follows ⟦<A as Asking>⟧ (running command) asking.old asking.new result }
+    ensures { Follows ⟦<A as Asking>⟧ (running command.now) asking.old asking.new result }
 {
+    let command = Text::of(alloc, command.unredacted())?;
     let receipt = asking.put(Question::Run { command })?;
     Ok(receipt.into_answer(alloc)?.into_finished())
 }

@@ -59,8 +59,9 @@ impl<'a, R: Files + Clock> LocalDevices<'a, R> {
 /// They allow every list of entries, and stand for every list.
 impl<'a, R: Files + Clock> Devices for LocalDevices<'a, R> {
     ghost use Rattle.std.specs.Prelude.{Some, Err};
-    ghost use Rattle.cfg_values.specs.Text.{characters};
-    ghost use Rattle.cfg_world.specs.Asked.{Asked, answer_of, written_answer};
+    ghost use Rattle.cfg_base.specs.Text.{characters};
+    ghost use Rattle.cfg_world.specs.Asked.{answer_of, written_answer};
+    ghost use Rattle.cfg_world.specs.Grows.{AskedBy};
     ghost use Rattle.cfg_world.specs.Tallies.{any_list, raised, FileCounted};
 
     ghost faults = { λ l. l };
@@ -72,14 +73,14 @@ impl<'a, R: Files + Clock> Devices for LocalDevices<'a, R> {
     ghost stands_allowed = { λ l entries h. h };
 
     fn now(&mut self) -> Instant
-        ensures asked { Asked self.old self.new any_list any_list any_list any_list Question.Now (Some (Answer.Moment result)) }
+        ensures asked { AskedBy ⟦<Self as Devices>⟧ self.old self.new Question.Now (Some (Answer.Moment result)) }
         ensures quiet { self.new ≡ self.old }
     {
         moment(self.rt)
     }
 
     fn jitter(&mut self) -> u64
-        ensures asked { Asked self.old self.new any_list any_list any_list any_list Question.Jitter (Some (Answer.Jitter result)) }
+        ensures asked { AskedBy ⟦<Self as Devices>⟧ self.old self.new Question.Jitter (Some (Answer.Jitter result)) }
         ensures quiet { self.new ≡ self.old }
         ensures zero { result ≡ 0 }
     {
@@ -87,7 +88,7 @@ impl<'a, R: Files + Clock> Devices for LocalDevices<'a, R> {
     }
 
     fn read(&mut self, path: &str) -> Result<Bytes, Fault>
-        ensures asked { Asked self.old self.new any_list any_list any_list any_list (Question.Read (characters path.now)) (answer_of Answer.Contents result) }
+        ensures asked { AskedBy ⟦<Self as Devices>⟧ self.old self.new (Question.Read (characters path.now)) (answer_of Answer.Contents result) }
         ensures counted { FileCounted self.old self.new result }
     {
         match contents(self.alloc, self.rt, path) {
@@ -101,7 +102,7 @@ impl<'a, R: Files + Clock> Devices for LocalDevices<'a, R> {
     }
 
     fn write(&mut self, path: &str, bytes: &[u8]) -> Result<(), Fault>
-        ensures asked { Asked self.old self.new any_list any_list any_list any_list (Question.Write (characters path.now) bytes.now) (written_answer result) }
+        ensures asked { AskedBy ⟦<Self as Devices>⟧ self.old self.new (Question.Write (characters path.now) bytes.now) (written_answer result) }
         ensures counted { FileCounted self.old self.new result }
     {
         match let_hold(self.rt, path, bytes) {
@@ -115,7 +116,7 @@ impl<'a, R: Files + Clock> Devices for LocalDevices<'a, R> {
     }
 
     fn run(&mut self, command: &str) -> Result<Finished, Fault>
-        ensures asked { Asked self.old self.new any_list any_list any_list any_list (Question.Run (characters command.now)) (answer_of Answer.Finished result) }
+        ensures asked { AskedBy ⟦<Self as Devices>⟧ self.old self.new (Question.Run (characters command.now)) (answer_of Answer.Finished result) }
         ensures fails { result ≡ Err (Fault.Failed FailKind.Io) }
         ensures counted { self.new ≡ raised (Question.Run (characters command.now)) self.old }
     {
@@ -124,7 +125,7 @@ impl<'a, R: Files + Clock> Devices for LocalDevices<'a, R> {
     }
 
     fn look_up(&mut self, host: &str) -> Result<Seq<Address>, Fault>
-        ensures asked { Asked self.old self.new any_list any_list any_list any_list (Question.LookUp (characters host.now)) (answer_of Answer.Addresses result) }
+        ensures asked { AskedBy ⟦<Self as Devices>⟧ self.old self.new (Question.LookUp (characters host.now)) (answer_of Answer.Addresses result) }
         ensures fails { result ≡ Err (Fault.Failed FailKind.Io) }
         ensures counted { self.new ≡ raised (Question.LookUp (characters host.now)) self.old }
     {
@@ -133,7 +134,7 @@ impl<'a, R: Files + Clock> Devices for LocalDevices<'a, R> {
     }
 
     fn send(&mut self, request: &Request) -> Result<Reply, Fault>
-        ensures asked { Asked self.old self.new any_list any_list any_list any_list (Question.Send request.now) (answer_of Answer.Replied result) }
+        ensures asked { AskedBy ⟦<Self as Devices>⟧ self.old self.new (Question.Send request.now) (answer_of Answer.Replied result) }
         ensures fails { result ≡ Err (Fault.Failed FailKind.Dispatch) }
         ensures counted { self.new ≡ raised (Question.Send request.now) self.old }
     {

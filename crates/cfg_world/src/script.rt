@@ -1,10 +1,9 @@
 //! Devices that answer from lists.
-ghost use Rattle.std.specs.Prelude.{◌≡◌, ℕ, ◌+◌, ◌≤◌, List, [], Err, IfOk, OnOk, OnErr, min, length, slice_get, unwrap_or};
+ghost use Rattle.std.specs.Prelude.{◌≡◌, ◌≤◌, [], Err, IfOk, OnOk, OnErr, length, slice_get, unwrap_or};
 ghost use Rattle.std.specs.Option.{option_copied};
-ghost use Rattle.cfg_values.specs.Text.{characters};
-ghost use Rattle.cfg_world.specs.Faults.{full_count};
-ghost use Rattle.cfg_world.specs.Tallies.{no_faults};
-ghost use Rattle.cfg_world.specs.Script.{AllFit, start, queue_of, next_answer, one_further, sent, step, contents_at};
+ghost use Rattle.cfg_base.specs.Text.{characters};
+ghost use Rattle.cfg_world.specs.Tallies.{no_faults, one_more, CountedOnce};
+ghost use Rattle.cfg_world.specs.Script.{AllFit, no_answers, start, queue_of, next_answer, one_further, sent, step, contents_at};
 ghost use Rattle.cfg_world.specs.Scripted.{place_of};
 
 mod paths;
@@ -83,7 +82,7 @@ impl DeviceLists {
     /// Lists without items: no file can be read before it is written, every path is writable, the
     /// clock stands at the epoch, the jitter is 0, and commands, look-ups and requests fail.
     pub fn empty(alloc: Global) -> DeviceLists
-        ensures { result ≡ record { files = []; unwritable = []; clock = []; jitter = []; commands = []; lookups = []; http = []; imds_token = []; imds_get = []; assume_role = []; web_identity = []; role_credentials = []; create_token = []; sign_in = [] } }
+        ensures { result ≡ no_answers }
     {
         DeviceLists {
             files: Seq::of(Vec::new(alloc)),
@@ -243,8 +242,8 @@ impl ScriptDevices {
 
 impl Devices for ScriptDevices {
     ghost use Rattle.std.specs.Prelude.{Some};
-    ghost use Rattle.cfg_types.specs.declared.reply.FailKind.{FailKind as Kind};
-    ghost use Rattle.cfg_world.specs.Asked.{Asked, answer_of, written_answer};
+    ghost use Rattle.cfg_world.specs.Asked.{answer_of, written_answer};
+    ghost use Rattle.cfg_world.specs.Grows.{AskedBy};
     ghost use Rattle.cfg_world.specs.Script.{Allows, Stands};
 
     ghost faults = { λ s. s.faults };
@@ -256,7 +255,7 @@ impl Devices for ScriptDevices {
     ghost stands_allowed = { λ s entries h. h.0 };
 
     fn now(&mut self) -> Instant
-        ensures asked { Asked self.old.faults self.new.faults (Allows self.old) (Allows self.new) (Stands self.old) (Stands self.new) Question.Now (Some (Answer.Moment result)) }
+        ensures asked { AskedBy ⟦<Self as Devices>⟧ self.old self.new Question.Now (Some (Answer.Moment result)) }
         ensures quiet { self.new.faults ≡ self.old.faults }
     {
         let last = queues::last_reading_of(&self.lists.clock);
@@ -264,16 +263,15 @@ impl Devices for ScriptDevices {
     }
 
     fn jitter(&mut self) -> u64
-        ensures asked { Asked self.old.faults self.new.faults (Allows self.old) (Allows self.new) (Stands self.old) (Stands self.new) Question.Jitter (Some (Answer.Jitter result)) }
+        ensures asked { AskedBy ⟦<Self as Devices>⟧ self.old self.new Question.Jitter (Some (Answer.Jitter result)) }
         ensures quiet { self.new.faults ≡ self.old.faults }
     {
         queues::next_or(&self.lists.jitter, &mut self.places.jitter, 0)
     }
 
     fn read(&mut self, path: &str) -> Result<Bytes, Fault>
-        ensures asked { Asked self.old.faults self.new.faults (Allows self.old) (Allows self.new) (Stands self.old) (Stands self.new) (Question.Read (characters path.now)) (answer_of Answer.Contents result) }
-        ensures quiet { IfOk result (λ bytes. self.new.faults ≡ self.old.faults) }
-        ensures once { (kind : Kind) → result ≡ Err (Fault.Failed kind) → self.new.faults ≡ record self.old.faults { files = min (self.old.faults.files + 1) full_count } }
+        ensures asked { AskedBy ⟦<Self as Devices>⟧ self.old self.new (Question.Read (characters path.now)) (answer_of Answer.Contents result) }
+        ensures once { CountedOnce (Question.Read (characters path.now)) (answer_of Answer.Contents result) self.old.faults self.new.faults }
         ensures memory { result ≡ Err Fault.OutOfMemory → self.new ≡ self.old }
     {
         match self.contents(path) {
@@ -291,9 +289,8 @@ impl Devices for ScriptDevices {
     }
 
     fn write(&mut self, path: &str, bytes: &[u8]) -> Result<(), Fault>
-        ensures asked { Asked self.old.faults self.new.faults (Allows self.old) (Allows self.new) (Stands self.old) (Stands self.new) (Question.Write (characters path.now) bytes.now) (written_answer result) }
-        ensures quiet { IfOk result (λ written. self.new.faults ≡ self.old.faults) }
-        ensures once { (kind : Kind) → result ≡ Err (Fault.Failed kind) → self.new.faults ≡ record self.old.faults { files = min (self.old.faults.files + 1) full_count } }
+        ensures asked { AskedBy ⟦<Self as Devices>⟧ self.old self.new (Question.Write (characters path.now) bytes.now) (written_answer result) }
+        ensures once { CountedOnce (Question.Write (characters path.now) bytes.now) (written_answer result) self.old.faults self.new.faults }
         ensures memory { result ≡ Err Fault.OutOfMemory → self.new ≡ self.old }
     {
         if paths::is_named(&self.unwritable, path) {
@@ -307,9 +304,8 @@ impl Devices for ScriptDevices {
     }
 
     fn run(&mut self, command: &str) -> Result<Finished, Fault>
-        ensures asked { Asked self.old.faults self.new.faults (Allows self.old) (Allows self.new) (Stands self.old) (Stands self.new) (Question.Run (characters command.now)) (answer_of Answer.Finished result) }
-        ensures quiet { IfOk result (λ finished. self.new.faults ≡ self.old.faults) }
-        ensures once { (kind : Kind) → result ≡ Err (Fault.Failed kind) → self.new.faults ≡ record self.old.faults { commands = min (self.old.faults.commands + 1) full_count } }
+        ensures asked { AskedBy ⟦<Self as Devices>⟧ self.old self.new (Question.Run (characters command.now)) (answer_of Answer.Finished result) }
+        ensures once { CountedOnce (Question.Run (characters command.now)) (answer_of Answer.Finished result) self.old.faults self.new.faults }
         ensures memory { result ≡ Err Fault.OutOfMemory → self.new ≡ self.old }
     {
         let Ok(left) = queues::next_copy(
@@ -330,9 +326,8 @@ impl Devices for ScriptDevices {
     }
 
     fn look_up(&mut self, host: &str) -> Result<Seq<Address>, Fault>
-        ensures asked { Asked self.old.faults self.new.faults (Allows self.old) (Allows self.new) (Stands self.old) (Stands self.new) (Question.LookUp (characters host.now)) (answer_of Answer.Addresses result) }
-        ensures quiet { IfOk result (λ addresses. self.new.faults ≡ self.old.faults) }
-        ensures once { (kind : Kind) → result ≡ Err (Fault.Failed kind) → self.new.faults ≡ record self.old.faults { lookups = min (self.old.faults.lookups + 1) full_count } }
+        ensures asked { AskedBy ⟦<Self as Devices>⟧ self.old self.new (Question.LookUp (characters host.now)) (answer_of Answer.Addresses result) }
+        ensures once { CountedOnce (Question.LookUp (characters host.now)) (answer_of Answer.Addresses result) self.old.faults self.new.faults }
         ensures memory { result ≡ Err Fault.OutOfMemory → self.new ≡ self.old }
     {
         let Ok(found) = queues::next_copy(
@@ -353,9 +348,8 @@ impl Devices for ScriptDevices {
     }
 
     fn send(&mut self, request: &Request) -> Result<Reply, Fault>
-        ensures asked { Asked self.old.faults self.new.faults (Allows self.old) (Allows self.new) (Stands self.old) (Stands self.new) (Question.Send request.now) (answer_of Answer.Replied result) }
-        ensures quiet { IfOk result (λ reply. self.new.faults ≡ self.old.faults) }
-        ensures once { (kind : Kind) → result ≡ Err (Fault.Failed kind) → self.new.faults ≡ record self.old.faults { transport = min (self.old.faults.transport + 1) full_count } }
+        ensures asked { AskedBy ⟦<Self as Devices>⟧ self.old self.new (Question.Send request.now) (answer_of Answer.Replied result) }
+        ensures once { CountedOnce (Question.Send request.now) (answer_of Answer.Replied result) self.old.faults self.new.faults }
         ensures memory { result ≡ Err Fault.OutOfMemory → self.new ≡ self.old }
     {
         let Ok(sent) = next_reply(self.alloc, &self.lists, &mut self.places, request) else {
@@ -371,9 +365,9 @@ impl Devices for ScriptDevices {
     }
 }
 
-// One failure more. A count that is full stands still.
+// One failure more. A count that is full stands still, as those of `Tally` do.
 fn raise(count: &mut u64)
-    ensures counted { count.new ≡ min (count.old + 1) full_count }
+    ensures counted { count.new ≡ one_more count.old }
     ensures later { count.old ≤ count.new }
 {
     *count = count.saturating_add(1);
@@ -387,7 +381,7 @@ fn next_reply(
     request: &Request,
 ) -> Result<Result<Reply, FailKind>, OutOfMemory>
     ensures item { IfOk result (λ r. sent r ≡ next_answer lists.now (place_of places.old []) (queue_of request.now)) }
-    ensures further { OnOk result ((writes : List (List ℕ × List ℕ)) → place_of places.new writes ≡ one_further lists.now (place_of places.old writes) (queue_of request.now)) }
+    ensures further { OnOk result ((writes : _) → place_of places.new writes ≡ one_further lists.now (place_of places.old writes) (queue_of request.now)) }
     ensures memory { OnErr result (places.new ≡ places.old) }
 {
     match request {

@@ -1,11 +1,11 @@
 //! Counts of faults, as devices keep them.
-ghost use Rattle.std.specs.Prelude.{◌≡◌, ◌+◌, min};
-ghost use Rattle.cfg_world.specs.Faults.{full_count};
-ghost use Rattle.cfg_world.specs.Tallies.{no_faults, Small};
+ghost use Rattle.std.specs.Prelude.{◌≡◌};
+ghost use Rattle.cfg_world.specs.Tallies.{no_faults, one_more, Small};
 
 use std::marker::Model;
 
-// How often each kind of device has failed. A count that is full stands still.
+// How often each kind of device has failed. A count that is full stands still, so that a fault after
+// 18,446,744,073,709,551,615 others is still told.
 #[derive(Drop)]
 pub(crate) struct Tally {
     files: u64,
@@ -39,28 +39,28 @@ impl Tally {
     }
 
     pub(crate) fn raise_files(&mut self)
-        ensures raised { self.new ≡ record self.old { files = min (self.old.files + 1) full_count } }
+        ensures raised { self.new ≡ record self.old { files = one_more self.old.files } }
         ensures small { Small self.old }
     {
         self.files = self.files.saturating_add(1);
     }
 
     pub(crate) fn raise_transport(&mut self)
-        ensures raised { self.new ≡ record self.old { transport = min (self.old.transport + 1) full_count } }
+        ensures raised { self.new ≡ record self.old { transport = one_more self.old.transport } }
         ensures small { Small self.old }
     {
         self.transport = self.transport.saturating_add(1);
     }
 
     pub(crate) fn raise_commands(&mut self)
-        ensures raised { self.new ≡ record self.old { commands = min (self.old.commands + 1) full_count } }
+        ensures raised { self.new ≡ record self.old { commands = one_more self.old.commands } }
         ensures small { Small self.old }
     {
         self.commands = self.commands.saturating_add(1);
     }
 
     pub(crate) fn raise_lookups(&mut self)
-        ensures raised { self.new ≡ record self.old { lookups = min (self.old.lookups + 1) full_count } }
+        ensures raised { self.new ≡ record self.old { lookups = one_more self.old.lookups } }
         ensures small { Small self.old }
     {
         self.lookups = self.lookups.saturating_add(1);

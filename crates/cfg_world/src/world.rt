@@ -1,10 +1,10 @@
 //! Devices, with a journal of what they were asked.
 ghost use Rattle.std.specs.Prelude.{◌≡◌, [], ◌∷◌, IfOk, OnErr};
 ghost use Rattle.cfg_world.specs.Fits.{Fits};
-ghost use Rattle.cfg_world.specs.Faults.{Rose, count_of};
-ghost use Rattle.cfg_world.specs.Asked.{Asked, given, failure_of};
+ghost use Rattle.cfg_world.specs.Faults.{CountRose};
+ghost use Rattle.cfg_world.specs.Asked.{given, failure_of};
 ghost use Rattle.cfg_world.specs.Held.{Held};
-ghost use Rattle.cfg_world.specs.Grows.{Grows, Stays};
+ghost use Rattle.cfg_world.specs.Grows.{AskedBy, Grows, Stays};
 
 use crate::ask::{Answer, Question};
 use crate::devices::Devices;
@@ -59,7 +59,7 @@ impl<D: Devices> World<D> {
         ensures grows { IfOk result (λ e. Grows ⟦<D as Devices>⟧ (e ∷ []) self.old self.new) }
 
         // A failure is entered only where the count of its kind rose.
-        ensures cause { IfOk result (λ e. (kind : _) → e.1 ≡ Answer.Failed kind → Rose (count_of question (D.faults self.old.devices)) (count_of question (D.faults self.new.devices))) }
+        ensures cause { IfOk result (λ e. (kind : _) → e.1 ≡ Answer.Failed kind → CountRose question (D.faults self.old.devices) (D.faults self.new.devices)) }
         ensures stays { OnErr result (Stays ⟦<D as Devices>⟧ [] self.old self.new) }
     {
         let answer = put(&mut self.devices, &question)?;
@@ -76,7 +76,8 @@ impl<D: Devices> World<D> {
         self.journal.as_slice()
     }
 
-    /// Empties the journal. The devices stay as they are.
+    /// Empties the journal. The devices stay as they are: they stand for the entries that were in it,
+    /// and go on from there.
     pub fn clear_journal(&mut self)
         ensures { self.new ≡ record self.old { journal = [] } }
     {
@@ -98,7 +99,7 @@ impl<D: Devices> World<D> {
 
 // The answer to a question. Without one, memory ran out.
 fn put<D: Devices>(devices: &mut D, question: &Question) -> Result<Answer, OutOfMemory>
-    ensures { Asked (D.faults devices.old) (D.faults devices.new) (D.allows devices.old) (D.allows devices.new) (D.stands devices.old) (D.stands devices.new) question.now (given result) }
+    ensures { AskedBy ⟦<D as Devices>⟧ devices.old devices.new question.now (given result) }
 {
     match question {
         Question::Now => Ok(Answer::Moment(devices.now())),

@@ -4,9 +4,11 @@ use Rattle.cfg_types.specs.declared.errors.CredentialsError.TheVariants.{Provide
 use Rattle.cfg_types.specs.declared.errors.ProfileFileError.TheVariants as plan_error
 use Rattle.cfg_types.specs.declared.errors.ProviderCause.TheVariants as cause
 use Rattle.cfg_world.specs.Inquiry.{Inquiry}
-use Rattle.cfg_keeping.specs.KeptInquiry.{KeptInquiry, Gives, lift, onwards}
-use Rattle.cfg_metadata.specs.Metadata.{metadata}
-use Rattle.cfg_metadata.specs.Settings.{MetadataSetting}
+use Rattle.cfg_kept.specs.KeptInquiry.{KeptInquiry, Gives, lift, onwards}
+use Rattle.cfg_imds.specs.Clients.{ClientRules}
+use Rattle.cfg_kept.specs.declared.place.Place.{Place}
+use Rattle.cfg_imds_credentials.specs.Metadata.{metadata}
+use Rattle.cfg_imds_credentials.specs.Settings.{MetadataSetting}
 use Rattle.cfg_exchange.specs.declared.container.ContainerUri.{ContainerUri}
 use Rattle.cfg_exchange.specs.Containers.{container}
 use Rattle.cfg_profile.specs.Configuration.{Configuration}
@@ -18,15 +20,19 @@ use Rattle.cfg_providers.specs.EnvironmentKeys.{by_environment}
 use Rattle.cfg_providers.specs.Processes.{credential_process}
 use Rattle.cfg_providers.specs.WebIdentities.{no_policies, assumes_by_web_identity}
 use Rattle.cfg_sso.specs.declared.config.SsoProviderConfig.{SsoProviderConfig}
-use Rattle.cfg_sign_in.specs.declared.asked_by.AskedBy.TheVariants as by
-use Rattle.cfg_sign_in.specs.SignIns.{sign_in_credentials}
+use Rattle.cfg_login.specs.declared.asked_by.AskedBy.TheVariants as by
+use Rattle.cfg_login.specs.SignIns.{sign_in_credentials}
 use Rattle.cfg_sso.specs.SsoCredentials.{sso_credentials}
-use Rattle.cfg_chain.specs.Settings.{Setting, container_settings, named_metadata}
+use Rattle.cfg_chain.specs.Settings.{Setting, container_settings, metadata_setting, named_metadata}
 use Rattle.cfg_chain.specs.profile.Plans.{refusal}
 
 -- a container, at this address
 abbrev pub by_container : Configuration → ContainerUri → Inquiry Answer
 by_container conf place = container conf.environment (container_settings conf) place
+
+-- the role that the metadata service lists, by this client
+abbrev pub metadata_by : Configuration → ClientRules → Place → KeptInquiry Answer
+metadata_by conf client place = metadata (metadata_setting conf client place)
 
 -- what is answered in place of a source that nobody has; no plan names one
 unfoldable pub unknown_source : List ℕ → Answer
@@ -37,11 +43,11 @@ unfoldable pub without_role : Answer
 without_role = Err (refusal plan_error.TokenProviderConfig)
 
 -- The sources that are always there, by their names in any ASCII case.
-unfoldable pub built_in_source : Configuration → ContainerUri → MetadataSetting → List ℕ → KeptInquiry Answer
-built_in_source conf place m name =
-    if is_alike name (codes "Environment") then lift (by_environment conf.environment)
-    else (if is_alike name (codes "EcsContainer") then lift (by_container conf place)
-    else (if is_alike name (codes "Ec2InstanceMetadata") then metadata m else Gives (unknown_source name)))
+unfoldable pub built_in_source : Setting → List ℕ → KeptInquiry Answer
+built_in_source s name =
+    if is_alike name (codes "Environment") then lift (by_environment s.configuration.environment)
+    else (if is_alike name (codes "EcsContainer") then lift (by_container s.configuration s.container)
+    else (if is_alike name (codes "Ec2InstanceMetadata") then metadata (named_metadata s) else Gives (unknown_source name)))
 
 abbrev pub source_or : KeptInquiry Answer → Option Answer → KeptInquiry Answer
 source_or built_in (Some answer) = Gives answer
@@ -49,7 +55,7 @@ source_or built_in None = built_in
 
 -- the source of this name: the last of the caller's own that has it, else the one that is always there
 unfoldable pub named_source : Setting → List ℕ → KeptInquiry Answer
-named_source s name = source_or (built_in_source s.configuration s.container (named_metadata s) name) (last_named name s.sources)
+named_source s name = source_or (built_in_source s name) (last_named name s.sources)
 
 -- what names the sessions of a profile's web identity begin with
 abbrev pub profile_session : List ℕ

@@ -1,33 +1,28 @@
 -- Why the selected profile gives no credentials.
 use Rattle.std.specs.Option.{option_or}
-use Rattle.std.specs.Prelude.{◌≡◌, ℕ, List, [], ◌∷◌, ◌++◌, Bool, true, false, Option, Some, None, option_map, option_and_then, Ok, Err, codes}
+use Rattle.std.specs.Prelude.{◌≡◌, ℕ, List, [], ◌++◌, Bool, true, false, Option, Some, None, option_map, option_and_then, Ok, Err, codes}
 use Rattle.std.specs.List.{last_or}
 use Rattle.std.specs.Result.{result_err}
-use Rattle.cfg_types.specs.Replies.{sts_in}
 use Rattle.cfg_types.specs.declared.errors.CredentialsError.{CredentialsError}
 use Rattle.cfg_types.specs.declared.errors.CredentialsError.TheVariants.{ProviderError}
 use Rattle.cfg_types.specs.declared.errors.ProfileFileError.TheVariants as plan_error
 use Rattle.cfg_types.specs.declared.errors.ProviderCause.TheVariants as cause
-use Rattle.cfg_world.specs.declared.ask.Question.{Question}
-use Rattle.cfg_world.specs.declared.ask.Question.TheVariants.{Send}
-use Rattle.cfg_world.specs.declared.ask.Answer.{Answer as Given}
 use Rattle.cfg_world.specs.Fits.{Pair}
-use Rattle.cfg_keeping.specs.Kinds.{Value}
-use Rattle.cfg_keeping.specs.KeptInquiry.{Reads}
-use Rattle.cfg_metadata.specs.Causes.{CauseMetadata}
-use Rattle.cfg_sign_in.specs.declared.asked_by.AskedBy.TheVariants as by
-use Rattle.cfg_sign_in.specs.SignInCauses.{SignInCause}
+use Rattle.cfg_kept.specs.Kinds.{Value}
+use Rattle.cfg_kept.specs.KeptInquiry.{Reads}
+use Rattle.cfg_imds_credentials.specs.Causes.{CauseMetadata}
+use Rattle.cfg_login.specs.declared.asked_by.AskedBy.TheVariants as by
+use Rattle.cfg_login.specs.SignInCauses.{SignInCause}
 use Rattle.cfg_sso.specs.SsoCauses.{SsoCause}
-use Rattle.cfg_world.specs.Leaves.{granted_of}
 use Rattle.cfg_exchange.specs.ContainerCauses.{why_container}
 use Rattle.cfg_profile.specs.declared.chain.BaseProvider.{BaseProvider}
 use Rattle.cfg_profile.specs.declared.chain.BaseProvider.TheVariants as base
 use Rattle.cfg_profile.specs.declared.chain.ProfileChain.{ProfileChain}
 use Rattle.cfg_profile.specs.NamedSources.{is_alike}
-use Rattle.cfg_providers.specs.AssumeRole.{granted}
 use Rattle.cfg_providers.specs.CustomSources.{Answer, last_named}
 use Rattle.cfg_providers.specs.EnvironmentCauses.{why_environment}
 use Rattle.cfg_providers.specs.Processes.{why_process}
+use Rattle.cfg_providers.specs.RoleCauses.{why_roles}
 use Rattle.cfg_providers.specs.WebIdentities.{why_entry}
 use Rattle.cfg_chain.specs.Settings.{Setting, names_of, container_settings, named_metadata}
 use Rattle.cfg_chain.specs.profile.Plans.{Planned, plan, refusal}
@@ -62,21 +57,8 @@ BaseCause s (base.Sso session region url (Some account) (Some role)) found part 
 BaseCause s (base.LoginSession session) found part given = SignInCause s.configuration session by.Profile found part given
 BaseCause s _ found part given = result_err given ≡ Some (refusal plan_error.TokenProviderConfig)
 
--- why the exchange of an entry gives no credentials: it failed, was refused, or its reply cannot be used
-abbrev pub exchange_failure : Question → Given → Option CredentialsError
-exchange_failure (Send request) answer = result_err (granted (granted_of sts_in answer))
-exchange_failure _ answer = None
-
--- the first exchange of a part that gives no credentials
-abbrev pub first_failure : List Pair → Option CredentialsError
-first_failure [] = None
-first_failure (e ∷ part) = option_or (exchange_failure e.0 e.1) (first_failure part)
-
 abbrev pub of_base : CredentialsError → CredentialsError
 of_base e = ProviderError (cause.Base e)
-
-abbrev pub of_role : CredentialsError → CredentialsError
-of_role e = ProviderError (cause.Role e)
 
 -- The part of a plan is that of its base, which found all the values, and then that of its roles. The answer is an error exactly
 -- where the base gives one, or else an exchange for a role does, and tells of that one.
@@ -87,7 +69,7 @@ pub record PlanCause (s : Setting) (p : ProfileChain) (found : List Value) (part
   pub given : Answer
   pub base_reads : Reads (base_tree s p.base) found base_part given
   pub base_cause : BaseCause s p.base found base_part given
-  pub cause : result_err out ≡ option_or (option_map of_base (result_err given)) (option_map of_role (first_failure role_part))
+  pub cause : result_err out ≡ option_or (option_map of_base (result_err given)) (why_roles role_part)
 
 abbrev pub PlannedCause : Setting → Planned → List Value → List Pair → Answer → Type 0
 PlannedCause s (Err e) found part out = (found ≡ []) × (part ≡ []) × (result_err out ≡ Some (refusal e))

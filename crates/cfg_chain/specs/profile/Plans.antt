@@ -15,7 +15,7 @@ use Rattle.cfg_profile.specs.SectionSets.{SectionSets}
 use Rattle.cfg_profile.specs.Configuration.{Configuration}
 use Rattle.cfg_profile.specs.Selected.{selected_name}
 use Rattle.cfg_profile.proofs.PlanLaws.{the_plan}
-use Rattle.cfg_sso.specs.Tokens.{key_by}
+use Rattle.cfg_sso.specs.Tokens.{session_of_base}
 use Rattle.cfg_token.specs.declared.token_key.TokenKey.{TokenKey}
 use Rattle.cfg_token.specs.declared.token_key.TokenKey.TheVariants.{Login}
 
@@ -57,9 +57,8 @@ refusal e = if is_not_loaded_error e then error.CredentialsNotLoaded (not_loaded
 -- whose token a base needs: that of a session of IAM Identity Center, where it names one, or that of a
 -- sign-in session
 abbrev pub key_of_base : BaseProvider → Option TokenKey
-key_of_base (base.Sso session region url account role) = key_by session region url
 key_of_base (base.LoginSession session) = Some (Login session)
-key_of_base _ = None
+key_of_base b = session_of_base b
 
 abbrev pub key_of_plan : Planned → Option TokenKey
 key_of_plan (Ok p) = key_of_base p.base

@@ -3,10 +3,11 @@ use Rattle.std.specs.Prelude.{List, [], ◌∷◌, ◌++◌, Ok, Err}
 use Rattle.cfg_types.specs.Keys.{Keys}
 use Rattle.cfg_types.specs.declared.credentials.AwsCredentialFeature.TheVariants.{CredentialsProfile}
 use Rattle.cfg_world.specs.Inquiry.{Inquiry, Done, after}
-use Rattle.cfg_keeping.specs.KeptInquiry.{KeptInquiry, Gives, lift, ◌>>=◌}
+use Rattle.cfg_kept.specs.KeptInquiry.{KeptInquiry, Gives, lift, ◌>>=◌}
 use Rattle.cfg_profile.specs.declared.chain.ProfileChain.{ProfileChain}
 use Rattle.cfg_profile.specs.declared.chain.RoleArn.{RoleArn}
 use Rattle.cfg_profile.specs.Configuration.{Configuration}
+use Rattle.cfg_profile.specs.Settings.{settings_of}
 use Rattle.cfg_providers.specs.AssumeRole.{assumes_roles}
 use Rattle.cfg_providers.specs.CustomSources.{Answer}
 use Rattle.cfg_chain.specs.Settings.{Setting, names_of}
@@ -23,7 +24,7 @@ marked (Err e) = Err e
 
 -- the credentials of the last of these roles, the first of them assumed with these credentials
 unfoldable pub assumed : Configuration → List RoleArn → Keys → Inquiry Answer
-assumed conf roles keys = after (assumes_roles conf roles keys) (λ last. Done (marked last))
+assumed conf roles keys = after (assumes_roles (settings_of conf) roles keys) (λ last. Done (marked last))
 
 -- the first credentials, and then the roles
 unfoldable pub follows_planned : Setting → ProfileChain → KeptInquiry Answer

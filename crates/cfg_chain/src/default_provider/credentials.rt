@@ -1,54 +1,54 @@
 //! The default chain of credentials providers.
 ghost use Rattle.std.specs.Option.{option_copied};
-ghost use Rattle.std.specs.Prelude.{◌≡◌, [], IfOk, OnErr, Some, None, true, false, option_map};
-ghost use Rattle.cfg_keeping.specs.Kinds.{no_states};
-ghost use Rattle.cfg_keeping.specs.Holds.{HoldsFollows};
-ghost use Rattle.cfg_keeping.specs.KeptStates.{kept_holdings, kept_key, states_of};
-ghost use Rattle.cfg_types.specs.Classes.{is_memory};
+ghost use Rattle.std.specs.Prelude.{◌≡◌, IfOk, OnErr, Some, option_map};
+ghost use Rattle.cfg_base.specs.Text.{characters};
+ghost use Rattle.cfg_kept.specs.Kinds.{no_states, place_states};
+ghost use Rattle.cfg_kept.specs.KeptStates.{kept_key, states_of};
 ghost use Rattle.cfg_imds.specs.Clients.{client_rules};
-ghost use Rattle.cfg_keeping.specs.Kinds.{place_states};
 ghost use Rattle.cfg_sso.specs.Tokens.{HasKey};
-ghost use Rattle.cfg_chain.specs.Settings.{setting, lends};
-ghost use Rattle.cfg_chain.specs.Sources.{named_sources, services_in};
-ghost use Rattle.cfg_chain.specs.profile.Plans.{key_of};
-ghost use Rattle.cfg_chain.specs.Members.{default_chain};
-ghost use Rattle.cfg_chain.specs.Provides.{FollowsDefault, Provides, Interrupted};
-ghost use Rattle.cfg_region.specs.Calls.{RegionSet, RegionBreaks};
 ghost use Rattle.cfg_region.specs.Sources.{region_source};
-ghost use Rattle.cfg_chain.specs.Setups.{nothing_set, configured, setup_of};
-ghost use Rattle.cfg_chain.specs.Callers.{TellsWho};
+ghost use Rattle.cfg_chain.specs.profile.Plans.{key_of};
+ghost use Rattle.cfg_chain.specs.Answers.{Answered, RanOut};
+ghost use Rattle.cfg_chain.specs.Callers.{TellsCaller};
+ghost use Rattle.cfg_chain.specs.Follows.{FollowsTree, FollowsChain};
+ghost use Rattle.cfg_chain.specs.Members.{default_chain};
+ghost use Rattle.cfg_chain.specs.Provides.{ProvidesOn, InterruptedOn};
+ghost use Rattle.cfg_chain.specs.Setups.{nothing_set, setup, setup_by, with_region, with_source, Builds, BuildBreaks};
+ghost use Rattle.cfg_chain.specs.Views.{chain_of, view};
 
+use crate::call::{ChainCall, given_or};
 use crate::chain::follow_chain;
+use crate::chain_core::ChainCore;
 use crate::member::Member;
-use crate::profile::plan::token_key_of;
-use crate::services::{Services, lent_or};
-use cfg_exchange::container_uri;
+use cfg_exchange::steps::container_uri;
 use cfg_imds::Client;
-use cfg_keeping::{Keeper, Kept, Place};
+use cfg_kept::{Keeper, Kept, Place};
 use cfg_profile::ProviderConfig;
-use cfg_providers::CustomSource;
-use cfg_region::profile::settings::with_name;
-use cfg_region::{RegionSource, with_region_from};
+use cfg_providers::{CustomProvider, CustomSource};
+use cfg_region::RegionSource;
+use cfg_region::steps::with_name;
 use cfg_token::TokenKey;
-use cfg_types::{Credentials, CredentialsError, OutOfMemory, TryCopy, copy_option};
+use cfg_types::{Credentials, CredentialsError, OutOfMemory, Text, TryCopy};
 use cfg_world::{Asking, Devices, Stop, World};
 use std::alloc::Global;
-use std::marker::Model;
 
 /// Sets up the default chain. Contracts see its configuration, the name of its profile where one was given,
-/// and where its region comes from where that was set. A setter changes its field alone.
+/// where its region comes from where that was set, the caller's own sources, and how the metadata client asks that
+/// was given. A setter changes its field alone.
 #[derive(Drop)]
 pub struct Builder {
     alloc: Global,
     config: ProviderConfig,
     profile_name: Option<String>,
     region: Option<RegionSource>,
+    custom_sources: Vec<CustomSource>,
+    imds_client: Option<Client>,
 }
 
 impl Builder {
     /// With this configuration, in place of the one that it had.
     pub fn configure(mut self, config: ProviderConfig) -> Builder
-        ensures { setup_of told_region repeated result ≡ record (setup_of told_region repeated self) { configuration = config } }
+        ensures { setup value told_region repeated result ≡ record (setup value told_region repeated self) { configuration = config } }
     {
         self.config = config;
         self
@@ -57,7 +57,7 @@ impl Builder {
     /// The profile of this name, whatever the configuration and the environment say. `OutOfMemory` where
     /// memory runs out.
     pub fn profile_name(mut self, name: &str) -> Result<Builder, OutOfMemory>
-        ensures { IfOk result (λ b. setup_of told_region repeated b ≡ record (setup_of told_region repeated self) { profile_name = Some name.now }) }
+        ensures { IfOk result (λ b. setup value told_region repeated b ≡ record (setup value told_region repeated self) { profile_name = Some name.now }) }
     {
         self.profile_name = Some(String::from_str(self.alloc, name)?);
         Ok(self)
@@ -65,7 +65,8 @@ impl Builder {
 
     /// With this source of the region, in place of the one that it had.
     pub fn region(mut self, source: RegionSource) -> Builder
-        ensures { setup_of told_region repeated result ≡ record (setup_of told_region repeated self) { region = Some (region_source told_region repeated source) } }
+        ensures { setup value told_region repeated result
+            ≡ with_region (Some (region_source told_region repeated source)) (setup value told_region repeated self) }
     {
         self.region = Some(source);
         self
@@ -74,9 +75,35 @@ impl Builder {
     /// Sets the source of the region, or none: the default region chain is asked then.
     pub fn set_region(&mut self, source: Option<RegionSource>) -> &mut Builder
         ensures same { result.ghost_name ≡ self.entry.ghost_name }
-        ensures value { setup_of told_region repeated result.now ≡ record (setup_of told_region repeated self.entry.now) { region = option_map (region_source told_region repeated) source } }
+        ensures value { setup value told_region repeated result.now
+            ≡ with_region (option_map (region_source told_region repeated) source) (setup value told_region repeated self.entry.now) }
     {
         self.region = source;
+        self
+    }
+
+    /// With this source of credentials behind the others, which a profile names by its `credential_source`, ASCII
+    /// case of letters apart. It is meant in place of a built-in source of its name, and of an earlier one.
+    /// `OutOfMemory` where memory runs out.
+    pub fn with_custom_credential_source(
+        mut self,
+        name: &str,
+        provider: CustomProvider,
+    ) -> Result<Builder, OutOfMemory>
+        ensures { IfOk result (λ b. setup_by value told_region repeated b
+            ≡ with_source (characters name.now) (value provider) (setup_by value told_region repeated self)) }
+    {
+        let name = Text::of(self.alloc, name)?;
+        self.custom_sources.push(CustomSource { name, provider })?;
+        Ok(self)
+    }
+
+    /// With this client for the chain's own member that asks instance metadata, in place of the configuration's. A
+    /// source that a profile names asks by the configuration's always.
+    pub fn imds_client(mut self, client: Client) -> Builder
+        ensures { setup value told_region repeated result ≡ record (setup value told_region repeated self) { client = Some (client_rules repeated client) } }
+    {
+        self.imds_client = Some(client);
         self
     }
 
@@ -91,56 +118,39 @@ impl Builder {
         self,
         world: &mut World<D>,
     ) -> Result<DefaultCredentialsChain, OutOfMemory>
-        ensures set { IfOk result (RegionSet ⟦<D as Devices>⟧ (setup_of told_region repeated self).region (configured (setup_of told_region repeated self)) world.old world.new) }
-        ensures breaks { OnErr result (RegionBreaks ⟦<D as Devices>⟧ (setup_of told_region repeated self).region (configured (setup_of told_region repeated self)) world.old world.new) }
+        ensures built { IfOk result (λ chain. Builds ⟦<D as Devices>⟧ (setup value told_region repeated self)
+            world.old world.new (chain_of value repeated chain)) }
+        ensures breaks { OnErr result (BuildBreaks ⟦<D as Devices>⟧ (setup value told_region repeated self) world.old world.new) }
     {
         let Builder {
             alloc,
             config,
             profile_name,
             region,
+            custom_sources,
+            imds_client,
         } = self;
-        let named = with_name(alloc, config, profile_name)?;
-        let token_key = token_key_of(alloc, &named)?;
-        let config = with_region_from(alloc, region, named, world)?;
+        let config = with_name(alloc, config, profile_name)?;
+        let core = ChainCore::new(alloc, config, region, world)?;
         Ok(DefaultCredentialsChain {
-            alloc,
-            config,
-            token_key,
+            core,
+            custom_sources,
+            imds_client,
         })
     }
 }
 
 /// The default chain. Its members are the environment, the selected profile, a web identity, a container
-/// and the instance metadata service. Contracts see its configuration.
+/// and the instance metadata service. Its fields are open, so that a crate above makes one by a literal, over a
+/// core that [`ChainCore::new`] gives: any three are a chain.
+#[derive(Drop)]
 pub struct DefaultCredentialsChain {
-    alloc: Global,
-    config: ProviderConfig,
-    token_key: Option<TokenKey>,
-}
-
-impl Drop for DefaultCredentialsChain {
-    fn drop(self) {
-        let DefaultCredentialsChain {
-            alloc: _,
-            config: _,
-            token_key: _,
-        } = self;
-    }
-}
-
-impl Model for DefaultCredentialsChain {
-    ghost use Rattle.std.specs.Prelude.{◌≡◌};
-    ghost use Rattle.cfg_profile.specs.Configuration.{Configuration, configuration_code};
-    ghost use Rattle.cfg_chain.specs.profile.Plans.{key_of};
-
-    ghost Value = { Configuration };
-
-    ghost coded = { configuration_code };
-
-    ghost view = { λ c. c.config };
-
-    ghost invariant = { λ c. c.token_key ≡ key_of c.config };
+    /// The configuration, and what is read from it once.
+    pub core: ChainCore,
+    /// The caller's own sources, which a profile names by `credential_source`. The last of a name counts.
+    pub custom_sources: Vec<CustomSource>,
+    /// The client by which the chain's own member asks instance metadata, in place of the configuration's.
+    pub imds_client: Option<Client>,
 }
 
 const MEMBERS: [Member; 5] = [
@@ -152,9 +162,9 @@ const MEMBERS: [Member; 5] = [
 ];
 
 impl DefaultCredentialsChain {
-    /// A builder with no variables and no sections. `OutOfMemory` where memory runs out.
+    /// A builder with no variables, no sections, no sources and no client. `OutOfMemory` where memory runs out.
     pub fn builder(alloc: Global) -> Result<Builder, OutOfMemory>
-        ensures { IfOk result (λ b. setup_of told_region repeated b ≡ nothing_set) }
+        ensures { IfOk result (λ b. setup value told_region repeated b ≡ nothing_set) }
     {
         let config = ProviderConfig::without_region(alloc)?;
         Ok(Builder {
@@ -162,24 +172,25 @@ impl DefaultCredentialsChain {
             config,
             profile_name: None,
             region: None,
+            custom_sources: Vec::new(alloc),
+            imds_client: None,
         })
     }
 
     /// Whose token the chain needs: that of a session of IAM Identity Center, or of a sign-in session, where
     /// the selected profile's plan begins with one.
     pub fn token_key(&self) -> Option<&TokenKey>
-        ensures { option_copied result ≡ key_of self.now }
+        ensures { option_copied result ≡ key_of self.now.core }
     {
-        self.token_key.as_ref()
+        self.core.token_key()
     }
 
     /// What the chain keeps between calls, with nothing kept. `OutOfMemory` where memory runs out.
     pub fn new_kept(&self) -> Result<Kept, OutOfMemory>
         ensures nothing { IfOk result (λ kept. states_of kept ≡ no_states) }
-        ensures key { IfOk result (λ kept. kept_key kept ≡ key_of self.now) }
+        ensures key { IfOk result (λ kept. kept_key kept ≡ key_of self.now.core) }
     {
-        let key = copy_option(self.alloc, &self.token_key)?;
-        Ok(Kept::new(self.alloc, key))
+        self.core.new_kept()
     }
 
     /// The body of [`Self::provide_credentials`], over anything that can be asked. Where a question is
@@ -187,53 +198,32 @@ impl DefaultCredentialsChain {
     /// It stops with `OutOfMemory` where memory runs out. The keeper has the key that the chain needs.
     pub fn follow<P: Keeper, A: Asking>(
         &self,
-        sources: &[CustomSource],
-        imds_client: Option<&Client>,
         keeper: &mut P,
         asking: &mut A,
     ) -> Result<Result<Credentials, CredentialsError>, Stop>
-        requires { HasKey (key_of self.now) (P.key_held keeper.old) }
-        ensures follows { FollowsDefault ⟦<A as Asking>⟧ self.now (lends (named_sources value sources.now) (option_map (λ c. client_rules repeated c.now) imds_client.entry)) asking.old (P.holdings keeper.old) asking.new (P.holdings keeper.new) result }
+        requires { HasKey (key_of self.now.core) (P.key_held keeper.old) }
+        ensures follows { FollowsChain ⟦<A as Asking>⟧ ⟦<P as Keeper>⟧ (chain_of value repeated self.now) asking.old asking.new keeper.old keeper.new result }
         ensures key { P.key_held keeper.new ≡ P.key_held keeper.old }
     {
-        let container = container_uri(self.alloc, self.config.env())?;
-        let own = Client::configured(self.alloc, &self.config)?;
-        let services = Services {
+        let alloc = self.core.alloc();
+        let config = self.core.config();
+        let container = container_uri(alloc, config.env())?;
+        let own = Client::configured(alloc, config)?;
+        let call = ChainCall {
+            alloc,
+            config,
+            custom_sources: self.custom_sources.as_slice(),
             container: &container,
-            client: lent_or(imds_client, &own),
-            named_client: &own,
+            imds_client: given_or(self.imds_client.as_ref(), &own),
+            named_imds_client: &own,
         };
-        self.follow_members(sources, &services, keeper, asking)
-    }
-
-    // The members' questions, where it is known what services the configuration names.
-    fn follow_members<P: Keeper, A: Asking>(
-        &self,
-        sources: &[CustomSource],
-        services: &Services,
-        keeper: &mut P,
-        asking: &mut A,
-    ) -> Result<Result<Credentials, CredentialsError>, Stop>
-        requires { HasKey (key_of self.now) (P.key_held keeper.old) }
-        ensures follows { HoldsFollows ⟦<A as Asking>⟧ (default_chain (setting self.now (named_sources value sources.now) (services_in repeated services.now))) asking.old (P.holdings keeper.old) asking.new (P.holdings keeper.new) result }
-        ensures key { P.key_held keeper.new ≡ P.key_held keeper.old }
-    {
-        follow_chain(
-            self.alloc,
-            &self.config,
-            sources,
-            services,
-            &MEMBERS,
-            keeper,
-            asking,
-        )
+        follow_members(&call, keeper, asking)
     }
 
     /// Asks the members in order, and answers what the first one that was loaded gives. Members that
-    /// were not loaded are passed over, and any other error is the answer. The sources are the caller's
-    /// own; a profile names them by `credential_source`. The chain's own member asks the instance metadata
-    /// service by the client that is lent, where one is, and else by that of the configuration, as a source
-    /// that a profile names always does.
+    /// were not loaded are passed over, and any other error is the answer. The chain's own member asks the
+    /// instance metadata service by the client that the chain was given, where it was given one, and else by that
+    /// of the configuration, as a source that a profile names always does.
     ///
     /// The world's journal gains the members' parts and nothing else. The list of the values that were
     /// found is that of this call alone. What is kept is that of a chain with this key, as
@@ -260,19 +250,18 @@ impl DefaultCredentialsChain {
     ///   and each kept value is as the last finished holding left it.
     pub fn provide_credentials<D: Devices>(
         &self,
-        sources: &[CustomSource],
-        imds_client: Option<&Client>,
         kept: &mut Kept,
         world: &mut World<D>,
     ) -> Result<Credentials, CredentialsError>
-        requires { kept_key kept.old ≡ key_of self.now }
-        ensures provides { is_memory result ≡ false → Provides ⟦<D as Devices>⟧ self.now (lends (named_sources value sources.now) (option_map (λ c. client_rules repeated c.now) imds_client.entry)) (states_of kept.old) (states_of kept.new) (kept_holdings kept.new).found world.old world.new result }
-        ensures tells { is_memory result ≡ false → TellsWho self.now (lends (named_sources value sources.now) (option_map (λ c. client_rules repeated c.now) imds_client.entry)) (kept_holdings kept.new).found world.old.journal world.new.journal result }
-        ensures stays { is_memory result ≡ true → Interrupted ⟦<D as Devices>⟧ self.now (lends (named_sources value sources.now) (option_map (λ c. client_rules repeated c.now) imds_client.entry)) (states_of kept.old) (states_of kept.new) (kept_holdings kept.new).found world.old world.new }
+        requires { kept_key kept.old ≡ key_of self.now.core }
+        // One call is the parts of its members in order, and its answer is the last one's.
+        ensures provides { Answered result (ProvidesOn ⟦<D as Devices>⟧ (chain_of value repeated self.now) kept.old kept.new world.old world.new) }
+        ensures tells { Answered result (TellsCaller (chain_of value repeated self.now) kept.new world.old world.new) }
+        ensures stays { RanOut result (InterruptedOn ⟦<D as Devices>⟧ (chain_of value repeated self.now) kept.old kept.new world.old world.new) }
         ensures key { kept_key kept.new ≡ kept_key kept.old }
     {
         kept.clear_found();
-        match self.follow(sources, imds_client, kept, world) {
+        match self.follow(kept, world) {
             Ok(outcome) => outcome,
             Err(_) => Err(CredentialsError::OutOfMemory),
         }
@@ -286,7 +275,21 @@ impl DefaultCredentialsChain {
     {
         match kept.retrieved_for(Place::Chain) {
             None => Ok(None),
-            Some(retrieved) => Ok(Some(retrieved.credentials().copy(self.alloc)?)),
+            Some(retrieved) => Ok(Some(retrieved.credentials().copy(self.core.alloc())?)),
         }
     }
+}
+
+// The members' questions, where it is known what services the configuration names.
+fn follow_members<P: Keeper, A: Asking>(
+    call: &ChainCall,
+    keeper: &mut P,
+    asking: &mut A,
+) -> Result<Result<Credentials, CredentialsError>, Stop>
+    requires { HasKey (key_of call.now.config.now) (P.key_held keeper.old) }
+    ensures follows { FollowsTree ⟦<A as Asking>⟧ ⟦<P as Keeper>⟧ (default_chain (view value repeated call.now))
+        asking.old asking.new keeper.old keeper.new result }
+    ensures key { P.key_held keeper.new ≡ P.key_held keeper.old }
+{
+    follow_chain(call, &MEMBERS, keeper, asking)
 }

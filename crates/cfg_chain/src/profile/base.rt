@@ -1,35 +1,35 @@
 //! The first credentials of a profile.
 ghost use Rattle.std.specs.Prelude.{◌≡◌, IfOk, None};
 ghost use Rattle.cfg_world.specs.Follows.{Follows};
-ghost use Rattle.cfg_imds.specs.Regions.{is_disabled as is_disabled_by};
 ghost use Rattle.cfg_imds.specs.Clients.{client_rules};
-ghost use Rattle.cfg_keeping.specs.Holds.{HoldsFollows};
-ghost use Rattle.cfg_metadata.specs.Metadata.{metadata};
-ghost use Rattle.cfg_metadata.specs.Settings.{setting as metadata_setting};
 ghost use Rattle.cfg_providers.specs.CustomSources.{last_named};
 ghost use Rattle.cfg_providers.specs.Processes.{credential_process as credential_process_of};
 ghost use Rattle.cfg_providers.specs.WebIdentities.{no_policies, assumes_by_web_identity};
-ghost use Rattle.cfg_sign_in.specs.SignIns.{sign_in_credentials};
+ghost use Rattle.cfg_login.specs.SignIns.{sign_in_credentials};
 ghost use Rattle.cfg_sso.specs.Tokens.{HasKey, key_by};
 ghost use Rattle.cfg_sso.specs.SsoCredentials.{sso_credentials};
-ghost use Rattle.cfg_chain.specs.Settings.{setting, container_settings as settings_of_container};
-ghost use Rattle.cfg_chain.specs.Sources.{named_sources, services_in};
-ghost use Rattle.cfg_chain.specs.profile.Bases.{unknown_source as unknown_source_of, by_container, built_in_source, named_source, profile_session, signed_on, without_role as without_role_of, base_tree, in_base as in_base_of, based};
+ghost use Rattle.cfg_chain.specs.Follows.{FollowsTree};
+ghost use Rattle.cfg_chain.specs.Views.{named_sources, view};
+ghost use Rattle.cfg_chain.specs.profile.Bases.{unknown_source as unknown_source_of, by_container, built_in_source, named_source, profile_session, signed_on, without_role as without_role_of, base_tree, in_base as in_base_of, based, metadata_by};
 ghost use Rattle.cfg_chain.specs.profile.Plans.{key_of_base};
 
+use crate::call::ChainCall;
 use crate::profile::plan::refusal;
-use crate::services::Services;
-use cfg_exchange::{ContainerSettings, ContainerUri, follow_container};
-use cfg_imds::{Client, is_disabled};
-use cfg_keeping::{Keeper, Place};
-use cfg_metadata::follow_metadata;
-use cfg_profile::{BaseProvider, ProviderConfig, is_alike};
-use cfg_providers::{
-    CustomSource, SessionPolicies, WebIdentity, assume_by_web_identity, credential_process,
+use cfg_exchange::steps::{ContainerSettings, follow_container};
+use cfg_imds::Client;
+use cfg_imds::steps::is_disabled;
+use cfg_imds_credentials::steps::follow_metadata;
+use cfg_kept::{Keeper, Place};
+use cfg_login::AskedBy;
+use cfg_login::steps::follow_login;
+use cfg_profile::{BaseProvider, is_alike};
+use cfg_providers::CustomSource;
+use cfg_providers::steps::{
+    SessionPolicies, WebIdentity, assume_by_web_identity, follow_credential_process,
     follow_environment, provide_by_name,
 };
-use cfg_sign_in::{AskedBy, follow_login};
-use cfg_sso::{SsoProviderConfig, follow_sso};
+use cfg_sso::SsoProviderConfig;
+use cfg_sso::steps::follow_sso;
 use cfg_types::{
     AccountId, Boxed, CommandWithSensitiveArgs, Credentials, CredentialsError, OutOfMemory,
     ProfileFileError, ProviderCause, Region, Text, TryCopy, copy_option, is_memory,
@@ -38,22 +38,20 @@ use cfg_world::{Asking, Stop};
 use std::alloc::Global;
 
 /// The first credentials of a plan. An error of its base, whatever it is, stands in `ProviderError(Base)`.
-#[tactic(auto, using(cfg_keeping::proofs::HoldingSteps::holding_steps), unfolding(crate::specs::profile::Bases::based))]
+#[tactic(auto, using(cfg_kept::proofs::HoldingSteps::holding_steps), unfolding(crate::specs::profile::Bases::based))]
 pub(crate) fn follow_based<P: Keeper, A: Asking>(
-    alloc: Global,
-    config: &ProviderConfig,
-    sources: &[CustomSource],
-    services: &Services,
+    call: &ChainCall,
     base: &BaseProvider,
     keeper: &mut P,
     asking: &mut A,
 ) -> Result<Result<Credentials, CredentialsError>, Stop>
     requires { HasKey (key_of_base base.now) (P.key_held keeper.old) }
-    ensures follows { HoldsFollows ⟦<A as Asking>⟧ (based (setting config.now (named_sources value sources.now) (services_in repeated services.now)) base.now) asking.old (P.holdings keeper.old) asking.new (P.holdings keeper.new) result }
+    ensures follows { FollowsTree ⟦<A as Asking>⟧ ⟦<P as Keeper>⟧ (based (view value repeated call.now) base.now)
+        asking.old asking.new keeper.old keeper.new result }
     ensures key { P.key_held keeper.new ≡ P.key_held keeper.old }
 {
-    let given = follow_base(alloc, config, sources, services, base, keeper, asking)?;
-    let outcome = in_base(alloc, given)?;
+    let given = follow_base(call, base, keeper, asking)?;
+    let outcome = in_base(call.alloc, given)?;
     Ok(outcome)
 }
 
@@ -73,41 +71,37 @@ fn in_base(
     }
 }
 
-#[tactic(auto, using(cfg_keeping::proofs::HoldingSteps::holding_steps), unfolding(crate::specs::profile::Bases::base_tree))]
+#[tactic(auto, using(cfg_kept::proofs::HoldingSteps::holding_steps), unfolding(crate::specs::profile::Bases::base_tree))]
 fn follow_base<P: Keeper, A: Asking>(
-    alloc: Global,
-    config: &ProviderConfig,
-    sources: &[CustomSource],
-    services: &Services,
+    call: &ChainCall,
     base: &BaseProvider,
     keeper: &mut P,
     asking: &mut A,
 ) -> Result<Result<Credentials, CredentialsError>, Stop>
     requires { HasKey (key_of_base base.now) (P.key_held keeper.old) }
-    ensures follows { HoldsFollows ⟦<A as Asking>⟧ (base_tree (setting config.now (named_sources value sources.now) (services_in repeated services.now)) base.now) asking.old (P.holdings keeper.old) asking.new (P.holdings keeper.new) result }
+    ensures follows { FollowsTree ⟦<A as Asking>⟧ ⟦<P as Keeper>⟧ (base_tree (view value repeated call.now) base.now)
+        asking.old asking.new keeper.old keeper.new result }
     ensures key { P.key_held keeper.new ≡ P.key_held keeper.old }
 {
     match base {
         BaseProvider::AccessKey(keys) => {
-            let keys = keys.copy(alloc)?;
+            let keys = keys.copy(call.alloc)?;
             Ok(Ok(keys))
         }
-        BaseProvider::NamedSource(name) => {
-            follow_source(alloc, config, sources, services, name, keeper, asking)
-        }
+        BaseProvider::NamedSource(name) => { follow_source(call, name, keeper, asking) }
         BaseProvider::WebIdentityTokenRole {
             role_arn,
             web_identity_token_file: file,
             session_name,
         } => {
-            let outcome = follow_identity(alloc, config, role_arn, file, session_name, asking)?;
+            let outcome = follow_identity(call, role_arn, file, session_name, asking)?;
             Ok(outcome)
         }
         BaseProvider::CredentialProcess {
             command,
             account_id,
         } => {
-            let outcome = follow_process(alloc, command, account_id, asking)?;
+            let outcome = follow_process(call.alloc, command, account_id, asking)?;
             Ok(outcome)
         }
         BaseProvider::Sso {
@@ -117,12 +111,15 @@ fn follow_base<P: Keeper, A: Asking>(
             sso_account_id: Some(account),
             sso_role_name: Some(role),
         } => {
-            let sso = sign_on(alloc, session, region, url, account, role)?;
-            follow_sso(alloc, config, &sso, keeper, asking)
+            let sso = sign_on(call.alloc, session, region, url, account, role)?;
+            follow_sso(call.alloc, call.config, &sso, keeper, asking)
         }
         BaseProvider::LoginSession {
             login_session_arn: session,
-        } => follow_login(alloc, config, session, AskedBy::Profile, keeper, asking),
+        } => {
+            let (alloc, config) = (call.alloc, call.config);
+            follow_login(alloc, config, session, AskedBy::Profile, keeper, asking)
+        },
         _ => Ok(without_role()),
     }
 }
@@ -157,19 +154,20 @@ fn sign_on(
 
 #[tactic(auto, using(cfg_world::proofs::Inquiries::asking_steps))]
 fn follow_identity<A: Asking>(
-    alloc: Global,
-    config: &ProviderConfig,
+    call: &ChainCall,
     role_arn: &Text,
     file: &Text,
     session_name: &Option<Text>,
     asking: &mut A,
 ) -> Result<Result<Credentials, CredentialsError>, Stop>
-    ensures { Follows ⟦<A as Asking>⟧ (assumes_by_web_identity config.now profile_session (record { web_identity_token_file = file.now; role_arn = role_arn.now; session_name = session_name.now }) no_policies) asking.old asking.new result }
+    ensures { Follows ⟦<A as Asking>⟧ (assumes_by_web_identity call.now.config.now profile_session
+        (record { web_identity_token_file = file.now; role_arn = role_arn.now; session_name = session_name.now }) no_policies)
+        asking.old asking.new result }
 {
-    let identity = identity_of(alloc, role_arn, file, session_name)?;
+    let identity = identity_of(call.alloc, role_arn, file, session_name)?;
     let outcome = assume_by_web_identity(
-        alloc,
-        config,
+        call.alloc,
+        call.config,
         "web-identity-token-profile",
         &identity,
         &SessionPolicies::none(),
@@ -203,7 +201,7 @@ fn follow_process<A: Asking>(
     ensures { Follows ⟦<A as Asking>⟧ (credential_process_of command.now account_id.now) asking.old asking.new result }
 {
     let account = account_of(alloc, account_id)?;
-    let outcome = credential_process(alloc, command, account.as_ref(), asking)?;
+    let outcome = follow_credential_process(alloc, command, account.as_ref(), asking)?;
     Ok(outcome)
 }
 
@@ -217,22 +215,20 @@ fn account_of(alloc: Global, id: &Option<Text>) -> Result<Option<AccountId>, Out
 }
 
 // The source of this name: the last of the caller's own that has it, else the one that is always there.
-#[tactic(auto, using(cfg_keeping::proofs::HoldingSteps::holding_steps), unfolding(crate::specs::profile::Bases::named_source))]
+#[tactic(auto, using(cfg_kept::proofs::HoldingSteps::holding_steps), unfolding(crate::specs::profile::Bases::named_source))]
 fn follow_source<P: Keeper, A: Asking>(
-    alloc: Global,
-    config: &ProviderConfig,
-    sources: &[CustomSource],
-    services: &Services,
+    call: &ChainCall,
     name: &Text,
     keeper: &mut P,
     asking: &mut A,
 ) -> Result<Result<Credentials, CredentialsError>, Stop>
-    ensures follows { HoldsFollows ⟦<A as Asking>⟧ (named_source (setting config.now (named_sources value sources.now) (services_in repeated services.now)) name.now) asking.old (P.holdings keeper.old) asking.new (P.holdings keeper.new) result }
+    ensures follows { FollowsTree ⟦<A as Asking>⟧ ⟦<P as Keeper>⟧ (named_source (view value repeated call.now) name.now)
+        asking.old asking.new keeper.old keeper.new result }
     ensures key { P.key_held keeper.new ≡ P.key_held keeper.old }
 {
-    match own_source(sources, name)? {
+    match own_source(call.custom_sources, name)? {
         Some(answer) => Ok(answer),
-        None => follow_built_in(alloc, config, services, name, keeper, asking),
+        None => follow_built_in(call, name, keeper, asking),
     }
 }
 
@@ -254,31 +250,29 @@ fn own_source(
     }
 }
 
-#[tactic(auto, using(cfg_keeping::proofs::HoldingSteps::holding_steps), unfolding(crate::specs::profile::Bases::built_in_source))]
+#[tactic(auto, using(cfg_kept::proofs::HoldingSteps::holding_steps), unfolding(crate::specs::profile::Bases::built_in_source))]
 fn follow_built_in<P: Keeper, A: Asking>(
-    alloc: Global,
-    config: &ProviderConfig,
-    services: &Services,
+    call: &ChainCall,
     name: &Text,
     keeper: &mut P,
     asking: &mut A,
 ) -> Result<Result<Credentials, CredentialsError>, Stop>
-    ensures follows { HoldsFollows ⟦<A as Asking>⟧ (built_in_source config.now services.now.container.now (metadata_setting (is_disabled_by config.now.environment) (client_rules repeated services.now.named_client.now) None Place.Named) name.now) asking.old (P.holdings keeper.old) asking.new (P.holdings keeper.new) result }
+    ensures follows { FollowsTree ⟦<A as Asking>⟧ ⟦<P as Keeper>⟧ (built_in_source (view value repeated call.now) name.now)
+        asking.old asking.new keeper.old keeper.new result }
     ensures key { P.key_held keeper.new ≡ P.key_held keeper.old }
 {
     if is_alike(name, "Environment") {
-        let outcome = follow_environment(alloc, config.env(), asking)?;
+        let outcome = follow_environment(call.alloc, call.config.env(), asking)?;
         return Ok(outcome);
     }
     if is_alike(name, "EcsContainer") {
-        let outcome = ask_container(alloc, config, services.container, asking)?;
+        let outcome = ask_container(call, asking)?;
         return Ok(outcome);
     }
     if is_alike(name, "Ec2InstanceMetadata") {
-        let place = Place::Named;
-        return ask_metadata(alloc, config, services.named_client, place, keeper, asking);
+        return ask_metadata(call, call.named_imds_client, Place::Named, keeper, asking);
     }
-    let answer = unknown_source(alloc, name)?;
+    let answer = unknown_source(call.alloc, name)?;
     Ok(answer)
 }
 
@@ -296,41 +290,34 @@ fn unknown_source(
 
 /// The credentials of the role that the instance metadata service lists.
 pub(crate) fn ask_metadata<P: Keeper, A: Asking>(
-    alloc: Global,
-    config: &ProviderConfig,
+    call: &ChainCall,
     client: &Client,
     place: Place,
     keeper: &mut P,
     asking: &mut A,
 ) -> Result<Result<Credentials, CredentialsError>, Stop>
-    ensures follows { HoldsFollows ⟦<A as Asking>⟧ (metadata (metadata_setting (is_disabled_by config.now.environment) (client_rules repeated client.now) None place)) asking.old (P.holdings keeper.old) asking.new (P.holdings keeper.new) result }
+    ensures follows { FollowsTree ⟦<A as Asking>⟧ ⟦<P as Keeper>⟧ (metadata_by call.now.config.now (client_rules repeated client.now) place)
+        asking.old asking.new keeper.old keeper.new result }
     ensures key { P.key_held keeper.new ≡ P.key_held keeper.old }
 {
-    let disabled = is_disabled(config.env());
-    follow_metadata(alloc, disabled, client, &None, place, keeper, asking)
+    let disabled = is_disabled(call.config.env());
+    follow_metadata(call.alloc, disabled, client, &None, place, keeper, asking)
 }
 
 /// A container's credentials, at the address that the variables name. There is a resolver, 2 seconds to
 /// connect and 5 seconds to read, as aws-config has them.
 pub(crate) fn ask_container<A: Asking>(
-    alloc: Global,
-    config: &ProviderConfig,
-    container: &ContainerUri,
+    call: &ChainCall,
     asking: &mut A,
 ) -> Result<Result<Credentials, CredentialsError>, Stop>
-    ensures { Follows ⟦<A as Asking>⟧ (by_container config.now container.now) asking.old asking.new result }
+    ensures { Follows ⟦<A as Asking>⟧ (by_container call.now.config.now call.now.container.now) asking.old asking.new result }
 {
-    let settings = container_settings(config);
-    follow_container(alloc, config.env(), &settings, container, asking)
-}
-
-fn container_settings(config: &ProviderConfig) -> ContainerSettings
-    ensures { result ≡ settings_of_container config.now }
-{
-    ContainerSettings {
-        dns: true,
-        sleep: config.sleep_impl(),
-        connect_ms: 2000,
-        read_ms: 5000,
-    }
+    let settings = ContainerSettings::new(true, call.config.sleep_impl());
+    follow_container(
+        call.alloc,
+        call.config.env(),
+        &settings,
+        call.container,
+        asking,
+    )
 }

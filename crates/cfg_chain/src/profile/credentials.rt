@@ -1,71 +1,43 @@
 //! The provider of a profile's credentials.
 ghost use Rattle.std.specs.Option.{option_copied};
-ghost use Rattle.std.specs.Prelude.{◌≡◌, IfOk, Some, true, false, option_map};
-ghost use Rattle.cfg_imds.specs.Clients.{client_rules};
-ghost use Rattle.cfg_keeping.specs.Holds.{HoldsFollows};
-ghost use Rattle.cfg_keeping.specs.KeptStates.{kept_holdings, kept_key, states_of};
-ghost use Rattle.cfg_keeping.specs.Kinds.{no_states};
-ghost use Rattle.cfg_types.specs.Classes.{is_memory};
+ghost use Rattle.std.specs.Prelude.{◌≡◌, IfOk, Some};
+ghost use Rattle.cfg_base.specs.Text.{characters};
+ghost use Rattle.cfg_kept.specs.KeptStates.{kept_key, states_of};
+ghost use Rattle.cfg_kept.specs.Kinds.{no_states};
 ghost use Rattle.cfg_sso.specs.Tokens.{HasKey};
-ghost use Rattle.cfg_chain.specs.Settings.{setting, lends};
-ghost use Rattle.cfg_chain.specs.Sources.{named_sources, services_in};
+ghost use Rattle.cfg_chain.specs.Answers.{Answered, RanOut};
+ghost use Rattle.cfg_chain.specs.Follows.{FollowsProvider};
+ghost use Rattle.cfg_chain.specs.Views.{provider_of};
 ghost use Rattle.cfg_chain.specs.profile.Plans.{key_of};
-ghost use Rattle.cfg_chain.specs.profile.Profiles.{profile};
-ghost use Rattle.cfg_chain.specs.profile.Provides.{FollowsProfile, ProvidesByProfile, InterruptedProfile};
+ghost use Rattle.cfg_chain.specs.profile.Provides.{ProvidesByProfileOn, InterruptedProfileOn};
+ghost use Rattle.cfg_chain.specs.profile.Setups.{no_provider_set, provider_setup, provider_setup_by, with_profile_setup, with_provider, provider_configured};
 
-use crate::profile::plan::token_key_of;
+use crate::call::ChainCall;
+use crate::chain_core::ChainCore;
 use crate::profile::provider::follow_profile;
-use crate::services::{Services, lent_or};
-use cfg_exchange::container_uri;
+use cfg_exchange::steps::container_uri;
 use cfg_imds::Client;
-use cfg_keeping::{Keeper, Kept};
+use cfg_kept::{Keeper, Kept};
 use cfg_profile::{ProfileSource, ProviderConfig};
-use cfg_providers::CustomSource;
-use cfg_region::profile::settings::configured_by;
+use cfg_providers::{CustomProvider, CustomSource};
+use cfg_region::steps::ProfileBuilder;
 use cfg_token::TokenKey;
-use cfg_types::{Credentials, CredentialsError, OutOfMemory, TryCopy, copy_option};
+use cfg_types::{Credentials, CredentialsError, OutOfMemory, Text};
 use cfg_world::{Asking, Devices, Stop, World};
 use std::alloc::Global;
-use std::marker::Model;
 
-/// The credentials of the selected profile. Contracts see its configuration. What is kept between its calls is
-/// lent to each of them.
+/// The credentials of the selected profile. Contracts see its configuration, and the caller's own sources, each with
+/// what it answers. What is kept between its calls is lent to each of them.
+#[derive(Drop)]
 pub struct ProfileFileCredentialsProvider {
-    alloc: Global,
-    config: ProviderConfig,
-    token_key: Option<TokenKey>,
-}
-
-impl Drop for ProfileFileCredentialsProvider {
-    fn drop(self) {
-        let ProfileFileCredentialsProvider {
-            alloc: _,
-            config: _,
-            token_key: _,
-        } = self;
-    }
-}
-
-impl Model for ProfileFileCredentialsProvider {
-    ghost use Rattle.std.specs.Prelude.{◌≡◌};
-    ghost use Rattle.cfg_profile.specs.Configuration.{Configuration, configuration_code};
-    ghost use Rattle.cfg_chain.specs.profile.Plans.{key_of};
-
-    ghost Value = { Configuration };
-
-    ghost coded = { configuration_code };
-
-    ghost view = { λ p. p.config };
-
-    ghost invariant = { λ p. p.token_key ≡ key_of p.config };
+    core: ChainCore,
+    custom_sources: Vec<CustomSource>,
 }
 
 impl ProfileFileCredentialsProvider {
-    ghost use Rattle.cfg_region.specs.ProfileSetups.{no_profile_set};
-
-    /// A builder with no variables and no sections. `OutOfMemory` where memory runs out.
+    /// A builder with no variables, no sections and no sources. `OutOfMemory` where memory runs out.
     pub fn builder(alloc: Global) -> Result<Builder, OutOfMemory>
-        ensures { IfOk result (λ b. b ≡ no_profile_set) }
+        ensures { IfOk result (λ b. provider_setup value b ≡ no_provider_set) }
     {
         Builder::new(alloc)
     }
@@ -73,18 +45,17 @@ impl ProfileFileCredentialsProvider {
     /// Whose token the provider needs: that of a session of IAM Identity Center, or of a sign-in session,
     /// where the selected profile's plan begins with one.
     pub fn token_key(&self) -> Option<&TokenKey>
-        ensures { option_copied result ≡ key_of self.now }
+        ensures { option_copied result ≡ key_of (provider_of value self.now).configuration }
     {
-        self.token_key.as_ref()
+        self.core.token_key()
     }
 
     /// What the provider keeps between calls, with nothing kept. `OutOfMemory` where memory runs out.
     pub fn new_kept(&self) -> Result<Kept, OutOfMemory>
         ensures nothing { IfOk result (λ kept. states_of kept ≡ no_states) }
-        ensures key { IfOk result (λ kept. kept_key kept ≡ key_of self.now) }
+        ensures key { IfOk result (λ kept. kept_key kept ≡ key_of (provider_of value self.now).configuration) }
     {
-        let key = copy_option(self.alloc, &self.token_key)?;
-        Ok(Kept::new(self.alloc, key))
+        self.core.new_kept()
     }
 
     /// The body of [`Self::provide_credentials`], over anything that can be asked. Where a question is
@@ -92,44 +63,30 @@ impl ProfileFileCredentialsProvider {
     /// It stops with `OutOfMemory` where memory runs out. The keeper has the key that the provider needs.
     pub fn follow<P: Keeper, A: Asking>(
         &self,
-        sources: &[CustomSource],
-        imds_client: Option<&Client>,
         keeper: &mut P,
         asking: &mut A,
     ) -> Result<Result<Credentials, CredentialsError>, Stop>
-        requires { HasKey (key_of self.now) (P.key_held keeper.old) }
-        ensures follows { FollowsProfile ⟦<A as Asking>⟧ self.now (lends (named_sources value sources.now) (option_map (λ c. client_rules repeated c.now) imds_client.entry)) asking.old (P.holdings keeper.old) asking.new (P.holdings keeper.new) result }
+        requires { HasKey (key_of (provider_of value self.now).configuration) (P.key_held keeper.old) }
+        ensures follows { FollowsProvider ⟦<A as Asking>⟧ ⟦<P as Keeper>⟧ (provider_of value self.now) asking.old asking.new keeper.old keeper.new result }
         ensures key { P.key_held keeper.new ≡ P.key_held keeper.old }
     {
-        let container = container_uri(self.alloc, self.config.env())?;
-        let own = Client::configured(self.alloc, &self.config)?;
-        let services = Services {
+        let alloc = self.core.alloc();
+        let config = self.core.config();
+        let container = container_uri(alloc, config.env())?;
+        let own = Client::configured(alloc, config)?;
+        let call = ChainCall {
+            alloc,
+            config,
+            custom_sources: self.custom_sources.as_slice(),
             container: &container,
-            client: lent_or(imds_client, &own),
-            named_client: &own,
+            imds_client: &own,
+            named_imds_client: &own,
         };
-        self.follow_plan(sources, &services, keeper, asking)
-    }
-
-    // The questions of the plan, where it is known what services the configuration names.
-    fn follow_plan<P: Keeper, A: Asking>(
-        &self,
-        sources: &[CustomSource],
-        services: &Services,
-        keeper: &mut P,
-        asking: &mut A,
-    ) -> Result<Result<Credentials, CredentialsError>, Stop>
-        requires { HasKey (key_of self.now) (P.key_held keeper.old) }
-        ensures follows { HoldsFollows ⟦<A as Asking>⟧ (profile (setting self.now (named_sources value sources.now) (services_in repeated services.now))) asking.old (P.holdings keeper.old) asking.new (P.holdings keeper.new) result }
-        ensures key { P.key_held keeper.new ≡ P.key_held keeper.old }
-    {
-        follow_profile(self.alloc, &self.config, sources, services, keeper, asking)
+        follow_profile(&call, keeper, asking)
     }
 
     /// Asks the base of the selected profile's plan, assumes its roles, and answers the last one's
-    /// credentials. It is lent what a default chain is, so that one can be called for the other. The sources
-    /// are the caller's own; a profile names them by `credential_source`. A profile asks instance metadata by
-    /// the client of the configuration alone, and the one that is lent plays no part.
+    /// credentials. A profile asks instance metadata by the client of the configuration alone.
     ///
     /// The world's journal gains the part of the base and the exchanges, and nothing else. The list of the
     /// values that were found is that of this call alone. What is kept is that of a provider with this key, as
@@ -149,117 +106,125 @@ impl ProfileFileCredentialsProvider {
     ///   and each kept value is as the last finished holding left it.
     pub fn provide_credentials<D: Devices>(
         &self,
-        sources: &[CustomSource],
-        imds_client: Option<&Client>,
         kept: &mut Kept,
         world: &mut World<D>,
     ) -> Result<Credentials, CredentialsError>
-        requires { kept_key kept.old ≡ key_of self.now }
-        ensures provides { is_memory result ≡ false → ProvidesByProfile ⟦<D as Devices>⟧ self.now (lends (named_sources value sources.now) (option_map (λ c. client_rules repeated c.now) imds_client.entry)) (states_of kept.old) (states_of kept.new) (kept_holdings kept.new).found world.old world.new result }
-        ensures stays { is_memory result ≡ true → InterruptedProfile ⟦<D as Devices>⟧ self.now (lends (named_sources value sources.now) (option_map (λ c. client_rules repeated c.now) imds_client.entry)) (states_of kept.old) (states_of kept.new) (kept_holdings kept.new).found world.old world.new }
+        requires { kept_key kept.old ≡ key_of (provider_of value self.now).configuration }
+        ensures provides { Answered result (ProvidesByProfileOn ⟦<D as Devices>⟧ (provider_of value self.now) kept.old kept.new world.old world.new) }
+        ensures stays { RanOut result (InterruptedProfileOn ⟦<D as Devices>⟧ (provider_of value self.now) kept.old kept.new world.old world.new) }
         ensures key { kept_key kept.new ≡ kept_key kept.old }
     {
         kept.clear_found();
-        match self.follow(sources, imds_client, kept, world) {
+        match self.follow(kept, world) {
             Ok(outcome) => outcome,
             Err(_) => Err(CredentialsError::OutOfMemory),
         }
     }
 }
 
-/// Sets up a provider of a profile's credentials. Contracts see its configuration, and the name and the
-/// sections that are in place of the configuration's. A setter changes its field alone.
+/// Sets up a provider of a profile's credentials. Contracts see its configuration, the name and the sections that
+/// are in place of the configuration's, and the caller's own sources. A setter changes its field alone, and one that
+/// runs out of memory gives the builder up.
+#[derive(Drop)]
 pub struct Builder {
     alloc: Global,
-    config: ProviderConfig,
-    profile_name: Option<String>,
-    profiles: Option<ProfileSource>,
-}
-
-impl Drop for Builder {
-    fn drop(self) {
-        let Builder {
-            alloc: _,
-            config: _,
-            profile_name: _,
-            profiles: _,
-        } = self;
-    }
-}
-
-impl Model for Builder {
-    ghost use Rattle.std.specs.Prelude.{option_map, string_bytes};
-    ghost use Rattle.cfg_region.specs.ProfileSetups.{ProfileSetup, profile_setup_code};
-
-    ghost Value = { ProfileSetup };
-
-    ghost coded = { profile_setup_code };
-
-    ghost view = { λ b. record {
-      configuration = b.config;
-      profile_name = option_map (λ s. string_bytes s) b.profile_name;
-      profiles = b.profiles;
-    } };
+    settings: ProfileBuilder,
+    custom_sources: Vec<CustomSource>,
 }
 
 impl Builder {
-    ghost use Rattle.cfg_region.specs.ProfileSetups.{no_profile_set, profile_configured};
-
-    /// A builder with no variables and no sections. `OutOfMemory` where memory runs out.
+    /// A builder with no variables, no sections and no sources. `OutOfMemory` where memory runs out.
     pub fn new(alloc: Global) -> Result<Builder, OutOfMemory>
-        ensures { IfOk result (λ b. b ≡ no_profile_set) }
+        ensures { IfOk result (λ b. provider_setup value b ≡ no_provider_set) }
     {
-        let config = ProviderConfig::without_region(alloc)?;
+        let settings = ProfileBuilder::new(alloc)?;
         Ok(Builder {
             alloc,
-            config,
-            profile_name: None,
-            profiles: None,
+            settings,
+            custom_sources: Vec::new(alloc),
         })
     }
 
     /// With a copy of this configuration, in place of the one that it had. `OutOfMemory` where memory runs out.
-    pub fn configure(mut self, config: &ProviderConfig) -> Result<Builder, OutOfMemory>
-        ensures { IfOk result (λ b. b ≡ record self { configuration = config.now }) }
+    pub fn configure(self, config: &ProviderConfig) -> Result<Builder, OutOfMemory>
+        ensures { IfOk result (λ b. provider_setup value b ≡ with_profile_setup (λ s. record s { configuration = config.now }) (provider_setup value self)) }
     {
-        self.config = config.copy(self.alloc)?;
-        Ok(self)
+        let Builder {
+            alloc,
+            settings,
+            custom_sources,
+        } = self;
+        let settings = settings.configure(config)?;
+        Ok(Builder {
+            alloc,
+            settings,
+            custom_sources,
+        })
     }
 
     /// The profile of this name, whatever the configuration and the environment say. `OutOfMemory` where
     /// memory runs out.
-    pub fn profile_name(mut self, name: &str) -> Result<Builder, OutOfMemory>
-        ensures { IfOk result (λ b. b ≡ record self { profile_name = Some name.now }) }
+    pub fn profile_name(self, name: &str) -> Result<Builder, OutOfMemory>
+        ensures { IfOk result (λ b. provider_setup value b ≡ with_profile_setup (λ s. record s { profile_name = Some name.now }) (provider_setup value self)) }
     {
-        self.profile_name = Some(String::from_str(self.alloc, name)?);
-        Ok(self)
+        let Builder {
+            alloc,
+            settings,
+            custom_sources,
+        } = self;
+        let settings = settings.profile_name(name)?;
+        Ok(Builder {
+            alloc,
+            settings,
+            custom_sources,
+        })
     }
 
     /// With these sections, or their refusal, whatever the configuration has.
-    pub fn profiles(mut self, profiles: ProfileSource) -> Builder
-        ensures { result ≡ record self { profiles = Some profiles } }
+    pub fn profiles(self, profiles: ProfileSource) -> Builder
+        ensures { provider_setup value result ≡ with_profile_setup (λ s. record s { profiles = Some profiles }) (provider_setup value self) }
     {
-        self.profiles = Some(profiles);
-        self
+        let Builder {
+            alloc,
+            settings,
+            custom_sources,
+        } = self;
+        Builder {
+            alloc,
+            settings: settings.profiles(profiles),
+            custom_sources,
+        }
+    }
+
+    /// With this source of credentials behind the others, which a profile names by its `credential_source`, ASCII
+    /// case of letters apart. It is meant in place of a built-in source of its name, and of an earlier one.
+    /// `OutOfMemory` where memory runs out.
+    pub fn with_custom_provider(
+        mut self,
+        name: &str,
+        provider: CustomProvider,
+    ) -> Result<Builder, OutOfMemory>
+        ensures { IfOk result (λ b. provider_setup_by value b ≡ with_provider (characters name.now) (value provider) (provider_setup_by value self)) }
+    {
+        let name = Text::of(self.alloc, name)?;
+        self.custom_sources.push(CustomSource { name, provider })?;
+        Ok(self)
     }
 
     /// The provider. Whose token it needs is read from the selected profile now. Nothing is asked.
     /// `OutOfMemory` where memory runs out.
     pub fn build(self) -> Result<ProfileFileCredentialsProvider, OutOfMemory>
-        ensures { IfOk result (λ p. p ≡ profile_configured self) }
+        ensures { IfOk result (λ p. provider_of value p ≡ provider_configured (provider_setup value self)) }
     {
         let Builder {
             alloc,
-            config,
-            profile_name,
-            profiles,
+            settings,
+            custom_sources,
         } = self;
-        let config = configured_by(alloc, config, profile_name, profiles)?;
-        let token_key = token_key_of(alloc, &config)?;
+        let config = settings.configured()?;
         Ok(ProfileFileCredentialsProvider {
-            alloc,
-            config,
-            token_key,
+            core: ChainCore::of(alloc, config)?,
+            custom_sources,
         })
     }
 }

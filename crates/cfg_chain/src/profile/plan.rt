@@ -7,10 +7,10 @@ use cfg_profile::{
     BaseProvider, ProfileChain, ProfileSet, ProfileSource, ProviderConfig, plan_of_profile,
     selected_name,
 };
+use cfg_sso::session_of_base;
 use cfg_token::TokenKey;
 use cfg_types::{
-    ConfigCause, CredentialsError, NotLoadedCause, OutOfMemory, ProfileFileError, Region, Text,
-    TryCopy,
+    ConfigCause, CredentialsError, NotLoadedCause, OutOfMemory, ProfileFileError, Text, TryCopy,
 };
 use cfg_world::{Halt, Stop};
 use std::alloc::Global;
@@ -91,19 +91,9 @@ fn key_of_base(alloc: Global, base: &BaseProvider) -> Result<Option<TokenKey>, O
     ensures { IfOk result (λ key. key ≡ key_of_base_of base.now) }
 {
     match base {
-        BaseProvider::Sso {
-            sso_session_name: Some(session),
-            sso_region,
-            sso_start_url,
-            ..
-        } => Ok(Some(TokenKey::Sso {
-            session: session.copy(alloc)?,
-            region: Region::new(alloc, sso_region.as_str())?,
-            start_url: sso_start_url.copy(alloc)?,
-        })),
         BaseProvider::LoginSession { login_session_arn } => Ok(Some(TokenKey::Login {
             session: login_session_arn.copy(alloc)?,
         })),
-        _ => Ok(None),
+        _ => session_of_base(alloc, base),
     }
 }

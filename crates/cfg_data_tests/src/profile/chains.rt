@@ -1,6 +1,8 @@
 //! What no clause says: the texts of a path's errors, and that calls succeed.
 use crate::profile::sets::set_of;
-use cfg_profile::{ProfileChain, ProfileSet, generated_set, plan_of, region_of, resolve_chain};
+use cfg_profile::{
+    BaseProvider, ProfileChain, ProfileSet, generated_set, plan_of, region_of, resolve_chain,
+};
 use cfg_types::{OutOfMemory, ProfileFileError};
 use std::alloc::{AllocError, Global};
 use std::test::Fail;
@@ -132,5 +134,43 @@ fn chains_of_generated_sets(rt: HostRuntime) -> Result<(), Fail> {
         let words = answer_words(rt.alloc(), &resolve_chain(rt.alloc(), &set))?;
         assert_eq!(rt; words.as_str(), want);
     }
+    Ok(())
+}
+
+// The process of a chain, and its first role, with all that their profiles say of them.
+fn members_of(
+    alloc: Global,
+    answer: &Result<ProfileChain, ProfileFileError>,
+) -> Result<String, AllocError> {
+    let Ok(chain) = answer else {
+        return String::from_str(alloc, "no chain");
+    };
+    let BaseProvider::CredentialProcess {
+        command,
+        account_id,
+    } = &chain.base
+    else {
+        return String::from_str(alloc, "another base");
+    };
+    let Some(role) = chain.roles.as_slice().first() else {
+        return String::from_str(alloc, "no role");
+    };
+    let command = command.unredacted();
+    let arn = &role.role_arn;
+    let external_id = &role.external_id;
+    let session_name = &role.session_name;
+    format!(in alloc; "{command} {account_id:?}, {arn:?} {external_id:?} {session_name:?}")
+}
+
+#[test]
+fn a_role_over_a_process_has_what_the_profiles_say(rt: HostRuntime) -> Result<(), Fail> {
+    let sections =
+        "A:role_arn=a,source_profile=B,external_id=e,role_session_name=s;B:credential_process=x,aws_account_id=1";
+    let set = set_of(rt.alloc(), "A", sections)?;
+    let words = members_of(rt.alloc(), &resolve_chain(rt.alloc(), &set))?;
+    assert_eq!(rt;
+        words.as_str(),
+        "x Some(\"1\"), \"a\" Some(\"e\") Some(\"s\")"
+    );
     Ok(())
 }

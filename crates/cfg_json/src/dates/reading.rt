@@ -1,8 +1,8 @@
 //! Dates that are read.
 ghost use Rattle.std.specs.Prelude.{◌≡◌, ◌≤◌, ◌<◌, ◌+◌, ◌*◌, ℤ, pos, negsuc, ◌≤ℤ◌, ◌-ℤ◌, true, false, IsTrue, IfSome, Some, option_map};
 ghost use Rattle.jiff_core.specs.Calendar.{days_from_civil, IsEpochDay};
-ghost use Rattle.cfg_values.specs.Moment.{Moment};
-ghost use Rattle.cfg_values.specs.Text.{characters};
+ghost use Rattle.cfg_base.specs.Moment.{Moment};
+ghost use Rattle.cfg_base.specs.Text.{characters};
 ghost use Rattle.cfg_json.specs.Dates.{IsDateText, IsOffsetDateText, seconds_of, first_weight};
 ghost use Rattle.cfg_json.specs.ReadingDates.{day_at, clock_at, local_at, nanos_from, nanos_at, second_fraction_at, offset_at, zone_of, moment_at, is_civil, is_clock};
 

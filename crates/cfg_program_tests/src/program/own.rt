@@ -36,5 +36,6 @@ impl ProvideCredentials for Always {
 /// Its source, by this name.
 pub(crate) fn own_source(alloc: Global, name: &str) -> Result<CustomSource, OutOfMemory> {
     let provider = Box::new(alloc, Always { alloc })?;
-    Ok(CustomSource::new(Text::of(alloc, name)?, provider))
+    let name = Text::of(alloc, name)?;
+    Ok(CustomSource { name, provider })
 }

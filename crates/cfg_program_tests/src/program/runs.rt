@@ -51,7 +51,7 @@ fn run_over<S: Source>(
     let mut sink = MemorySink::new(alloc, Vec::from_slice(alloc, &[fails])?, most);
     let mut world = world(alloc)?;
     let variables = variables(alloc)?;
-    let custom = [own_source(alloc, "Own")?];
+    let custom = vec![in alloc; own_source(alloc, "Own")?]?;
     let status = run(
         alloc,
         words.as_slice(),
@@ -59,7 +59,7 @@ fn run_over<S: Source>(
         &mut sink,
         variables,
         &mut world,
-        &custom,
+        custom,
     );
     match str::from_utf8(sink.written()) {
         Ok(text) => Ok(format!(in alloc; "{status:?} {text}")?),
@@ -126,8 +126,8 @@ fn words(rt: HostRuntime) -> Result<(), Fail> {
             "Done credentials =L =EnvironmentVariable none -\n",
         ),
         (&["generate", "1000"], "", "Done generate 1000 999 =K999\n"),
-        (&["generate", "1001"], KEYS, "Words "),
-        (&[], KEYS, "Words "),
+        (&["generate", "1001"], KEYS, "UnknownCommand "),
+        (&[], KEYS, "UnknownCommand "),
     ];
     for (words, input, want) in table {
         let told = run_in_pieces(rt.alloc(), words, input.as_bytes(), 100_000, 0, 2)?;

@@ -3,13 +3,15 @@ ghost use Rattle.cfg_script.specs.Devices.{lists_of};
 ghost use Rattle.cfg_script.specs.Script.{plain};
 ghost use Rattle.cfg_world.specs.Script.{AllFit};
 
-use cfg_profile::ProviderConfig;
+use cfg_profile::{ProviderConfig, RoleArn, call_settings};
 use cfg_providers::{
     CredentialProcessProvider, EcsCredentialsProvider, EnvironmentVariableCredentialsProvider,
-    StaticConfiguration, WebIdentityTokenCredentialsProvider,
+    StaticConfiguration, WebIdentityTokenCredentialsProvider, assume_roles,
 };
 use cfg_script::{Script, read_script};
-use cfg_types::{AccountId, Credentials, CredentialsError, Env, OutOfMemory, Text, TryCopy};
+use cfg_types::{
+    AccountId, Credentials, CredentialsBuilder, CredentialsError, Env, OutOfMemory, Text, TryCopy,
+};
 use cfg_world::{DeviceLists, ScriptDevices, World};
 use std::alloc::Global;
 use std::test::Fail;
@@ -93,9 +95,27 @@ fn limited_web_identity(
     };
     let mut arns = Vec::new(alloc);
     arns.push(String::from_str(alloc, "arn")?)?;
+    let given = given.copy(alloc)?;
     let builder = WebIdentityTokenCredentialsProvider::builder(alloc)?.static_configuration(given);
     let provider = builder.policy("p")?.policy_arns(arns)?.build()?;
     let answer = provider.provide_credentials(world);
+    Ok(Outcome { answer })
+}
+
+fn role(
+    alloc: Global,
+    config: &ProviderConfig,
+    world: &mut World<ScriptDevices>,
+) -> Result<Outcome, OutOfMemory> {
+    let base = CredentialsBuilder::new(alloc, "K", "S", "Fixed")?.build()?;
+    let mut roles = Vec::new(alloc);
+    roles.push(RoleArn {
+        role_arn: Text::of(alloc, "r")?,
+        external_id: None,
+        session_name: None,
+    })?;
+    let settings = call_settings(alloc, config)?;
+    let answer = assume_roles(alloc, base, roles.as_slice(), &settings, world);
     Ok(Outcome { answer })
 }
 
@@ -114,6 +134,7 @@ fn outcome_of(
         "container" => container(alloc, &config, world),
         "named container" => named_container(alloc, &config, world),
         "web identity" => web_identity(alloc, &config, world),
+        "role" => role(alloc, &config, world),
         _ => limited_web_identity(alloc, world),
     }
 }
@@ -201,6 +222,11 @@ fn providers(rt: HostRuntime) -> Result<(), Fail> {
             "limited web identity",
             r#"{"files":[["/f"," x\n"]],"replies":{"web-identity":[null]}}"#,
             r#"Unhandled(StsNoCredentials) Read { path: "/f" } Send(AssumeRoleWithWebIdentity(AssumeRoleWithWebIdentity { role_arn: "b", session_name: "n", secrets: "** redacted **" }))"#,
+        ),
+        (
+            "role",
+            r#"{"clock":[5],"replies":{"assume-role":[{"id":"KA","secret":"SA","token":"TA","expires":2000,"arn":"a:b:c:d:e:f"}]}}"#,
+            r#"Credentials { provider_name: "AssumeRoleProvider", access_key_id: "KA", secret_access_key: "** redacted **", expires_after: 2000 s 0 ns, account_id: "e" } SA Some("TA") [] Now Send(AssumeRole(AssumeRole { signer: Credentials { provider_name: "Fixed", access_key_id: "K", secret_access_key: "** redacted **", expires_after: never }, role_arn: "r", session_name: "assume-role-from-profile-5000", external_id: None, policy: None, policy_arns: None, duration_seconds: None, tags: None, settings: CallSettings { region: None, use_fips: None, use_dual_stack: None, max_attempts: 3, timeouts: Timeouts { connect_ms: None, read_ms: None, operation_ms: None, attempt_ms: None } } }))"#,
         ),
     ];
     for (provider, script, want) in table {

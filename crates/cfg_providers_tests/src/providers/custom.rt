@@ -1,5 +1,6 @@
 //! Which source a name means, and what it answers.
-use cfg_providers::{CustomSource, ProvideCredentials, names_of, provide_by_name};
+use cfg_providers::steps::{names_of, provide_by_name};
+use cfg_providers::{CustomSource, ProvideCredentials};
 use cfg_types::{Credentials, CredentialsError, NotLoadedCause, OutOfMemory, Text, TryCopy};
 use std::alloc::Global;
 use std::test::Fail;
@@ -38,7 +39,8 @@ impl ProvideCredentials for Empty {
 fn source(alloc: Global, name: &str, own: &str) -> Result<CustomSource, OutOfMemory> {
     let own = Text::of(alloc, own)?;
     let provider = Box::new(alloc, Empty { alloc, name: own })?;
-    Ok(CustomSource::new(Text::of(alloc, name)?, provider))
+    let name = Text::of(alloc, name)?;
+    Ok(CustomSource { name, provider })
 }
 
 fn sources(alloc: Global) -> Result<Vec<CustomSource>, OutOfMemory> {

@@ -4,13 +4,13 @@ ghost use Rattle.cfg_script.specs.Devices.{lists_of};
 ghost use Rattle.cfg_script.specs.Script.{plain};
 ghost use Rattle.cfg_world.specs.Script.{AllFit};
 
-use cfg_keeping::Kept;
+use cfg_kept::Kept;
 use cfg_profile::ProviderConfig;
 use cfg_script::{Script, read_script};
-use cfg_sso::credentials::Builder;
+use cfg_sso::sso::credentials::Builder;
 use cfg_sso::{SsoCredentialsProvider, SsoTokenProvider};
 use cfg_types::{
-    Credentials, CredentialsError, Env, OutOfMemory, Region, Token, TokenError, TryCopy,
+    Credentials, CredentialsError, Env, OutOfMemory, Region, Text, Token, TokenError, TryCopy,
 };
 use cfg_world::{DeviceLists, ScriptDevices, World};
 use std::alloc::Global;
@@ -145,6 +145,26 @@ fn words_of(alloc: Global, kind: &str, script: &str) -> Result<String, OutOfMemo
         Ok(script) => words_over(alloc, kind, script),
         Err(_) => Ok(String::from_str(alloc, "no script")?),
     }
+}
+
+// Whether a builder is complete: with all four settings, and without the start URL.
+fn completeness(alloc: Global) -> Result<(bool, bool), OutOfMemory> {
+    let mut builder = SsoCredentialsProvider::builder(alloc)?;
+    builder.set_account_id(Some(Text::of(alloc, "1")?));
+    builder.set_region(Some(Region::new(alloc, "us-east-1")?));
+    builder.set_role_name(Some(Text::of(alloc, "r")?));
+    builder.set_start_url(Some(Text::of(alloc, "abc")?));
+    let with_all = builder.is_complete();
+    builder.set_start_url(None);
+    Ok((with_all, builder.is_complete()))
+}
+
+#[test]
+fn a_start_url_completes_a_builder(rt: HostRuntime) -> Result<(), Fail> {
+    let (with_all, without_url) = completeness(rt.alloc())?;
+    assert!(rt; with_all);
+    assert!(rt; !without_url);
+    Ok(())
 }
 
 #[test]

@@ -1,19 +1,17 @@
 //! The default chain of regions.
-ghost use Rattle.std.specs.Prelude.{◌≡◌, ◌∷◌, [], IfOk, OnErr, Some};
+ghost use Rattle.std.specs.Prelude.{◌≡◌, IfOk, OnErr, Some};
 ghost use Rattle.cfg_world.specs.Follows.{Follows};
 ghost use Rattle.cfg_imds.specs.Calls.{CallBreaks};
-ghost use Rattle.cfg_world.specs.Inquiry.{Done};
 ghost use Rattle.cfg_region.specs.Calls.{AsksInOrder};
 ghost use Rattle.cfg_region.specs.Chains.{first_given};
-ghost use Rattle.cfg_region.specs.Defaults.{client_at, default_trees, default_tree, IsDefault};
-ghost use Rattle.cfg_region.specs.Metadata.{metadata_region};
+ghost use Rattle.cfg_region.specs.Defaults.{default_metadata, later_trees, default_trees, default_tree, IsDefault};
 ghost use Rattle.cfg_region.specs.Profiles.{profile_region};
 
 use crate::environment::region::region_of_environment;
 use crate::imds::region::follow_metadata;
 use crate::profile::region::region_by_name;
 use crate::profile::settings::with_name;
-use cfg_imds::{Client, Endpoint, endpoint_of};
+use cfg_imds::steps::{Endpoint, client_at, endpoint_of};
 use cfg_profile::{ProviderConfig, selected_name};
 use cfg_types::{OutOfMemory, Region, TryCopy};
 use cfg_world::{Asking, Devices, Stop, World};
@@ -105,16 +103,17 @@ impl DefaultRegionChain {
     // The metadata client is made now. It asks where the chain has it.
     #[tactic(auto, using(cfg_world::proofs::Inquiries::asking_steps))]
     fn follow_service<A: Asking>(&self, asking: &mut A) -> Result<Option<Region>, Stop>
-        ensures { Follows ⟦<A as Asking>⟧ (metadata_region self.now.configuration.environment (client_at self.now.configuration self.now.endpoint)) asking.old asking.new result }
+        ensures { Follows ⟦<A as Asking>⟧ (default_metadata self.now) asking.old asking.new result }
     {
-        let client = Client::configured(self.alloc, &self.config)?;
+        let endpoint = self.endpoint.copy(self.alloc)?;
+        let client = client_at(self.alloc, endpoint);
         follow_metadata(self.alloc, self.config.env(), &client, asking)
     }
 
     // The profile, and then metadata.
     #[tactic(auto, using(crate::proofs::RegionSteps::region_steps))]
     fn follow_profile<A: Asking>(&self, asking: &mut A) -> Result<Option<Region>, Stop>
-        ensures { Follows ⟦<A as Asking>⟧ (first_given (Done (profile_region self.now.configuration) ∷ metadata_region self.now.configuration.environment (client_at self.now.configuration self.now.endpoint) ∷ [])) asking.old asking.new result }
+        ensures { Follows ⟦<A as Asking>⟧ (first_given (later_trees self.now)) asking.old asking.new result }
     {
         match self.profile_region()? {
             Some(region) => Ok(Some(region)),

@@ -1,6 +1,6 @@
 //! The region that the environment's variables name.
 ghost use Rattle.std.specs.Prelude.{◌≡◌, IfOk, option_map};
-ghost use Rattle.cfg_values.specs.Text.{characters};
+ghost use Rattle.cfg_base.specs.Text.{characters};
 ghost use Rattle.cfg_region.specs.Environments.{environment_region};
 
 use cfg_types::{Env, OutOfMemory, Region};
@@ -18,10 +18,8 @@ fn named(env: &Env) -> Option<&str>
     }
 }
 
-/// The region that the variables name, as aws-config reads them: a readable `AWS_REGION`, else a readable
-/// `AWS_DEFAULT_REGION`. One that is set and empty is an answer, and one that is not Unicode is none.
-/// Neither is trimmed. `OutOfMemory` where memory runs out.
-pub fn region_of_environment(alloc: Global, env: &Env) -> Result<Option<Region>, OutOfMemory>
+// The region that the variables name.
+pub(crate) fn region_of_environment(alloc: Global, env: &Env) -> Result<Option<Region>, OutOfMemory>
     ensures { IfOk result (λ region. region ≡ environment_region env.now) }
 {
     match named(env) {
@@ -46,7 +44,7 @@ impl Drop for EnvironmentVariableRegionProvider {
 }
 
 impl Model for EnvironmentVariableRegionProvider {
-    ghost use Rattle.cfg_values.specs.TextMap.{named_code};
+    ghost use Rattle.cfg_base.specs.TextMap.{named_code};
     ghost use Rattle.cfg_types.specs.Environment.{Variables};
     ghost use Rattle.cfg_types.specs.contracts.environment.EnvText.{the_row};
 
@@ -65,7 +63,9 @@ impl EnvironmentVariableRegionProvider {
         EnvironmentVariableRegionProvider { alloc, env }
     }
 
-    /// The region, by the rule of [`region_of_environment`] and with its error. Nothing is asked.
+    /// The region that the variables name, as aws-config reads them: a readable `AWS_REGION`, else a readable
+    /// `AWS_DEFAULT_REGION`. One that is set and empty is an answer, and one that is not Unicode is none.
+    /// Neither is trimmed. Nothing is asked. `OutOfMemory` where memory runs out.
     pub fn region(&self) -> Result<Option<Region>, OutOfMemory>
         ensures { IfOk result (λ region. region ≡ environment_region self.now) }
     {

@@ -2,16 +2,14 @@
 ghost use Rattle.std.specs.Prelude.{◌≡◌, IfOk, Some, option_map};
 ghost use Rattle.cfg_region.specs.Profiles.{region_in, profile_region};
 
-use crate::profile::settings::configured_by;
+use crate::profile::settings::ProfileBuilder;
 use cfg_profile::{ProfileSource, ProviderConfig, region_of_profile, selected_name};
-use cfg_types::{OutOfMemory, Region, TryCopy};
+use cfg_types::{OutOfMemory, Region};
 use std::alloc::Global;
 use std::marker::Model;
 
-/// The region of the profile of this name: its own `region`, also an empty one, else that of its
-/// `source_profile`, and so on. None where that comes back, leads to no profile, or ends at a profile with
-/// neither key; refused sections have none. `OutOfMemory` where memory runs out.
-pub fn region_by_name(
+// The region of the profile of this name. Refused sections have none.
+pub(crate) fn region_by_name(
     alloc: Global,
     profiles: &ProfileSource,
     name: &str,
@@ -69,9 +67,11 @@ impl ProfileFileRegionProvider {
         Builder::new(alloc)
     }
 
-    /// The region of the selected profile, by the rule of [`region_by_name`] and with its error. Selected is the
-    /// profile whose name the configuration was given, else that of a readable `AWS_PROFILE`, else `default`.
-    /// Nothing is asked.
+    /// The region of the selected profile: its own `region`, also an empty one, else that of its
+    /// `source_profile`, and so on. None where that comes back, leads to no profile, or ends at a profile with
+    /// neither key; refused sections have none. Selected is the profile whose name the configuration was given,
+    /// else that of a readable `AWS_PROFILE`, else `default`. Nothing is asked. `OutOfMemory` where memory runs
+    /// out.
     pub fn region(&self) -> Result<Option<Region>, OutOfMemory>
         ensures { IfOk result (λ region. region ≡ profile_region self.now) }
     {
@@ -85,37 +85,20 @@ impl ProfileFileRegionProvider {
 
 /// Sets up a provider of a profile's region. Contracts see its configuration, and the name and the sections
 /// that are in place of the configuration's. A setter changes its field alone.
+#[derive(Drop)]
 pub struct Builder {
     alloc: Global,
-    config: ProviderConfig,
-    profile_name: Option<String>,
-    profiles: Option<ProfileSource>,
-}
-
-impl Drop for Builder {
-    fn drop(self) {
-        let Builder {
-            alloc: _,
-            config: _,
-            profile_name: _,
-            profiles: _,
-        } = self;
-    }
+    settings: ProfileBuilder,
 }
 
 impl Model for Builder {
-    ghost use Rattle.std.specs.Prelude.{option_map, string_bytes};
     ghost use Rattle.cfg_region.specs.ProfileSetups.{ProfileSetup, profile_setup_code};
 
     ghost Value = { ProfileSetup };
 
     ghost coded = { profile_setup_code };
 
-    ghost view = { λ b. record {
-      configuration = b.config;
-      profile_name = option_map (λ s. string_bytes s) b.profile_name;
-      profiles = b.profiles;
-    } };
+    ghost view = { λ b. b.settings };
 }
 
 impl Builder {
@@ -125,37 +108,35 @@ impl Builder {
     pub fn new(alloc: Global) -> Result<Builder, OutOfMemory>
         ensures { IfOk result (λ b. b ≡ no_profile_set) }
     {
-        let config = ProviderConfig::without_region(alloc)?;
-        Ok(Builder {
-            alloc,
-            config,
-            profile_name: None,
-            profiles: None,
-        })
+        let settings = ProfileBuilder::new(alloc)?;
+        Ok(Builder { alloc, settings })
     }
 
     /// With a copy of this configuration, in place of the one that it had. `OutOfMemory` where memory runs out.
-    pub fn configure(mut self, config: &ProviderConfig) -> Result<Builder, OutOfMemory>
+    pub fn configure(self, config: &ProviderConfig) -> Result<Builder, OutOfMemory>
         ensures { IfOk result (λ b. b ≡ record self { configuration = config.now }) }
     {
-        self.config = config.copy(self.alloc)?;
-        Ok(self)
+        let Builder { alloc, settings } = self;
+        let settings = settings.configure(config)?;
+        Ok(Builder { alloc, settings })
     }
 
     /// The profile of this name, whatever the configuration says. `OutOfMemory` where memory runs out.
-    pub fn profile_name(mut self, name: &str) -> Result<Builder, OutOfMemory>
+    pub fn profile_name(self, name: &str) -> Result<Builder, OutOfMemory>
         ensures { IfOk result (λ b. b ≡ record self { profile_name = Some name.now }) }
     {
-        self.profile_name = Some(String::from_str(self.alloc, name)?);
-        Ok(self)
+        let Builder { alloc, settings } = self;
+        let settings = settings.profile_name(name)?;
+        Ok(Builder { alloc, settings })
     }
 
     /// With these sections, or why they were refused, whatever the configuration has.
-    pub fn profiles(mut self, profiles: ProfileSource) -> Builder
+    pub fn profiles(self, profiles: ProfileSource) -> Builder
         ensures { result ≡ record self { profiles = Some profiles } }
     {
-        self.profiles = Some(profiles);
-        self
+        let Builder { alloc, settings } = self;
+        let settings = settings.profiles(profiles);
+        Builder { alloc, settings }
     }
 
     /// The provider, over the configuration with the name and the sections that were set. `OutOfMemory` where
@@ -163,13 +144,8 @@ impl Builder {
     pub fn build(self) -> Result<ProfileFileRegionProvider, OutOfMemory>
         ensures { IfOk result (λ p. p ≡ profile_configured self) }
     {
-        let Builder {
-            alloc,
-            config,
-            profile_name,
-            profiles,
-        } = self;
-        let config = configured_by(alloc, config, profile_name, profiles)?;
-        Ok(ProfileFileRegionProvider { alloc, config })
+        let Builder { alloc, settings } = self;
+        let config = settings.configured()?;
+        Ok(ProfileFileRegionProvider::new(alloc, config))
     }
 }

@@ -3,7 +3,8 @@ ghost use Rattle.cfg_world.specs.Script.{AllFit};
 ghost use Rattle.cfg_script.specs.Script.{plain};
 ghost use Rattle.cfg_script.specs.Devices.{lists_of};
 
-use cfg_imds::{Client, ImdsTokenState, follow_region};
+use cfg_imds::steps::follow_region;
+use cfg_imds::{Client, ImdsTokenState};
 use cfg_profile::ProviderConfig;
 use cfg_script::{Script, read_script};
 use cfg_types::{Env, OutOfMemory};

@@ -2,10 +2,11 @@
 use crate::region::setup::{Setup, set_up};
 use cfg_imds::{Client, ImdsTokenState};
 use cfg_profile::ProviderConfig;
+use cfg_region::steps::with_region_from;
 use cfg_region::{
     DefaultRegionChain, EnvironmentVariableRegionProvider, ImdsRegionProvider,
     ProfileFileRegionProvider, ProvideRegion, RegionProviderChain, RegionSource,
-    load_default_region, with_default_region, with_region_from,
+    load_default_region, with_default_region,
 };
 use cfg_types::{OutOfMemory, Region, TryCopy, copy_option};
 use cfg_world::{ScriptDevices, World};
@@ -35,7 +36,8 @@ impl ProvideRegion for Own {
     }
 }
 
-// Of two sources that give none, metadata among them, then the default chain, and then two that give one.
+// Of two sources that give none, metadata among them, then the default chain, a fixed none, and then two that
+// give one.
 fn of_sources(
     alloc: Global,
     config: &ProviderConfig,
@@ -44,12 +46,15 @@ fn of_sources(
     let region = None;
     let none = RegionSource::Custom(Box::new(alloc, Own { alloc, region })?);
     let client = Client::configured(alloc, config)?;
-    let metadata = ImdsRegionProvider::builder(alloc, client)?.build()?;
+    let metadata = ImdsRegionProvider::builder(alloc)?
+        .imds_client(client)
+        .build()?;
     let region = Some(Region::new(alloc, "own")?);
     let own = RegionSource::Custom(Box::new(alloc, Own { alloc, region })?);
     let last = RegionSource::Fixed(Some(Region::new(alloc, "last")?));
     let chain = RegionProviderChain::first_try(alloc, none)?.or_else(RegionSource::Imds(metadata))?;
     let chain = chain.or_default_provider(config.copy(alloc)?)?;
+    let chain = chain.or_else(RegionSource::Fixed(None))?;
     chain.or_else(own)?.or_else(last)?.region(world)
 }
 
@@ -58,8 +63,7 @@ fn of_metadata(
     config: &ProviderConfig,
     world: &mut World<ScriptDevices>,
 ) -> Result<Option<Region>, OutOfMemory> {
-    let client = Client::configured(alloc, config)?;
-    let builder = ImdsRegionProvider::builder(alloc, client)?;
+    let builder = ImdsRegionProvider::builder(alloc)?;
     let mut state = ImdsTokenState::new();
     builder
         .configure(config)?

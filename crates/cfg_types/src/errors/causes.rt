@@ -7,7 +7,7 @@ ghost use Rattle.cfg_types.specs.CauseTexts.{ended_text};
 use crate::errors::pieces::{around, around_before, labelled};
 use crate::errors::{ConfigCause, ProcessCause, ProviderCause, UnhandledCause};
 use crate::reply::{FailKind, Fault};
-use cfg_values::Text;
+use cfg_base::Text;
 use std::error::Error;
 use std::fmt;
 

@@ -1,4 +1,4 @@
-use cfg_values::OutOfMemory;
+use cfg_base::OutOfMemory;
 use std::error::Error;
 use std::fmt;
 

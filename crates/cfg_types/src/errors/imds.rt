@@ -6,7 +6,7 @@ ghost use Rattle.std.specs.Fmt.{decimal, WritesOnOk, WritesStyledOnOk};
 
 use crate::errors::pieces::around;
 use crate::reply::{FailKind, HttpReply};
-use cfg_values::{OutOfMemory, Text};
+use cfg_base::{OutOfMemory, Text};
 use std::error::Error;
 use std::fmt;
 

@@ -1,7 +1,7 @@
 use crate::document::Field;
 use crate::errors::pieces::{around, around_field, labelled};
 use crate::errors::sso::IoStep;
-use cfg_values::{OutOfMemory, Text, TryCopy, copy_option};
+use cfg_base::{OutOfMemory, Text, TryCopy, copy_option};
 use std::alloc::Global;
 use std::error::Error;
 use std::fmt;

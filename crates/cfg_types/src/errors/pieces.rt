@@ -3,9 +3,10 @@ ghost use Rattle.std.specs.Prelude.{◌++◌};
 ghost use Rattle.std.specs.Str.{encode_utf8_all};
 ghost use Rattle.std.specs.Fmt.{WritesOnOk, WritesStyledOnOk};
 ghost use Rattle.cfg_types.specs.Field.{field_name};
+ghost use Rattle.cfg_types.specs.ErrorTexts.{name_and_message};
 
 use crate::document::Field;
-use cfg_values::Text;
+use cfg_base::Text;
 use std::fmt;
 
 /// Writes a text behind a label.
@@ -43,8 +44,8 @@ pub(crate) fn around_before<W: fmt::Write>(
     between: &str,
     last: &Text,
 ) -> fmt::Result
-    ensures writes { WritesOnOk W.write_str_gives f.old result (before.now ++ (encode_utf8_all text.now ++ (between.now ++ encode_utf8_all last.now))) f.new }
-    ensures styled { WritesStyledOnOk W.write_str_gives f.old result (before.now ++ (encode_utf8_all text.now ++ (between.now ++ encode_utf8_all last.now))) f.new }
+    ensures writes { WritesOnOk W.write_str_gives f.old result (name_and_message before.now text.now between.now last.now) f.new }
+    ensures styled { WritesStyledOnOk W.write_str_gives f.old result (name_and_message before.now text.now between.now last.now) f.new }
 {
     labelled(f, before, text)?;
     labelled(f, between, last)

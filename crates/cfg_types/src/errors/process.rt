@@ -1,5 +1,5 @@
 use crate::document::InvalidJsonCredentials;
-use cfg_values::Text;
+use cfg_base::Text;
 
 /// Why a command gives no credentials.
 #[derive(Debug, PartialEq, Eq)]

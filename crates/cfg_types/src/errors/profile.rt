@@ -1,10 +1,8 @@
-ghost use Rattle.std.specs.Prelude.{◌++◌, codes};
-ghost use Rattle.std.specs.Str.{encode_utf8_all};
 ghost use Rattle.std.specs.Fmt.{DisplaysOnOk, WritesOnOk};
-ghost use Rattle.cfg_types.specs.ErrorTexts.{feature_text, loop_text};
+ghost use Rattle.cfg_types.specs.ErrorTexts.{feature_text, missing_session_text, loop_text};
 
 use crate::errors::pieces::{around, around_before, labelled};
-use cfg_values::{OutOfMemory, Seq, Text, TryCopy, copy_option};
+use cfg_base::{OutOfMemory, Seq, Text, TryCopy, copy_option};
 use std::alloc::Global;
 use std::error::Error;
 use std::fmt;
@@ -213,7 +211,7 @@ fn write_missing_session<W: fmt::Write>(
     session: &Text,
     profile: &Text,
 ) -> fmt::Result
-    ensures { WritesOnOk W.write_str_gives f.old result (codes "sso-session named `" ++ (encode_utf8_all session.now ++ (codes "` (referenced by profile `" ++ (encode_utf8_all profile.now ++ codes "`) was not found")))) f.new }
+    ensures { WritesOnOk W.write_str_gives f.old result (missing_session_text session.now profile.now) f.new }
 {
     labelled(f, "sso-session named `", session)?;
     around(f, "` (referenced by profile `", profile, "`) was not found")

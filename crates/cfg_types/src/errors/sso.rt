@@ -1,6 +1,6 @@
 use crate::document::Field;
 use crate::errors::pieces::{around, around_field};
-use cfg_values::{OutOfMemory, Text, TryCopy};
+use cfg_base::{OutOfMemory, Text, TryCopy};
 use std::alloc::Global;
 use std::error::Error;
 use std::fmt;

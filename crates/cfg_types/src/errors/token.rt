@@ -1,12 +1,12 @@
 //! Errors of bearer tokens.
 ghost use Rattle.std.specs.Prelude.{◌≡◌};
-ghost use Rattle.cfg_values.specs.Text.{characters};
+ghost use Rattle.cfg_base.specs.Text.{characters};
 ghost use Rattle.cfg_types.specs.TokenClasses.{token_class, token_class_name};
 
 use crate::errors::ProviderChainError;
 use crate::errors::profile::ProfileFileError;
 use crate::errors::sso::SsoTokenProviderError;
-use cfg_values::{OutOfMemory, Text};
+use cfg_base::{OutOfMemory, Text};
 
 /// Why a token provider was not loaded. A chain goes on after such an answer.
 #[cycle(token_error)]

@@ -1,8 +1,8 @@
 ghost use Rattle.std.specs.Prelude.{◌≡◌, IfOk, option_map};
-ghost use Rattle.cfg_values.specs.Text.{characters};
+ghost use Rattle.cfg_base.specs.Text.{characters};
 ghost use Rattle.cfg_types.specs.Headers.{header as header_of};
 
-use cfg_values::{Bytes, OutOfMemory, Seq, Text, TryCopy};
+use cfg_base::{Bytes, OutOfMemory, Seq, Text, TryCopy};
 use std::alloc::Global;
 use std::fmt;
 
@@ -69,10 +69,11 @@ impl TryCopy for HttpReply {
     }
 }
 
-// A body may hold keys, and a header a token: the text shows neither.
+// A body may hold keys, and a header a token. Which of them does, a type cannot tell, so the text shows
+// neither.
 impl fmt::Debug for HttpReply {
     ghost use Rattle.std.specs.Prelude.{Some};
-    ghost use Rattle.cfg_types.specs.Shown.{shown_http_reply};
+    ghost use Rattle.cfg_types.specs.DebugTexts.{shown_http_reply};
 
     ghost debug_output = { λ r. Some (shown_http_reply r.status) };
 

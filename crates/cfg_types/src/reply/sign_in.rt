@@ -1,6 +1,6 @@
 ghost use Rattle.std.specs.Prelude.{◌≡◌, IfOk};
 
-use cfg_values::{OutOfMemory, Text, TryCopy, copy_option};
+use cfg_base::{OutOfMemory, Text, TryCopy, copy_option};
 use std::alloc::Global;
 use std::fmt;
 
@@ -50,7 +50,7 @@ impl TryCopy for SignInToken {
 // The text depends on neither the secret nor a token.
 impl fmt::Debug for SignInToken {
     ghost use Rattle.std.specs.Prelude.{Some, codes};
-    ghost use Rattle.cfg_types.specs.Shown.{shown_client};
+    ghost use Rattle.cfg_types.specs.DebugTexts.{shown_client};
 
     ghost debug_output = { λ t. Some (shown_client (codes "SignInToken { access_key_id: \"") t.access_key_id) };
 

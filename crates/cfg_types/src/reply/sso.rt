@@ -1,6 +1,6 @@
 ghost use Rattle.std.specs.Prelude.{◌≡◌, IfOk};
 
-use cfg_values::{OutOfMemory, Text, TryCopy, copy_option};
+use cfg_base::{OutOfMemory, Text, TryCopy, copy_option};
 use std::alloc::Global;
 use std::fmt;
 
@@ -45,7 +45,7 @@ impl TryCopy for RoleCredentials {
 // The text depends on neither the secret nor the session token.
 impl fmt::Debug for RoleCredentials {
     ghost use Rattle.std.specs.Prelude.{Some};
-    ghost use Rattle.cfg_types.specs.Shown.{shown_role_credentials};
+    ghost use Rattle.cfg_types.specs.DebugTexts.{shown_role_credentials};
 
     ghost debug_output = { λ c. Some (shown_role_credentials c.expiration_ms) };
 
@@ -109,7 +109,7 @@ impl TryCopy for TokenReply {
 // The text depends on neither token.
 impl fmt::Debug for TokenReply {
     ghost use Rattle.std.specs.Prelude.{Some};
-    ghost use Rattle.cfg_types.specs.Shown.{shown_token_reply};
+    ghost use Rattle.cfg_types.specs.DebugTexts.{shown_token_reply};
 
     ghost debug_output = { λ r. Some (shown_token_reply r.expires_in) };
 

@@ -1,6 +1,6 @@
 ghost use Rattle.std.specs.Prelude.{◌≡◌, IfOk};
 
-use cfg_values::{Instant, OutOfMemory, Text, TryCopy, copy_option};
+use cfg_base::{Instant, OutOfMemory, Text, TryCopy, copy_option};
 use std::alloc::Global;
 use std::fmt;
 
@@ -20,7 +20,7 @@ pub struct StsCredentials {
 // The text depends on neither the secret nor the session token.
 impl fmt::Debug for StsCredentials {
     ghost use Rattle.std.specs.Prelude.{Some};
-    ghost use Rattle.cfg_types.specs.Shown.{shown_sts_credentials};
+    ghost use Rattle.cfg_types.specs.DebugTexts.{shown_sts_credentials};
 
     ghost debug_output = { λ c. Some (shown_sts_credentials c.access_key_id c.expiration) };
 

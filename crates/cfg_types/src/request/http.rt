@@ -1,7 +1,7 @@
 ghost use Rattle.std.specs.Prelude.{◌≡◌, IfOk};
 
 use crate::settings::Timeouts;
-use cfg_values::{Bytes, OutOfMemory, Text, TryCopy, copy_option};
+use cfg_base::{Bytes, OutOfMemory, Text, TryCopy, copy_option};
 use std::alloc::Global;
 use std::fmt;
 
@@ -46,7 +46,7 @@ impl TryCopy for Http {
 // The text does not depend on the authorization.
 impl fmt::Debug for Http {
     ghost use Rattle.std.specs.Prelude.{Some, codes};
-    ghost use Rattle.cfg_types.specs.Shown.{shown_get};
+    ghost use Rattle.cfg_types.specs.DebugTexts.{shown_get};
 
     ghost debug_output = { λ r. Some (shown_get (codes "Http { endpoint: \"") r.endpoint r.path) };
 
@@ -134,7 +134,7 @@ impl TryCopy for MetadataGet {
 // The text does not depend on the token.
 impl fmt::Debug for MetadataGet {
     ghost use Rattle.std.specs.Prelude.{Some, codes};
-    ghost use Rattle.cfg_types.specs.Shown.{shown_get};
+    ghost use Rattle.cfg_types.specs.DebugTexts.{shown_get};
 
     ghost debug_output = { λ r. Some (shown_get (codes "MetadataGet { endpoint: \"") r.endpoint r.path) };
 

@@ -1,7 +1,7 @@
 ghost use Rattle.std.specs.Prelude.{◌≡◌, IfOk};
 
 use crate::settings::CallSettings;
-use cfg_values::{OutOfMemory, Text, TryCopy};
+use cfg_base::{OutOfMemory, Text, TryCopy};
 use std::alloc::Global;
 use std::fmt;
 
@@ -48,7 +48,7 @@ impl TryCopy for CreateOAuth2Token {
 // The text depends on neither the refresh token nor the key.
 impl fmt::Debug for CreateOAuth2Token {
     ghost use Rattle.std.specs.Prelude.{Some, codes};
-    ghost use Rattle.cfg_types.specs.Shown.{shown_client};
+    ghost use Rattle.cfg_types.specs.DebugTexts.{shown_client};
 
     ghost debug_output = { λ r. Some (shown_client (codes "CreateOAuth2Token { client_id: \"") r.client_id) };
 

@@ -1,7 +1,7 @@
 ghost use Rattle.std.specs.Prelude.{◌≡◌, IfOk};
 
 use crate::settings::CallSettings;
-use cfg_values::{OutOfMemory, Text, TryCopy};
+use cfg_base::{OutOfMemory, Text, TryCopy};
 use std::alloc::Global;
 use std::fmt;
 
@@ -47,7 +47,7 @@ impl TryCopy for GetRoleCredentials {
 // The text does not depend on the access token.
 impl fmt::Debug for GetRoleCredentials {
     ghost use Rattle.std.specs.Prelude.{Some};
-    ghost use Rattle.cfg_types.specs.Shown.{shown_role_call};
+    ghost use Rattle.cfg_types.specs.DebugTexts.{shown_role_call};
 
     ghost debug_output = { λ r. Some (shown_role_call r.role_name r.account_id) };
 
@@ -103,7 +103,7 @@ impl TryCopy for CreateToken {
 // The text depends on neither the client's secret nor the refresh token.
 impl fmt::Debug for CreateToken {
     ghost use Rattle.std.specs.Prelude.{Some, codes};
-    ghost use Rattle.cfg_types.specs.Shown.{shown_client};
+    ghost use Rattle.cfg_types.specs.DebugTexts.{shown_client};
 
     ghost debug_output = { λ r. Some (shown_client (codes "CreateToken { client_id: \"") r.client_id) };
 

@@ -2,7 +2,7 @@ ghost use Rattle.std.specs.Prelude.{◌≡◌, IfOk};
 
 use crate::credentials::Credentials;
 use crate::settings::CallSettings;
-use cfg_values::{OutOfMemory, Seq, Text, TryCopy, copy_option};
+use cfg_base::{OutOfMemory, Seq, Text, TryCopy, copy_option};
 use std::alloc::Global;
 use std::fmt;
 
@@ -139,7 +139,7 @@ impl TryCopy for AssumeRoleWithWebIdentity {
 // The text does not depend on the token.
 impl fmt::Debug for AssumeRoleWithWebIdentity {
     ghost use Rattle.std.specs.Prelude.{Some};
-    ghost use Rattle.cfg_types.specs.Shown.{shown_web_identity};
+    ghost use Rattle.cfg_types.specs.DebugTexts.{shown_web_identity};
 
     ghost debug_output = { λ r. Some (shown_web_identity r.role_arn r.session_name) };
 

@@ -2,7 +2,7 @@
 ghost use Rattle.std.specs.Prelude.{◌≡◌, IfOk, is_some};
 ghost use Rattle.std.specs.Option.{option_copied};
 ghost use Rattle.std.specs.FinMap.{get};
-ghost use Rattle.cfg_values.specs.Text.{characters};
+ghost use Rattle.cfg_base.specs.Text.{characters};
 ghost use Rattle.cfg_world.specs.Script.{latest};
 ghost use Rattle.cfg_world.specs.Paths.{Finds, Lists};
 

@@ -1,6 +1,7 @@
-ghost use Rattle.std.specs.Prelude.{◌≡◌, ◌+◌, ◌≤◌, ◌<◌, min, Ok, Err, IfOk, IfErr, length};
+ghost use Rattle.std.specs.Prelude.{◌≡◌, ◌≤◌, ◌<◌, Ok, Err, IfOk, IfErr, length};
 ghost use Rattle.std.specs.Io.KnownBytes.{ReadConsumes, WriteAppends};
-ghost use Rattle.cfg_world.specs.Faults.{Rose, full_count};
+ghost use Rattle.cfg_world.specs.Faults.{Rose};
+ghost use Rattle.cfg_world.specs.Tallies.{one_more};
 
 use crate::streams::{Sink, Source, StreamFault};
 use std::io::{Read, Write};
@@ -42,7 +43,7 @@ impl<R: Read + Drop> Source for ReaderSource<R> {
         ensures counted { reader_faults self.old ≤ reader_faults self.new }
         ensures failed { result ≡ Err StreamFault.Failed → Rose (reader_faults self.old) (reader_faults self.new) }
         ensures quiet { IfOk result (λ n. reader_faults self.new ≡ reader_faults self.old) }
-        ensures once { IfErr result (λ e. reader_faults self.new ≡ min (reader_faults self.old + 1) full_count) }
+        ensures once { IfErr result (λ e. reader_faults self.new ≡ one_more (reader_faults self.old)) }
         ensures memory { IfErr result (λ e. e ≡ StreamFault.Failed) }
     {
         match self.reader.read(into) {
@@ -91,23 +92,24 @@ impl<W: Write + Drop> Sink for WriterSink<W> {
         ensures counted { writer_faults self.old ≤ writer_faults self.new }
         ensures failed { result ≡ Err StreamFault.Failed → Rose (writer_faults self.old) (writer_faults self.new) }
         ensures quiet { IfOk result (λ n. writer_faults self.new ≡ writer_faults self.old) }
-        ensures once { IfErr result (λ e. writer_faults self.new ≡ min (writer_faults self.old + 1) full_count) }
+        ensures once { IfErr result (λ e. writer_faults self.new ≡ one_more (writer_faults self.old)) }
         ensures memory { IfErr result (λ e. e ≡ StreamFault.Failed) }
     {
         match self.writer.write(bytes) {
             Ok(n) if n > 0 => Ok(n),
+            // A sink is handed at least one byte, so taking none is a fault.
             Ok(_) => Err(count(&mut self.faults)),
             Err(_) => Err(count(&mut self.faults)),
         }
     }
 }
 
-// One more fault.
+// One more fault. A count that is full stands still, and the fault is still told.
 pub(crate) fn count(faults: &mut u64) -> StreamFault
     ensures failed { result ≡ StreamFault.Failed }
     ensures later { faults.old ≤ faults.new }
     ensures rose { Rose faults.old faults.new }
-    ensures once { faults.new ≡ min (faults.old + 1) full_count }
+    ensures once { faults.new ≡ one_more faults.old }
 {
     *faults = faults.saturating_add(1);
     StreamFault::Failed

@@ -1,6 +1,7 @@
-ghost use Rattle.std.specs.Prelude.{◌≡◌, ◌↔◌, ◌≤◌, ◌<◌, ◌+◌, min, [], Some, Err, IfOk, IfErr, IsTrue, length, drop, vec_len};
+ghost use Rattle.std.specs.Prelude.{◌≡◌, ◌↔◌, ◌≤◌, ◌<◌, min, [], Some, Err, IfOk, IfErr, IsTrue, length, drop, vec_len};
 ghost use Rattle.std.specs.Io.KnownBytes.{ReadConsumes, WriteAppends};
-ghost use Rattle.cfg_world.specs.Faults.{Rose, full_count};
+ghost use Rattle.cfg_world.specs.Faults.{Rose};
+ghost use Rattle.cfg_world.specs.Tallies.{one_more};
 
 use crate::streams::adapters::count;
 use crate::streams::{Sink, Source, StreamFault};
@@ -55,7 +56,7 @@ impl Source for MemorySource {
         ensures counted { source_faults self.old ≤ source_faults self.new }
         ensures failed { result ≡ Err StreamFault.Failed → Rose (source_faults self.old) (source_faults self.new) }
         ensures quiet { IfOk result (λ n. source_faults self.new ≡ source_faults self.old) }
-        ensures once { result ≡ Err StreamFault.Failed → source_faults self.new ≡ min (source_faults self.old + 1) full_count }
+        ensures once { result ≡ Err StreamFault.Failed → source_faults self.new ≡ one_more (source_faults self.old) }
         ensures rest { IfOk result (λ n. drop n into.new ≡ drop n into.old) }
         ensures untouched { IfErr result (λ e. into.new ≡ into.old) }
         ensures failing { result ≡ Err StreamFault.Failed ↔ IsTrue (fails_next (source_pieces self.old)) }
@@ -130,7 +131,7 @@ impl Sink for MemorySink {
         ensures counted { sink_faults self.old ≤ sink_faults self.new }
         ensures failed { result ≡ Err StreamFault.Failed → Rose (sink_faults self.old) (sink_faults self.new) }
         ensures quiet { IfOk result (λ n. sink_faults self.new ≡ sink_faults self.old) }
-        ensures once { result ≡ Err StreamFault.Failed → sink_faults self.new ≡ min (sink_faults self.old + 1) full_count }
+        ensures once { result ≡ Err StreamFault.Failed → sink_faults self.new ≡ one_more (sink_faults self.old) }
         ensures memory { result ≡ Err StreamFault.OutOfMemory → sink_faults self.new ≡ sink_faults self.old }
         ensures failing { result ≡ Err StreamFault.Failed ↔ IsTrue (fails_next (sink_pieces self.old)) }
         ensures piece { IfOk result (λ n. n ≡ min (length bytes.now) (sink_pieces self.old).most) }

@@ -29,7 +29,7 @@ fn sent(alloc: Global, limit: u32, timeouts: bool) -> Result<(bool, usize), OutO
     let devices = ScriptDevices::new(alloc, DeviceLists::empty(alloc))?;
     let mut world = World::new(alloc, devices);
     let kind = ReplyKind::MetadataText;
-    let last = exchange(alloc, &request, limit, kind, &classifier, &mut world);
+    let last = exchange(alloc, &mut world, &request, limit, kind, &classifier);
     Ok((last.is_ok(), world.journal().len()))
 }
 

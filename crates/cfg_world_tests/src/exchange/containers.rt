@@ -3,7 +3,7 @@ ghost use Rattle.cfg_world.specs.Script.{AllFit};
 ghost use Rattle.cfg_script.specs.Script.{plain};
 ghost use Rattle.cfg_script.specs.Devices.{lists_of};
 
-use cfg_exchange::{ContainerSettings, container_credentials};
+use cfg_exchange::steps::{ContainerSettings, container_credentials};
 use cfg_script::{Script, read_script};
 use cfg_types::{Env, OutOfMemory};
 use cfg_world::{DeviceLists, ScriptDevices, World};

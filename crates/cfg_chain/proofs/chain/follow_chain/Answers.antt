@@ -1,6 +1,6 @@
 -- A member stopped, answered, was passed over, or was passed over and memory ran out.
 use Rattle.std.proofs.Common.{◌∙◌}
-use Rattle.cfg_keeping.proofs.ChainSteps.{chain_answers, chain_passed, chain_breaks_later}
+use Rattle.cfg_kept.proofs.ChainSteps.{chain_answers, chain_passed, chain_breaks_later}
 use Rattle.std.proofs.lemmas.Result.{err_from_is_err_and}
 use Rattle.cfg_chain.proofs.ChainHalts.{chain_halts}
 use Rattle.cfg_chain.proofs.chain.follow_chain.Goals as goal

@@ -1,4 +1,4 @@
-use Rattle.cfg_keeping.proofs.ChainParts.{chain_parts, parts_chain}
+use Rattle.cfg_kept.proofs.ChainParts.{chain_parts, parts_chain}
 use Rattle.cfg_chain.proofs.laws.a_chain_is_its_members.Goals as goal
 
 pub returns : goal.returns

@@ -1,4 +1,4 @@
-use Rattle.cfg_keeping.proofs.ChainParts.{chain_begun, begun_chain}
+use Rattle.cfg_kept.proofs.ChainParts.{chain_begun, begun_chain}
 use Rattle.cfg_chain.proofs.laws.an_interrupted_chain_is_its_members.Goals as goal
 
 pub returns : goal.returns

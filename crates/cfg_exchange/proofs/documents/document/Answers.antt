@@ -1,6 +1,6 @@
 -- Memory did not run out, so the answer is what the document says.
 use Rattle.std.proofs.Common.{rules, ◌≡◌, false}
-use Rattle.cfg_exchange.specs.Documents.{is_memory}
+use Rattle.cfg_json.specs.Documents.{is_memory}
 use Rattle.cfg_exchange.proofs.Said.{says_unless_memory}
 use Rattle.cfg_exchange.proofs.documents.document.Goals as goal
 

@@ -1,6 +1,6 @@
 use Rattle.std.proofs.Common.{rules}
 use Rattle.std.proofs.lemmas.Str.{chars_from_encodes}
-use Rattle.cfg_values.proofs.TextLemmas.{characters-chars}
+use Rattle.cfg_base.proofs.TextLemmas.{characters-chars}
 use Rattle.cfg_json.proofs.strings.characters_of.Goals as goal
 
 pub returns : goal.returns

@@ -1,5 +1,5 @@
 use Rattle.std.proofs.Common.{◌≡◌, length, string_bytes}
-use Rattle.cfg_values.specs.Text.{characters}
+use Rattle.cfg_base.specs.Text.{characters}
 use Rattle.cfg_json.specs.Reading.{content_of}
 use Rattle.cfg_json.proofs.StringSteps.{text_front}
 use Rattle.cfg_json.proofs.strings.unescaped.Given as goal

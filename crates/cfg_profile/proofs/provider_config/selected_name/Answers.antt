@@ -1,7 +1,7 @@
 -- The environment's name as bytes, where the configuration has none.
 use Rattle.std.proofs.Common.{◌≡◌, None, option_map, Ok, Err, ap, sym, ◌∙◌, refl}
 use Rattle.std.specs.Prelude.{codes}
-use Rattle.cfg_values.specs.Text.{characters}
+use Rattle.cfg_base.specs.Text.{characters}
 use Rattle.cfg_types.specs.Environment.{variable}
 use Rattle.cfg_profile.proofs.provider_config.selected_name.Goals as goal
 

@@ -1,6 +1,6 @@
 -- The texts of the names so far.
 use Rattle.std.proofs.Common.{◌≡◌, map, take}
-use Rattle.cfg_values.specs.Text.{characters}
+use Rattle.cfg_base.specs.Text.{characters}
 use Rattle.cfg_profile.proofs.resolve.credential_loop.Given as goal
 
 abbrev pub invariant-loop-name : goal.invariant-loop-name

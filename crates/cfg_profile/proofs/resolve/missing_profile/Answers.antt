@@ -1,6 +1,6 @@
 -- The message's text and characters.
 use Rattle.std.proofs.Common.{ap, ◌∙◌}
-use Rattle.cfg_values.specs.Text.{characters}
+use Rattle.cfg_base.specs.Text.{characters}
 use Rattle.cfg_types.specs.declared.errors.ProfileFileError.TheVariants.{MissingProfile}
 use Rattle.cfg_profile.specs.Plans.{missing_profile}
 use Rattle.cfg_profile.proofs.resolve.missing_profile.Goals as goal

@@ -1,6 +1,6 @@
 -- The sections so far.
 use Rattle.std.proofs.Common.{◌≡◌, map}
-use Rattle.cfg_values.specs.Entries.{each_set}
+use Rattle.cfg_base.specs.Entries.{each_set}
 use Rattle.cfg_profile.specs.Sections.{named_section}
 use Rattle.cfg_profile.proofs.sections.by_name.Given as goal
 

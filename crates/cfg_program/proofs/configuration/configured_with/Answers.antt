@@ -1,6 +1,6 @@
 -- The name comes last.
 use Rattle.std.proofs.Common.{◌∙◌, ap, sym, map, option_map, string_bytes, Some}
-use Rattle.cfg_values.specs.TextMap.{named}
+use Rattle.cfg_base.specs.TextMap.{named}
 use Rattle.cfg_program.proofs.Configuring.{named_last}
 use Rattle.cfg_program.proofs.configuration.configured_with.Goals as goal
 

@@ -5,7 +5,7 @@ use Rattle.cfg_profile.specs.Configuration.{Configuration}
 use Rattle.cfg_script.specs.Script.{plain}
 use Rattle.cfg_program.specs.Calls.{IsFresh, configured, configuration_of}
 use Rattle.cfg_program.specs.Tokens.{TellsToken}
-use Rattle.cfg_program.proofs.GivenChains.{still_fresh}
+use Rattle.cfg_program.proofs.FreshDevices.{still_fresh}
 use Rattle.cfg_program.proofs.OneRegion.{if_ok}
 use Rattle.cfg_program.proofs.OneToken.{tells_since}
 use Rattle.cfg_program.proofs.token.find_token.Goals as goal

@@ -1,5 +1,5 @@
 -- The region that is given is the chain's, and nothing is asked for it.
-use Rattle.cfg_bearer.proofs.GivenRegions.{given_chain, given_chain_grows}
+use Rattle.cfg_token_chain.proofs.GivenRegions.{given_chain, given_chain_grows}
 use Rattle.cfg_program.proofs.token.token_chain.Goals as goal
 
 pub returns-clause-chain : goal.returns-clause-chain

@@ -1,6 +1,6 @@
 -- The base, and then how its errors are told.
-use Rattle.cfg_keeping.specs.KeptInquiry.{Gives}
-use Rattle.cfg_keeping.proofs.HoldingSteps.{holds_ends_then, holds_said}
+use Rattle.cfg_kept.specs.KeptInquiry.{Gives}
+use Rattle.cfg_kept.proofs.HoldingSteps.{holds_ends_then, holds_said}
 use Rattle.cfg_chain.specs.profile.Bases.{in_base, based}
 use Rattle.cfg_chain.proofs.profile.base.follow_based.Goals as goal
 

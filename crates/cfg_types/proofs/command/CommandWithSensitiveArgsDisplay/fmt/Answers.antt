@@ -1,7 +1,7 @@
 -- The whole text where there is no white space, else what stands before it and the note.
 use Rattle.std.proofs.Common.{codes, refl}
 use Rattle.std.proofs.Output.{writes_in_calls_append}
-use Rattle.cfg_values.proofs.StyledWrites.{styled_append, styled_is}
+use Rattle.cfg_base.proofs.StyledWrites.{styled_append, styled_is}
 use Rattle.cfg_types.proofs.Commands.{whole_written, part_written}
 use Rattle.cfg_types.proofs.command.CommandWithSensitiveArgsDisplay.fmt.Goals as goal
 

@@ -1,7 +1,7 @@
 -- The words, and then the number.
 use Rattle.std.proofs.Common.{◌≡◌, ap, sym, ◌∙◌, ◌++◌, codes, refl, rules}
 use Rattle.std.specs.Fmt.{signed_decimal}
-use Rattle.cfg_values.proofs.StyledWrites.{styled_append, styled_is}
+use Rattle.cfg_base.proofs.StyledWrites.{styled_append, styled_is}
 use Rattle.cfg_types.specs.Field.{field_fault_text}
 use Rattle.cfg_types.proofs.document.FieldFaultDisplay.fmt.Goals as goal
 

@@ -1,6 +1,6 @@
 -- The pieces in their order.
 use Rattle.std.proofs.Common.{ap, sym, ◌∙◌, ◌++◌, codes, refl}
-use Rattle.cfg_values.proofs.StyledWrites.{styled_append, styled_is}
+use Rattle.cfg_base.proofs.StyledWrites.{styled_append, styled_is}
 use Rattle.cfg_types.specs.Field.{field_fault_text}
 use Rattle.cfg_types.specs.DocumentText.{invalid_credentials_text}
 use Rattle.cfg_types.proofs.document.InvalidJsonCredentialsDisplay.fmt.Goals as goal

@@ -2,9 +2,9 @@
 use Rattle.std.proofs.Common.{ap, sym, ◌∙◌, map, string_bytes}
 use Rattle.std.specs.FinMap.{insert}
 use Rattle.std.proofs.lemmas.List.{map_push}
-use Rattle.cfg_values.specs.TextMap.{named}
-use Rattle.cfg_values.specs.Entries.{each_set}
-use Rattle.cfg_values.proofs.MapLookups.{each_set-push}
+use Rattle.cfg_base.specs.TextMap.{named}
+use Rattle.cfg_base.specs.Entries.{each_set}
+use Rattle.cfg_base.proofs.MapLookups.{each_set-push}
 use Rattle.cfg_types.proofs.environment.Env.new.Goals as goal
 
 pub loop-name-preserved : goal.loop-name-preserved

@@ -1,7 +1,7 @@
 -- The words, and then the number.
 use Rattle.std.proofs.Common.{◌≡◌, ap, ◌++◌, codes, refl, rules}
 use Rattle.std.specs.Fmt.{decimal}
-use Rattle.cfg_values.proofs.StyledWrites.{styled_append, styled_is}
+use Rattle.cfg_base.proofs.StyledWrites.{styled_append, styled_is}
 use Rattle.cfg_types.proofs.errors.causes.write_status.Goals as goal
 
 pub returns-clause-styled : goal.returns-clause-styled

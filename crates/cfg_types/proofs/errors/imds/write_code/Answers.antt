@@ -1,7 +1,7 @@
 -- The words, and the number between them.
 use Rattle.std.proofs.Common.{◌≡◌, ap, ◌++◌, codes, refl, rules}
 use Rattle.std.specs.Fmt.{decimal}
-use Rattle.cfg_values.proofs.StyledWrites.{styled_append, styled_is}
+use Rattle.cfg_base.proofs.StyledWrites.{styled_append, styled_is}
 use Rattle.cfg_types.proofs.errors.imds.write_code.Goals as goal
 
 pub returns-clause-styled : goal.returns-clause-styled

@@ -1,7 +1,7 @@
 -- Each text behind what stands before it.
 use Rattle.std.proofs.Common.{append_assoc, ◌++◌, refl}
 use Rattle.std.specs.Str.{encode_utf8_all}
-use Rattle.cfg_values.proofs.StyledWrites.{styled_append, styled_is}
+use Rattle.cfg_base.proofs.StyledWrites.{styled_append, styled_is}
 use Rattle.cfg_types.proofs.errors.pieces.around_before.Goals as goal
 
 pub returns-clause-styled : goal.returns-clause-styled

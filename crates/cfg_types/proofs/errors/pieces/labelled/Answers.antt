@@ -1,6 +1,6 @@
 -- The label, and then the text.
 use Rattle.std.proofs.Common.{ap, ◌++◌, refl}
-use Rattle.cfg_values.proofs.StyledWrites.{styled_append, styled_is}
+use Rattle.cfg_base.proofs.StyledWrites.{styled_append, styled_is}
 use Rattle.cfg_types.proofs.errors.pieces.labelled.Goals as goal
 
 pub returns-clause-styled : goal.returns-clause-styled

@@ -1,7 +1,7 @@
 -- The failures that are shown are counted.
 use Rattle.std.proofs.Common.{arith, [], ◌∷◌}
 use Rattle.std.proofs.lemmas.Grind.{common_steps}
-use Rattle.cfg_world.proofs.Shown.{shown_more}
+use Rattle.cfg_world.proofs.ShownFailures.{shown_more}
 use Rattle.cfg_world.proofs.answers.AnswersAsking.put.Goals as goal
 
 pub returns-clause-counted : goal.returns-clause-counted

@@ -1,6 +1,6 @@
 -- The answer is the one of its place, and a failure is counted.
 use Rattle.std.proofs.Common.{refl, Some, None}
-use Rattle.cfg_values.specs.Text.{characters}
+use Rattle.cfg_base.specs.Text.{characters}
 use Rattle.cfg_world.specs.declared.ask.Answer.TheVariants as answer
 use Rattle.cfg_world.specs.Handed.{or_io}
 use Rattle.cfg_world.proofs.HandedOver.{asked_kept, asked_failed, given_by}

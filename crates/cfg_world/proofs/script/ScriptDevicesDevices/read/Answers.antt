@@ -1,7 +1,7 @@
 -- A reading answers what the path holds.
 use Rattle.std.proofs.Common.{ap, refl, sym, ◌∙◌, subst}
 use Rattle.cfg_types.specs.declared.reply.FailKind.TheVariants.{Io}
-use Rattle.cfg_values.specs.Text.{characters}
+use Rattle.cfg_base.specs.Text.{characters}
 use Rattle.cfg_world.specs.declared.ask.Answer.TheVariants as answer
 use Rattle.cfg_world.specs.Script.{Script, AllFit, read_answer, contents_at}
 use Rattle.cfg_world.proofs.Scripted.{asked, nothing_counted, files_counted}

@@ -1,7 +1,7 @@
 -- One entry more.
 use Rattle.std.proofs.Common.{ap, sym, ◌∙◌, subst, ℕ, [], string_bytes}
-use Rattle.cfg_values.specs.Text.{characters}
-use Rattle.cfg_values.specs.TextMap.{Named}
+use Rattle.cfg_base.specs.Text.{characters}
+use Rattle.cfg_base.specs.TextMap.{Named}
 use Rattle.cfg_world.specs.Paths.{Finds}
 use Rattle.cfg_world.proofs.PathIndex.{finds_none, finds_next}
 use Rattle.cfg_world.proofs.script.paths.indexed.Goals as goal

@@ -1,7 +1,7 @@
 -- The index finds the last entry of a path.
 use Rattle.std.proofs.Common.{ap, ◌∙◌}
 use Rattle.cfg_world.specs.Paths.{held_at}
-use Rattle.cfg_values.proofs.TextLemmas.{encodes-chars}
+use Rattle.cfg_base.proofs.TextLemmas.{encodes-chars}
 use Rattle.cfg_world.proofs.PathIndex.{held_there}
 use Rattle.cfg_world.proofs.script.paths.last_under.Goals as goal
 

@@ -1,7 +1,7 @@
 -- One path more.
 use Rattle.std.proofs.Common.{ap, sym, ◌∙◌, subst, [], string_bytes}
-use Rattle.cfg_values.specs.Text.{characters}
-use Rattle.cfg_values.specs.TextMap.{Named}
+use Rattle.cfg_base.specs.Text.{characters}
+use Rattle.cfg_base.specs.TextMap.{Named}
 use Rattle.cfg_world.specs.Paths.{Lists}
 use Rattle.cfg_world.proofs.PathIndex.{lists_none, lists_next}
 use Rattle.cfg_world.proofs.script.paths.named.Goals as goal

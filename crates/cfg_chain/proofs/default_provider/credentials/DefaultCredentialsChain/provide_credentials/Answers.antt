@@ -1,18 +1,18 @@
 -- The world's journal gained the parts of the chain, or the beginning of them.
-use Rattle.std.proofs.Common.{inl, inr, ap, ◌∙◌, map, option_map}
-use Rattle.cfg_imds.specs.Clients.{client_rules}
-use Rattle.cfg_keeping.specs.FoundValues.{bare}
-use Rattle.cfg_keeping.proofs.Told.{run_begins}
-use Rattle.cfg_exchange.proofs.Checks.{no_question, not_stopped}
-use Rattle.cfg_chain.specs.Settings.{Lent, lends}
-use Rattle.cfg_chain.specs.Sources.{named_sources}
+use Rattle.std.proofs.Common.{inl, inr, ap, ◌∙◌, map}
+use Rattle.cfg_kept.specs.FoundValues.{bare}
+use Rattle.cfg_kept.proofs.Told.{run_begins}
+use Rattle.cfg_kept.proofs.OneHolding.{no_question, broken}
+use Rattle.cfg_exchange.proofs.Checks.{not_stopped}
+use Rattle.cfg_chain.specs.Settings.{ChainSetting}
+use Rattle.cfg_chain.specs.Views.{chain_of}
 use Rattle.cfg_chain.proofs.WhoAnswered.{tells_who}
-use Rattle.cfg_chain.proofs.Calls.{is_call_from, begins_from, broken, some_is}
+use Rattle.cfg_chain.proofs.Calls.{is_call_from, begins_from, some_is}
 use Rattle.cfg_chain.proofs.default_provider.credentials.DefaultCredentialsChain.provide_credentials.Goals as goal
 
 pub returns-in-Ok-clause-provides : goal.returns-in-Ok-clause-provides
 returns-in-Ok-clause-provides g c = λ other.
-    let lent : Lent = lends (named_sources (λ z. (goal.ProvideCredentials-dyn g z).value z.1) c.args.sources.now) (option_map (λ x. client_rules (λ z. (goal.ClassifyRetry-dyn g z).repeated z.1) x.now) c.args.imds_client) in
+    let over : ChainSetting = chain_of (λ z. (goal.ProvideCredentials-dyn g z).value z.1) (λ z. (goal.ClassifyRetry-dyn g z).repeated z.1) c.args.self.now in
     elim c.in-Ok.ensures.follows [
       | inl n ↦ absurd (not_stopped _ _ n.0)
       | inr h ↦
@@ -20,16 +20,16 @@ returns-in-Ok-clause-provides g c = λ other.
           record {
             part = e.part;
             grows = record { journal = e.grows; fits = e.fits; same = e.same; counted = e.counted; stands = e.stands };
-            call = is_call_from c.args.self.now lent h.0 _ _ _ _ e.found _ e.part c.in-Ok.outcome h.1 (ap (λ items. map bare items) c.clear_found.ensures.found) c.clear_found.ensures.kept e.finds e.runs;
+            call = is_call_from over h.0 _ _ _ _ e.found _ e.part c.in-Ok.outcome h.1 (ap (λ items. map bare items) c.clear_found.ensures.found) c.clear_found.ensures.kept e.finds e.runs;
           }
     ]
 
 pub returns-in-Ok-clause-tells : goal.returns-in-Ok-clause-tells
-returns-in-Ok-clause-tells g c = λ other. tells_who _ _ _ _ _ _ _ _ _ (returns-in-Ok-clause-provides g c other)
+returns-in-Ok-clause-tells g c = λ other. tells_who _ _ _ _ _ _ _ _ (returns-in-Ok-clause-provides g c other)
 
 pub returns-in-Ok-clause-stays : goal.returns-in-Ok-clause-stays
 returns-in-Ok-clause-stays g c = λ no_memory.
-    let lent : Lent = lends (named_sources (λ z. (goal.ProvideCredentials-dyn g z).value z.1) c.args.sources.now) (option_map (λ x. client_rules (λ z. (goal.ClassifyRetry-dyn g z).repeated z.1) x.now) c.args.imds_client) in
+    let over : ChainSetting = chain_of (λ z. (goal.ProvideCredentials-dyn g z).value z.1) (λ z. (goal.ClassifyRetry-dyn g z).repeated z.1) c.args.self.now in
     elim c.in-Ok.ensures.follows [
       | inl n ↦ absurd (not_stopped _ _ n.0)
       | inr h ↦
@@ -39,13 +39,13 @@ returns-in-Ok-clause-stays g c = λ no_memory.
             names = h.1;
             part = e.part;
             stays = record { journal = e.grows; fits = e.fits; same = e.same; counted = e.counted };
-            begins = begins_from c.args.self.now lent h.0 _ _ _ _ e.found _ e.part (ap (λ items. map bare items) c.clear_found.ensures.found) c.clear_found.ensures.kept e.finds (run_begins _ _ _ e.found e.part c.in-Ok.outcome e.runs);
+            begins = begins_from over h.0 _ _ _ _ e.found _ e.part (ap (λ items. map bare items) c.clear_found.ensures.found) c.clear_found.ensures.kept e.finds (run_begins _ _ _ e.found e.part c.in-Ok.outcome e.runs);
           })
     ]
 
 pub returns-in-Err-clause-stays : goal.returns-in-Err-clause-stays
 returns-in-Err-clause-stays g c = λ no_memory.
-    let lent : Lent = lends (named_sources (λ z. (goal.ProvideCredentials-dyn g z).value z.1) c.args.sources.now) (option_map (λ x. client_rules (λ z. (goal.ClassifyRetry-dyn g z).repeated z.1) x.now) c.args.imds_client) in
+    let over : ChainSetting = chain_of (λ z. (goal.ProvideCredentials-dyn g z).value z.1) (λ z. (goal.ClassifyRetry-dyn g z).repeated z.1) c.args.self.now in
     elim c.in-Err.ensures.follows [
       | inl n ↦ inl (n.1, some_is _ _ (ap (λ h. h.kept) n.2) ∙ c.clear_found.ensures.kept)
       | inr h ↦
@@ -55,6 +55,6 @@ returns-in-Err-clause-stays g c = λ no_memory.
             names = h.1;
             part = e.part;
             stays = record { journal = e.grows; fits = e.fits; same = e.same; counted = e.counted };
-            begins = begins_from c.args.self.now lent h.0 _ _ _ _ e.found _ e.part (ap (λ items. map bare items) c.clear_found.ensures.found) c.clear_found.ensures.kept e.finds e.begins;
+            begins = begins_from over h.0 _ _ _ _ e.found _ e.part (ap (λ items. map bare items) c.clear_found.ensures.found) c.clear_found.ensures.kept e.finds e.begins;
           })
     ]

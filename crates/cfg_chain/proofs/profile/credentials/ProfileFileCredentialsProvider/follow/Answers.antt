@@ -1,24 +1,13 @@
--- The services are those that the configuration names, with the client that was lent.
-use Rattle.std.proofs.Common.{inr, ap, subst, ◌∙◌}
-use Rattle.cfg_exchange.specs.Containers.{IsContainerUri}
-use Rattle.cfg_imds.specs.Setups.{configured, IsClient}
-use Rattle.cfg_imds.specs.Clients.{client_rules}
-use Rattle.cfg_profile.specs.Configuration.{Configuration}
+-- The services are those that the configuration names.
+use Rattle.std.proofs.Common.{refl, ap}
+use Rattle.cfg_chain.specs.Settings.{ChainSetting}
+use Rattle.cfg_chain.specs.Views.{named_sources, provider_of}
+use Rattle.cfg_chain.proofs.ProfileCalls.{follows_alone}
 use Rattle.cfg_chain.proofs.profile.credentials.ProfileFileCredentialsProvider.follow.Goals as goal
 
 pub returns-clause-follows : goal.returns-clause-follows
 returns-clause-follows g c =
-    let own = client_rules (λ z. (goal.ClassifyRetry-dyn g z).repeated z.1) c.in_ok-own.own in
-    inr (
-      record {
-        container = c.in_ok-container.container;
-        client = client_rules (λ z. (goal.ClassifyRetry-dyn g z).repeated z.1) c.lent_or.result.now;
-        named_client = own;
-      },
-      record {
-        container = subst (λ env. IsContainerUri env c.in_ok-container.container) (c.env.ensures ∙ ap (λ (conf : Configuration). conf.environment) c.self.view_is) c.in_ok-container.ensures;
-        named_client = subst (λ (conf : Configuration). IsClient (configured conf) own) c.self.view_is c.in_ok-own.ensures;
-        client = c.lent_or.ensures;
-      },
-      c.follow_plan.ensures.follows,
-    )
+    let over : ChainSetting = provider_of (λ z. (goal.ProvideCredentials-dyn g z).value z.1) c.args.self.now in
+    follows_alone g.A.Asking over _ _ _ _ _ _ _ _ _ _ refl c.config-config.ensures c.env.ensures c.in_ok-container.ensures c.in_ok-own.ensures
+    c.config-config.ensures (ap (named_sources (λ z. (goal.ProvideCredentials-dyn g z).value z.1)) c.as_slice.ensures.value) refl refl refl
+    c.follow_profile.ensures.follows

@@ -1,18 +1,18 @@
 -- The world's journal gained the part of the profile, or the beginning of it.
-use Rattle.std.proofs.Common.{inl, inr, ap, ◌∙◌, map, option_map}
-use Rattle.cfg_imds.specs.Clients.{client_rules}
-use Rattle.cfg_keeping.specs.FoundValues.{bare}
-use Rattle.cfg_keeping.proofs.Told.{run_begins}
-use Rattle.cfg_exchange.proofs.Checks.{no_question, not_stopped}
-use Rattle.cfg_chain.specs.Settings.{Lent, lends}
-use Rattle.cfg_chain.specs.Sources.{named_sources}
-use Rattle.cfg_chain.proofs.Calls.{broken, some_is}
+use Rattle.std.proofs.Common.{inl, inr, ap, ◌∙◌, map}
+use Rattle.cfg_kept.specs.FoundValues.{bare}
+use Rattle.cfg_kept.proofs.Told.{run_begins}
+use Rattle.cfg_kept.proofs.OneHolding.{no_question, broken}
+use Rattle.cfg_exchange.proofs.Checks.{not_stopped}
+use Rattle.cfg_chain.specs.Settings.{ChainSetting}
+use Rattle.cfg_chain.specs.Views.{provider_of}
+use Rattle.cfg_chain.proofs.Calls.{some_is}
 use Rattle.cfg_chain.proofs.ProfileCalls.{profile_call_from, profile_begins_from}
 use Rattle.cfg_chain.proofs.profile.credentials.ProfileFileCredentialsProvider.provide_credentials.Goals as goal
 
 pub returns-in-Ok-clause-provides : goal.returns-in-Ok-clause-provides
 returns-in-Ok-clause-provides g c = λ other.
-    let lent : Lent = lends (named_sources (λ z. (goal.ProvideCredentials-dyn g z).value z.1) c.args.sources.now) (option_map (λ x. client_rules (λ z. (goal.ClassifyRetry-dyn g z).repeated z.1) x.now) c.args.imds_client) in
+    let over : ChainSetting = provider_of (λ z. (goal.ProvideCredentials-dyn g z).value z.1) c.args.self.now in
     elim c.in-Ok.ensures.follows [
       | inl n ↦ absurd (not_stopped _ _ n.0)
       | inr h ↦
@@ -20,13 +20,13 @@ returns-in-Ok-clause-provides g c = λ other.
           record {
             part = e.part;
             grows = record { journal = e.grows; fits = e.fits; same = e.same; counted = e.counted; stands = e.stands };
-            call = profile_call_from c.args.self.now lent h.0 _ _ _ _ e.found _ e.part c.in-Ok.outcome h.1 (ap (λ items. map bare items) c.clear_found.ensures.found) c.clear_found.ensures.kept e.finds e.runs;
+            call = profile_call_from over h.0 _ _ _ _ e.found _ e.part c.in-Ok.outcome h.1 (ap (λ items. map bare items) c.clear_found.ensures.found) c.clear_found.ensures.kept e.finds e.runs;
           }
     ]
 
 pub returns-in-Ok-clause-stays : goal.returns-in-Ok-clause-stays
 returns-in-Ok-clause-stays g c = λ no_memory.
-    let lent : Lent = lends (named_sources (λ z. (goal.ProvideCredentials-dyn g z).value z.1) c.args.sources.now) (option_map (λ x. client_rules (λ z. (goal.ClassifyRetry-dyn g z).repeated z.1) x.now) c.args.imds_client) in
+    let over : ChainSetting = provider_of (λ z. (goal.ProvideCredentials-dyn g z).value z.1) c.args.self.now in
     elim c.in-Ok.ensures.follows [
       | inl n ↦ absurd (not_stopped _ _ n.0)
       | inr h ↦
@@ -36,13 +36,13 @@ returns-in-Ok-clause-stays g c = λ no_memory.
             names = h.1;
             part = e.part;
             stays = record { journal = e.grows; fits = e.fits; same = e.same; counted = e.counted };
-            begins = profile_begins_from c.args.self.now lent h.0 _ _ _ _ e.found _ e.part (ap (λ items. map bare items) c.clear_found.ensures.found) c.clear_found.ensures.kept e.finds (run_begins _ _ _ e.found e.part c.in-Ok.outcome e.runs);
+            begins = profile_begins_from over h.0 _ _ _ _ e.found _ e.part (ap (λ items. map bare items) c.clear_found.ensures.found) c.clear_found.ensures.kept e.finds (run_begins _ _ _ e.found e.part c.in-Ok.outcome e.runs);
           })
     ]
 
 pub returns-in-Err-clause-stays : goal.returns-in-Err-clause-stays
 returns-in-Err-clause-stays g c = λ no_memory.
-    let lent : Lent = lends (named_sources (λ z. (goal.ProvideCredentials-dyn g z).value z.1) c.args.sources.now) (option_map (λ x. client_rules (λ z. (goal.ClassifyRetry-dyn g z).repeated z.1) x.now) c.args.imds_client) in
+    let over : ChainSetting = provider_of (λ z. (goal.ProvideCredentials-dyn g z).value z.1) c.args.self.now in
     elim c.in-Err.ensures.follows [
       | inl n ↦ inl (n.1, some_is _ _ (ap (λ h. h.kept) n.2) ∙ c.clear_found.ensures.kept)
       | inr h ↦
@@ -52,6 +52,6 @@ returns-in-Err-clause-stays g c = λ no_memory.
             names = h.1;
             part = e.part;
             stays = record { journal = e.grows; fits = e.fits; same = e.same; counted = e.counted };
-            begins = profile_begins_from c.args.self.now lent h.0 _ _ _ _ e.found _ e.part (ap (λ items. map bare items) c.clear_found.ensures.found) c.clear_found.ensures.kept e.finds e.begins;
+            begins = profile_begins_from over h.0 _ _ _ _ e.found _ e.part (ap (λ items. map bare items) c.clear_found.ensures.found) c.clear_found.ensures.kept e.finds e.begins;
           })
     ]

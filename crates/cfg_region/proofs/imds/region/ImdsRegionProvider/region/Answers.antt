@@ -1,13 +1,11 @@
--- The journal gained what was asked for the region.
-use Rattle.std.proofs.Common.{sym}
-use Rattle.cfg_region.proofs.Loads.{off_asks, got_asks, got_breaks}
+-- Memory ran out before anything was asked.
+use Rattle.std.proofs.Common.{inl, refl}
+use Rattle.cfg_imds.proofs.LeftKept.{left_alone, on_err}
+use Rattle.cfg_region.proofs.Loads.{nothing_asked}
 use Rattle.cfg_region.proofs.imds.region.ImdsRegionProvider.region.Goals as goal
 
-pub returns-then-is_disabled-clause-asks : goal.returns-then-is_disabled-clause-asks
-returns-then-is_disabled-clause-asks g c = off_asks _ _ _ _ (sym c.if-is_disabled.ensures)
+pub returns-in_err-endpoint-in-Own-clause-breaks : goal.returns-in_err-endpoint-in-Own-clause-breaks
+returns-in_err-endpoint-in-Own-clause-breaks g c = on_err c.from_residual.result _ (nothing_asked _ _)
 
-pub returns-clause-asks : goal.returns-clause-asks
-returns-clause-asks g c = got_asks _ _ _ _ _ _ _ c.get-got.result _ c.region_got.result (sym c.if-is_disabled.ensures) c.get-got.ensures.gets c.region_got.ensures
-
-pub returns-clause-breaks : goal.returns-clause-breaks
-returns-clause-breaks g c = got_breaks _ _ _ _ _ _ _ c.get-got.result _ c.region_got.result (sym c.if-is_disabled.ensures) c.get-got.ensures.gets c.get-got.ensures.memory
+pub returns-in_err-endpoint-in-Own-clause-left : goal.returns-in_err-endpoint-in-Own-clause-left
+returns-in_err-endpoint-in-Own-clause-left g c = on_err c.from_residual.result _ (inl (left_alone _ _ _ _ _ refl))

@@ -1,7 +1,7 @@
 -- No writes, and an index of nothing.
 use Rattle.std.proofs.Common.{sym, subst, List, ℕ}
 use Rattle.std.specs.FinMap.{empty}
-use Rattle.cfg_values.specs.TextMap.{Named}
+use Rattle.cfg_base.specs.TextMap.{Named}
 use Rattle.cfg_world.specs.Paths.{Finds}
 use Rattle.cfg_world.proofs.PathIndex.{finds_none}
 use Rattle.cfg_world.proofs.script.writes.Writes.new.Goals as goal

@@ -2,9 +2,9 @@
 use Rattle.std.proofs.Common.{◌≡◌, rules, length, ap, sym, ◌∙◌, subst, List, ℕ, string_bytes}
 use Rattle.std.specs.FinMap.{insert}
 use Rattle.std.specs.Str.{encode_utf8_all}
-use Rattle.cfg_values.specs.Text.{characters}
-use Rattle.cfg_values.specs.TextMap.{Named}
-use Rattle.cfg_values.proofs.TextLemmas.{encodes-chars}
+use Rattle.cfg_base.specs.Text.{characters}
+use Rattle.cfg_base.specs.TextMap.{Named}
+use Rattle.cfg_base.proofs.TextLemmas.{encodes-chars}
 use Rattle.cfg_world.specs.Paths.{Finds}
 use Rattle.cfg_world.proofs.PathIndex.{finds_more}
 use Rattle.cfg_world.proofs.script.writes.Writes.push.Goals as goal

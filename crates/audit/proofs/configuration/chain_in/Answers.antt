@@ -1,9 +1,0 @@
--- The region that is given is the chain's, and nothing is asked for it.
-use Rattle.cfg_chain.proofs.GivenRegions.{given_chain, given_chain_grows}
-use Rattle.audit.proofs.configuration.chain_in.Goals as goal
-
-pub returns-clause-chain : goal.returns-clause-chain
-returns-clause-chain g c = given_chain _ _ _ c.args.config c.args.region _ _ _ c.build.result c.in_ok-builder.ensures c.configure-builder.ensures c.region.ensures c.build.ensures.set
-
-pub returns-clause-unasked : goal.returns-clause-unasked
-returns-clause-unasked g c = given_chain_grows _ _ _ c.args.config c.args.region _ _ _ c.build.result c.in_ok-builder.ensures c.configure-builder.ensures c.region.ensures c.build.ensures.set

@@ -1,0 +1,6 @@
+-- The items so far are copies of the first ones.
+use Rattle.std.proofs.Common.{◌≡◌, take}
+use Rattle.cfg_base.proofs.seq.SeqTryCopy.copy.Given as goal
+
+abbrev pub invariant-loop-item : goal.invariant-loop-item
+invariant-loop-item g l = l.items.items ≡ take l.item-index l.self

@@ -1,7 +1,0 @@
-use Rattle.cfg_members.proofs.FirstAnswers.{first_answer}
-use Rattle.cfg_bearer.specs.Members.{name_in, IsTokenTree}
-use Rattle.cfg_bearer.specs.TokenAnswers.{token_rules}
-use Rattle.cfg_bearer.proofs.laws.the_first_answer_is_the_chains.Goals as goal
-
-pub returns : goal.returns
-returns c = first_answer token_rules name_in IsTokenTree

@@ -1,0 +1,121 @@
+//! Calls on one `Kept`: what they answer, how much they ask and find kept, and what stands in for a call
+//! that is interrupted then.
+use crate::setup::{Setup, answer_words, called, set_up};
+use cfg_chain::DefaultCredentialsChain;
+use cfg_imds::Client;
+use cfg_kept::{Keeper, Kept};
+use cfg_types::OutOfMemory;
+use cfg_world::{ScriptDevices, World};
+use std::alloc::Global;
+use std::test::Fail;
+
+fn call_words(
+    alloc: Global,
+    chain: &DefaultCredentialsChain,
+    kept: &mut Kept,
+    world: &mut World<ScriptDevices>,
+) -> Result<String, OutOfMemory> {
+    world.clear_journal();
+    let answer = match called(chain, kept, world) {
+        Some(outcome) => answer_words(alloc, &outcome.answer)?,
+        None => String::from_str(alloc, "another key")?,
+    };
+    let asked = world.journal().len();
+    let found = kept.found().len();
+    let fallback = chain.fallback_on_interrupt(kept)?;
+    Ok(format!(in alloc; "{answer} {asked} {found} {fallback:?}\n")?)
+}
+
+fn calls_by(
+    alloc: Global,
+    setup: Setup,
+    imds_client: Option<Client>,
+) -> Result<String, OutOfMemory> {
+    let Setup { mut chain, devices } = setup;
+    chain.imds_client = imds_client;
+    let mut world = World::new(alloc, devices);
+    let mut kept = chain.new_kept()?;
+    let first = call_words(alloc, &chain, &mut kept, &mut world)?;
+    let second = call_words(alloc, &chain, &mut kept, &mut world)?;
+    Ok(format!(in alloc; "{first}{second}")?)
+}
+
+// A client of this endpoint, none for an empty text. No client for what is no address.
+fn client_at(alloc: Global, endpoint: &str) -> Result<Option<Client>, OutOfMemory> {
+    if endpoint.is_empty() {
+        return Ok(None);
+    }
+    match Client::builder(alloc)?.endpoint(endpoint) {
+        Ok(builder) => Ok(Some(builder.build()?)),
+        Err(_) => Ok(None),
+    }
+}
+
+// Two calls over a script, a line each, of a chain with a client of this endpoint.
+fn calls_of(alloc: Global, endpoint: &str, script: &str) -> Result<String, OutOfMemory> {
+    let client = client_at(alloc, endpoint)?;
+    match set_up(alloc, script)? {
+        Some(setup) => calls_by(alloc, setup, client),
+        None => Ok(String::from_str(alloc, "no script")?),
+    }
+}
+
+#[test]
+fn two_calls(rt: HostRuntime) -> Result<(), Fail> {
+    let table: &[(&str, &str, &str)] = &[
+        // Metadata, and then a refusal.
+        (
+            "http://lent",
+            r#"{"variables":[["AWS_EC2_METADATA_SERVICE_ENDPOINT","no host"]],"clock":[100],"replies":{"imds-token":[[200,[["x-aws-ec2-metadata-token-ttl-seconds","21600"]],"tok"]],"imds-get":[[200,[],"role"],[200,[],"{\"AccessKeyId\":\"M\",\"SecretAccessKey\":\"S\",\"Token\":\"T\",\"Expiration\":\"2016-02-25T06:03:31Z\"}"],[404,[],""]]}}"#,
+            "Credentials { provider_name: \"IMDSv2\", access_key_id: \"M\", secret_access_key: \"** redacted **\", expires_after: 1456380211 s 0 ns } S Some(\"T\") [CredentialsImds] 7 2 Some(Credentials { provider_name: \"IMDSv2\", access_key_id: \"M\", secret_access_key: \"** redacted **\", expires_after: 1456380211 s 0 ns })\nCredentials { provider_name: \"IMDSv2\", access_key_id: \"M\", secret_access_key: \"** redacted **\", expires_after: 1456380211 s 0 ns } S Some(\"T\") [] 2 2 Some(Credentials { provider_name: \"IMDSv2\", access_key_id: \"M\", secret_access_key: \"** redacted **\", expires_after: 1456380211 s 0 ns })\n",
+        ),
+        // A session of IAM Identity Center, whose token is refreshed.
+        (
+            "",
+            r#"{"variables":[["HOME","/home/u"]],"profiles":[["default",[["sso_session","abc"],["sso_account_id","1"],["sso_role_name","r"]]]],"sessions":[["abc",[["sso_region","us-east-1"],["sso_start_url","u"]]]],"files":[["/home/u/.aws/sso/cache/a9993e364706816aba3e25717850c26c9cd0d89d.json","{\"accessToken\":\"t\",\"expiresAt\":\"1970-01-01T00:15:00Z\",\"clientId\":\"i\",\"clientSecret\":\"s\",\"refreshToken\":\"r\",\"registrationExpiresAt\":\"1970-01-02T00:00:00Z\"}"]],"clock":[700],"replies":{"create-token":[{"access":"t2","expires_in":3600}],"role-credentials":[{"id":"R","secret":"S","token":"T","expires_ms":5000000},"dispatch"]}}"#,
+            "Credentials { provider_name: \"SSO\", access_key_id: \"R\", secret_access_key: \"** redacted **\", expires_after: 5000 s 0 ns, account_id: \"1\" } S Some(\"T\") [CredentialsSso, CredentialsProfile] 6 1 None\nProviderError(Base(ProviderError(Sent(Dispatch)))) 2 1 None\n",
+        ),
+        // A sign-in session, whose refresh is granted at the second call.
+        (
+            "",
+            r#"{"variables":[["AWS_LOGIN_CACHE_DIRECTORY","/c"]],"profiles":[["default",[["login_session","abc"]]]],"files":[["/c/ba7816bf8f01cfea414140de5dae2223b00361a396177a9cb410ff61f20015ad.json","{\"accessToken\":{\"accessKeyId\":\"AK\",\"secretAccessKey\":\"SK\",\"sessionToken\":\"ST\",\"accountId\":\"012345678901\",\"expiresAt\":\"1970-01-01T00:15:00Z\"},\"refreshToken\":\"rt\",\"clientId\":\"ci\",\"dpopKey\":\"dk\"}"]],"clock":[1000],"replies":{"sign-in":["dispatch",{"id":"AK2","secret":"SK2","token":"ST2","refresh":"rt2","expires_in":900}]}}"#,
+            "ProviderError(Base(ProviderError(LoginToken(RefreshFailed { message: None })))) 4 1 None\nCredentials { provider_name: \"Login\", access_key_id: \"AK2\", secret_access_key: \"** redacted **\", expires_after: 1900 s 0 ns, account_id: \"012345678901\" } SK2 Some(\"ST2\") [CredentialsProfileLogin, CredentialsProfile] 5 1 None\n",
+        ),
+    ];
+    for (endpoint, script, want) in table {
+        let words = calls_of(rt.alloc(), endpoint, script)?;
+        assert_eq!(rt; words.as_str(), *want, "{script}");
+    }
+    Ok(())
+}
+
+// A call of a chain that metadata answers, and then one of a chain for which it is switched off, on the same kept
+// values.
+fn switched_off(alloc: Global, on: &str, off: &str) -> Result<String, OutOfMemory> {
+    let Some(first) = set_up(alloc, on)? else {
+        return Ok(String::from_str(alloc, "no script")?);
+    };
+    let Setup { chain, devices } = first;
+    let mut world = World::new(alloc, devices);
+    let mut kept = chain.new_kept()?;
+    let answered = call_words(alloc, &chain, &mut kept, &mut world)?;
+    let Some(second) = set_up(alloc, off)? else {
+        return Ok(String::from_str(alloc, "no script")?);
+    };
+    let Setup { chain, devices } = second;
+    let mut world = World::new(alloc, devices);
+    let kept_words = call_words(alloc, &chain, &mut kept, &mut world)?;
+    Ok(format!(in alloc; "{answered}{kept_words}")?)
+}
+
+#[test]
+fn two_chains_on_one_kept(rt: HostRuntime) -> Result<(), Fail> {
+    let on =
+        r#"{"clock":[100],"replies":{"imds-token":[[200,[["x-aws-ec2-metadata-token-ttl-seconds","21600"]],"tok"]],"imds-get":[[200,[],"role"],[200,[],"{\"AccessKeyId\":\"M\",\"SecretAccessKey\":\"S\",\"Token\":\"T\",\"Expiration\":\"2016-02-25T06:03:31Z\"}"]]}}"#;
+    let off = r#"{"variables":[["AWS_EC2_METADATA_DISABLED","true"]]}"#;
+    let words = switched_off(rt.alloc(), on, off)?;
+    let want =
+        "Credentials { provider_name: \"IMDSv2\", access_key_id: \"M\", secret_access_key: \"** redacted **\", expires_after: 1456380211 s 0 ns } S Some(\"T\") [CredentialsImds] 7 2 Some(Credentials { provider_name: \"IMDSv2\", access_key_id: \"M\", secret_access_key: \"** redacted **\", expires_after: 1456380211 s 0 ns })\nCredentials { provider_name: \"IMDSv2\", access_key_id: \"M\", secret_access_key: \"** redacted **\", expires_after: 1456380211 s 0 ns } S Some(\"T\") [] 0 1 Some(Credentials { provider_name: \"IMDSv2\", access_key_id: \"M\", secret_access_key: \"** redacted **\", expires_after: 1456380211 s 0 ns })\n";
+    assert_eq!(rt; words.as_str(), want);
+    Ok(())
+}

@@ -1,0 +1,12 @@
+-- The members stand behind the chain's own line.
+use Rattle.std.proofs.Common.{◌≡◌, List, OnOk, subst}
+use Rattle.cfg_error_report.specs.Lines.{Line}
+use Rattle.cfg_error_report.proofs.ChainFolds.{not_loaded-behind}
+use Rattle.cfg_error_report.proofs.credentials.+tells.Goals as goal
+
+pub tell_not_loaded-returns-in_ok-tell_words-in-Chain : goal.tell_not_loaded-returns-in_ok-tell_words-in-Chain
+tell_not_loaded-returns-in_ok-tell_words-in-Chain t c =
+    subst (λ (l : List Line). OnOk c.tell_members.result (c.tell_members.new.causes ≡ l))
+    (not_loaded-behind c.args.cause.now c.in-Chain.chain c.args.depth c.as_slice.result.now c.as_slice-in-Chain.result.now c.chain_words.result.now c.args.causes.now c.tell_words.new.self
+    c.in-Chain.is c.chain_words.ensures c.as_slice.ensures c.as_slice-in-Chain.ensures c.in_ok-tell_words-in-Chain.ensures)
+    c.tell_members.ensures

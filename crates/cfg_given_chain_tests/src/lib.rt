@@ -1,7 +1,0 @@
-//! The tests of roles that a caller assumes, and chains over given members, over public calls: what no clause says.
-#![tactic(auto)]
-
-#[cfg(test)]
-mod assume_role;
-#[cfg(test)]
-mod given_chain;

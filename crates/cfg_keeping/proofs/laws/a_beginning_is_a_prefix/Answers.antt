@@ -1,5 +1,0 @@
-use Rattle.cfg_keeping.proofs.Beginnings.{begins_whole}
-use Rattle.cfg_keeping.proofs.laws.a_beginning_is_a_prefix.Goals as goal
-
-pub returns : goal.returns
-returns g c = λ tree old one other found more x new newer. begins_whole tree old found more one other x new newer

@@ -1,5 +1,0 @@
-use Rattle.cfg_keeping.proofs.Agreeing.{one_run}
-use Rattle.cfg_keeping.proofs.laws.one_journal.Goals as goal
-
-pub returns : goal.returns
-returns g c = λ tree old one other found more x y new newer. one_run tree old found more one other x y new newer

@@ -1,5 +1,0 @@
-use Rattle.cfg_keeping.proofs.Beginnings.{next_entry}
-use Rattle.cfg_keeping.proofs.laws.the_next_question_is_asked.Goals as goal
-
-pub returns : goal.returns
-returns g c = λ tree old journal question entry rest found new h k. next_entry tree old h.0 found journal entry rest question h.1 new h.2 k

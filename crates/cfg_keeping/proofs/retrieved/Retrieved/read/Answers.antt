@@ -1,7 +1,0 @@
-use Rattle.std.proofs.Common.{rules, subst}
-use Rattle.cfg_keeping.specs.RoleDocuments.{IsRoleDocument}
-use Rattle.cfg_keeping.proofs.RetrievedSteps.{is_retrieved}
-use Rattle.cfg_keeping.proofs.retrieved.Retrieved.read.Goals as goal
-
-pub invariant_of-result : goal.invariant_of-result
-invariant_of-result c = is_retrieved c.args.document c.args.reading c.args.jitter _ (subst IsRoleDocument c.document.view_is c.document.invariant) c.requires.reads c.requires.asks c.requires.due (search rules) (search rules)

@@ -1,0 +1,13 @@
+pub mod Trees
+pub mod HoldingSteps
+pub mod Splits
+pub mod Told
+pub mod Agreeing
+pub mod Beginnings
+pub mod ChainSteps
+pub mod ChainParts
+pub mod OneHolding
+pub mod SectionSteps
+pub mod MetadataSteps
+pub mod RetrievedSteps
+pub mod CallParts

@@ -1,0 +1,16 @@
+pub mod Kinds
+pub mod KeptInquiry
+pub mod Holds
+pub mod Beginnings
+pub mod Chains
+pub mod ChainParts
+pub mod SectionHoldings
+pub mod SsoHoldings
+pub mod LoginHoldings
+pub mod RoleDocuments
+pub mod Retrieved
+pub mod MetadataHoldings
+pub mod FoundValues
+pub mod KeyedStates
+pub mod KeptStates
+pub mod SectionParts

@@ -1,0 +1,195 @@
+//! What is kept from one call to the next, lent to one call at a time.
+ghost use Rattle.std.specs.Prelude.{◌≡◌, ◌↔◌, [], IsTrue, is_some, option_map};
+ghost use Rattle.std.specs.Option.{option_copied};
+ghost use Rattle.cfg_kept.specs.Kinds.{no_states, place_states};
+ghost use Rattle.cfg_kept.specs.KeyedStates.{is_sso_key, is_login_key, sso_state_in, login_state_in};
+ghost use Rattle.cfg_kept.specs.KeptStates.{states_of, kept_key};
+ghost use Rattle.cfg_kept.specs.Retrieved.{keys_of_retrieved};
+
+use crate::found::Found;
+use crate::keeper::Keeper;
+use crate::keyed::KeyedState;
+use crate::metadata::{PlaceState, find_retrieved, hold_token};
+use crate::place::Place;
+use crate::retrieved::Retrieved;
+use cfg_exchange::ClassifyRetry;
+use cfg_imds::Client;
+use cfg_login_token::LoginToken;
+use cfg_token::{CachedSsoToken, TokenKey, TokenState};
+use cfg_types::imds::ImdsError;
+use cfg_types::{Bytes, CallSettings, Env, LoginTokenError, OutOfMemory, SsoTokenProviderError};
+use cfg_world::same::Same;
+use cfg_world::{Asking, Stop};
+use std::alloc::Global;
+
+/// The kept states, and the values that were found in them.
+pub struct Kept {
+    token: KeyedState,
+    chain: PlaceState,
+    named: PlaceState,
+    found: Vec<Found>,
+}
+
+impl Drop for Kept {
+    fn drop(self) {
+        let Kept {
+            token: _,
+            chain: _,
+            named: _,
+            found: _,
+        } = self;
+    }
+}
+
+impl Kept {
+    /// Nothing is kept, and nothing was found. The key says whose token will be kept.
+    pub fn new(alloc: Global, key: Option<TokenKey>) -> Kept
+        ensures key { kept_key result ≡ key }
+        ensures nothing { states_of result ≡ no_states }
+        ensures found { result.found.items ≡ [] }
+    {
+        Kept {
+            token: KeyedState::new(alloc, key),
+            chain: PlaceState::new(),
+            named: PlaceState::new(),
+            found: Vec::new(alloc),
+        }
+    }
+
+    /// Whether the kept states are those of a chain with this key: the keys are equal, or both are
+    /// none.
+    pub fn fits(&self, key: Option<&TokenKey>) -> bool
+        ensures { IsTrue result ↔ (kept_key self.now ≡ option_copied key.entry) }
+    {
+        match (self.token.key(), key) {
+            (None, None) => true,
+            (Some(one), Some(other)) => same_key(one, other),
+            _ => false,
+        }
+    }
+
+    /// The state of the token of IAM Identity Center, there exactly where the key is of that kind. No
+    /// holding.
+    pub fn sso_state(&self) -> Option<&TokenState<CachedSsoToken>>
+        ensures is { option_copied result ≡ sso_state_in self.now.token }
+        ensures there { is_some (option_copied result) ≡ is_sso_key (kept_key self.now) }
+    {
+        self.token.sso_state()
+    }
+
+    /// The state of the token of a sign-in session, there exactly where the key is of that kind. No
+    /// holding.
+    pub fn login_state(&self) -> Option<&TokenState<LoginToken>>
+        ensures is { option_copied result ≡ login_state_in self.now.token }
+        ensures there { is_some (option_copied result) ≡ is_login_key (kept_key self.now) }
+    {
+        self.token.login_state()
+    }
+
+    /// The credentials that were retrieved for the place, if any were. No holding.
+    pub fn retrieved_for(&self, place: Place) -> Option<&Retrieved>
+        ensures { option_map keys_of_retrieved (option_copied result) ≡ (place_states (states_of self.now) place).retrieved }
+    {
+        match place {
+            Place::Chain => self.chain.retrieved.as_ref(),
+            Place::Named => self.named.retrieved.as_ref(),
+        }
+    }
+
+    /// The values that were found are given up. What is kept stays.
+    pub fn clear_found(&mut self)
+        ensures found { self.new.found.items ≡ [] }
+        ensures kept { states_of self.new ≡ states_of self.old }
+        ensures key { kept_key self.new ≡ kept_key self.old }
+    {
+        self.found.clear();
+    }
+}
+
+// Whether both are one key.
+fn same_key(one: &TokenKey, other: &TokenKey) -> bool
+    ensures { IsTrue result ↔ (one.now ≡ other.now) }
+{
+    match (one, other) {
+        (
+            TokenKey::Sso {
+                session,
+                region,
+                start_url,
+            },
+            TokenKey::Sso {
+                session: other_session,
+                region: other_region,
+                start_url: other_url,
+            },
+        ) => session.same(other_session) && region.same(other_region) && start_url.same(other_url),
+        (TokenKey::Login { session }, TokenKey::Login { session: other }) => session.same(other),
+        _ => false,
+    }
+}
+
+impl Keeper for Kept {
+    ghost use Rattle.cfg_kept.specs.KeptStates.{kept_holdings, kept_key};
+
+    ghost holdings = { kept_holdings };
+
+    ghost key_held = { kept_key };
+
+    fn sso_section<A: Asking>(
+        &mut self,
+        _alloc: Global,
+        env: &Env,
+        settings: &CallSettings,
+        asking: &mut A,
+    ) -> Result<Result<CachedSsoToken, SsoTokenProviderError>, Stop> {
+        self.token.hold_sso(&mut self.found, env, settings, asking)
+    }
+
+    fn login_section<A: Asking>(
+        &mut self,
+        _alloc: Global,
+        env: &Env,
+        settings: &CallSettings,
+        asking: &mut A,
+    ) -> Result<Result<LoginToken, LoginTokenError>, Stop> {
+        self.token
+            .hold_login(&mut self.found, env, settings, asking)
+    }
+
+    fn imds_token<A: Asking>(
+        &mut self,
+        alloc: Global,
+        place: Place,
+        client: &Client,
+        asking: &mut A,
+    ) -> Result<Result<Bytes, ImdsError>, Stop> {
+        let found = &mut self.found;
+        match place {
+            Place::Chain => hold_token(alloc, found, place, &mut self.chain.token, client, asking),
+            Place::Named => hold_token(alloc, found, place, &mut self.named.token, client, asking),
+        }
+    }
+
+    fn retrieved(&mut self, alloc: Global, place: Place) -> Result<Option<Retrieved>, OutOfMemory> {
+        let found = &mut self.found;
+        match place {
+            Place::Chain => find_retrieved(alloc, found, place, &self.chain.retrieved),
+            Place::Named => find_retrieved(alloc, found, place, &self.named.retrieved),
+        }
+    }
+
+    fn set_retrieved(&mut self, place: Place, retrieved: Retrieved) {
+        match place {
+            Place::Chain => self.chain.retrieved = Some(retrieved),
+            Place::Named => self.named.retrieved = Some(retrieved),
+        }
+    }
+
+    fn key(&self) -> Option<&TokenKey> {
+        self.token.key()
+    }
+
+    fn found(&self) -> &[Found] {
+        self.found.as_slice()
+    }
+}

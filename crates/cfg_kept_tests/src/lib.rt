@@ -1,0 +1,11 @@
+//! The tests of tokens and what is kept between calls, over public calls: what no clause says.
+#![tactic(auto)]
+
+#[cfg(test)]
+mod kept;
+#[cfg(test)]
+mod login;
+#[cfg(test)]
+mod sections;
+#[cfg(test)]
+mod token;

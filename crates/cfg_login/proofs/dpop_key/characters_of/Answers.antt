@@ -1,7 +1,0 @@
-use Rattle.std.proofs.Common.{rules}
-use Rattle.std.proofs.lemmas.Str.{chars_from_encodes}
-use Rattle.cfg_values.proofs.TextLemmas.{characters-chars}
-use Rattle.cfg_login.proofs.dpop_key.characters_of.Goals as goal
-
-pub returns : goal.returns
-returns c = simp characters-chars (search (rules, chars_from_encodes))

@@ -1,0 +1,8 @@
+pub mod LoginTexts
+pub mod Files
+pub mod Inner
+pub mod ObjectTexts
+pub mod Documents
+pub mod TextFields
+pub mod FirstObject
+pub mod ReadBack

@@ -1,5 +1,0 @@
-use Rattle.cfg_members.proofs.FirstAnswers.{first_answer}
-use Rattle.cfg_members.proofs.laws.the_first_answer_is_the_chains.Goals as goal
-
-pub returns : goal.returns
-returns g c = first_answer g.M.ChainMember.rules (λ m. g.M.ChainMember.named m) (λ m. g.M.ChainMember.is_tree m)

@@ -1,0 +1,25 @@
+//! Laws of chains over given members, each on a call that carries it.
+ghost use Rattle.std.specs.Prelude.{◌≡◌, ◌⊎◌, List, Result};
+ghost use Rattle.cfg_world.specs.Fits.{Pair};
+ghost use Rattle.cfg_world.specs.Agreeing.{AnswerAlike};
+ghost use Rattle.cfg_meta.specs.MemberParts.{Keeping, AreMemberParts};
+ghost use Rattle.cfg_meta.specs.FirstAnswers.{IsFirstAnswer, IsNoneLoaded};
+
+use crate::member::ChainMember;
+
+/// A chain answers what the first member gave that was not passed over, as it gave it; or each member was
+/// passed over, and it tells of each.
+pub fn the_first_answer_is_the_chains<M: ChainMember>()
+    ensures { (members : List M) (olds news : List Keeping) (part : List Pair) (out : Result M.Value M.Error) →
+        AreMemberParts M.rules (λ m. M.named m) (λ m. M.is_tree m) members olds news part out →
+        IsFirstAnswer M.rules (λ m. M.named m) (λ m. M.is_tree m) members out ⊎ IsNoneLoaded M.rules (λ m. M.named m) (λ m. M.is_tree m) members out }
+{}
+
+/// From what is kept of the members there is one journal: of two calls whose answers agree as far as both
+/// ask the same, the parts, what is kept and the outcome are the same.
+pub fn one_journal<M: ChainMember>()
+    ensures { (members : List M) (olds news newer : List Keeping) (one other : List Pair) (x y : Result M.Value M.Error) →
+        AreMemberParts M.rules (λ m. M.named m) (λ m. M.is_tree m) members olds news one x →
+        AreMemberParts M.rules (λ m. M.named m) (λ m. M.is_tree m) members olds newer other y →
+        AnswerAlike one other → (one ≡ other) × (news ≡ newer) × (x ≡ y) }
+{}

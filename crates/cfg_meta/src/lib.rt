@@ -1,0 +1,18 @@
+//! Chains over members that the caller gives, over any values and errors. What is kept of one member is
+//! apart from what is kept of the others. It stands on cfg_kept. The layers above may use that a
+//! call's journal is the parts of the members in order, up to the first that was not passed over, whose
+//! answer is the chain's, and that each part goes from what was kept of its member to what its tree
+//! leaves.
+#![tactic(auto)]
+
+mod fallback;
+mod follow;
+pub mod laws;
+mod member;
+mod provide;
+
+pub use cfg_types::OutOfMemory;
+pub use fallback::{FallsBack, first_fallback};
+pub use follow::follow_members;
+pub use member::{ChainMember, new_kept};
+pub use provide::provide_by_members;

@@ -1,5 +1,0 @@
-use Rattle.cfg_metadata.proofs.Reasons.{has_cause}
-use Rattle.cfg_metadata.proofs.laws.an_answer_of_metadata_has_its_cause.Goals as goal
-
-pub returns : goal.returns
-returns c = has_cause

@@ -1,6 +1,0 @@
-//! The tests of cfg_bearer, over public calls: what no clause says, and worked examples.
-mod builders;
-mod chains;
-mod defaults;
-mod own;
-mod setup;

@@ -1,0 +1,2 @@
+//! The tests of cfg_login, over public calls: what no clause says.
+mod calls;

@@ -1,5 +1,0 @@
-pub mod SignInSteps
-pub mod SignInCauses
-pub mod LastReadings
-pub mod InTime
-pub mod SessionKeys

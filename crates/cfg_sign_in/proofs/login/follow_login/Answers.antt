@@ -1,9 +1,0 @@
--- One section, and what it gives.
-use Rattle.cfg_keeping.specs.KeptInquiry.{Gives}
-use Rattle.cfg_keeping.proofs.HoldingSteps.{holds_ends_then, holds_said}
-use Rattle.cfg_sign_in.specs.SignIns.{credentials_in, sign_in_credentials}
-use Rattle.cfg_sign_in.proofs.login.follow_login.Goals as goal
-
-pub returns-clause-follows : goal.returns-clause-follows
-unfolding sign_in_credentials
-returns-clause-follows g c = holds_ends_then (λ given. Gives (credentials_in c.args.by given)) c.in_ok-given.ensures.follows (holds_said c.in_ok-outcome.ensures)

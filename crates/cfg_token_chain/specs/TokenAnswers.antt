@@ -1,0 +1,30 @@
+-- What chains of bearer tokens say of answers.
+use Rattle.std.specs.Prelude.{List, Bool, true, false}
+use Rattle.cfg_types.specs.TokenClasses.{token_class}
+use Rattle.cfg_types.specs.declared.errors.ProviderAttempt.{ProviderAttempt}
+use Rattle.cfg_types.specs.declared.errors.token.TokenCause.TheVariants.{Chain}
+use Rattle.cfg_types.specs.declared.errors.token.TokenClass.{TokenClass}
+use Rattle.cfg_types.specs.declared.errors.token.TokenClass.TheVariants as class
+use Rattle.cfg_types.specs.declared.errors.token.TokenError.{TokenError}
+use Rattle.cfg_types.specs.declared.errors.token.TokenError.TheVariants.{TokenNotLoaded}
+use Rattle.cfg_meta.specs.AnswerRules.{AnswerRules}
+use Rattle.cfg_sso.specs.BearerTokens.{is_memory_class}
+
+abbrev pub is_not_loaded_class : TokenClass → Bool
+is_not_loaded_class class.TokenNotLoaded = true
+is_not_loaded_class _ = false
+
+-- the error of a provider that was not loaded
+abbrev pub is_not_loaded : TokenError → Bool
+is_not_loaded e = is_not_loaded_class (token_class e)
+
+-- the error of a chain of which no member was loaded
+abbrev pub none_loaded : List (ProviderAttempt TokenError) → TokenError
+none_loaded attempts = TokenNotLoaded (Chain (record { attempts = attempts }))
+
+abbrev pub is_memory_error : TokenError → Bool
+is_memory_error e = is_memory_class (token_class e)
+
+-- what chains of bearer tokens say of answers
+abbrev pub token_rules : AnswerRules TokenError
+token_rules = record { is_not_loaded = is_not_loaded; none_loaded = none_loaded; is_memory = is_memory_error }

@@ -1,8 +1,0 @@
--- The attempts so far are written.
-use Rattle.std.proofs.Common.{Ok, take}
-use Rattle.std.specs.Fmt.{DisplaysOnOk}
-use Rattle.cfg_types.specs.ChainTexts.{attempts_text, credentials_line}
-use Rattle.cfg_types.proofs.errors.shown.+shows.Given as goal
-
-abbrev pub invariant-write_attempts-loop-attempt : goal.invariant-write_attempts-loop-attempt
-invariant-write_attempts-loop-attempt g l = DisplaysOnOk g.W.Write.write_str_gives l.initial.f (Ok tt) (attempts_text credentials_line (take l.attempt-index l.attempts)) l.f

@@ -1,7 +1,0 @@
-use Rattle.std.proofs.Common.{ap, ◌∙◌}
-use Rattle.cfg_values.specs.WhiteSpace.{is_empty}
-use Rattle.cfg_values.proofs.Trimming.{is_empty-characters}
-use Rattle.cfg_values.proofs.white_space.is_blank.Goals as goal
-
-pub returns : goal.returns
-returns c = c.is_empty.ensures ∙ is_empty-characters _ c.trimmed.utf8 ∙ ap is_empty c.trimmed.ensures
