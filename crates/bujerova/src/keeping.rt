@@ -1,4 +1,5 @@
-ghost use Rattle.std.specs.Prelude.{◌≡◌, ◌≤◌, [], Some, Err, IfOk, length, take, option_map};
+//! A source that keeps what it gave.
+ghost use Rattle.std.specs.Prelude.{◌≡◌, ◌≤◌, [], Some, Err, IfOk, OnErr, length, take, option_map};
 ghost use Rattle.std.specs.Io.KnownBytes.{ReadConsumes};
 ghost use Rattle.cfg_world.specs.Faults.{Rose};
 ghost use Rattle.bujerova.specs.Keeping.{source_of, kept_of, KeepsMore};
@@ -22,6 +23,7 @@ impl<S: Source + Drop> KeepingSource<S> {
         ensures kept { kept_of result ≡ Some [] }
     {
         let mut kept = Vec::new(alloc);
+        // Where that is refused, a later growth may not be.
         let _ = kept.reserve(LIMIT + 1);
         KeepingSource {
             source,
@@ -64,6 +66,7 @@ impl<S: Source + Drop> Source for KeepingSource<S> {
         ensures counted { S.faults (source_of self.old) ≤ S.faults (source_of self.new) }
         ensures failed { result ≡ Err StreamFault.Failed → Rose (S.faults (source_of self.old)) (S.faults (source_of self.new)) }
         ensures kept { IfOk result (λ n. KeepsMore (kept_of self.old) (kept_of self.new) (take n into.new)) }
+        ensures still { OnErr result (kept_of self.new ≡ kept_of self.old) }
     {
         let n = self.source.read(into)?;
         self.keep(&into[..n]);

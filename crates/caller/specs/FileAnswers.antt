@@ -1,6 +1,7 @@
 -- What the program's devices answer.
-use Rattle.std.specs.Prelude.{◌≡◌, ◌⊎◌, ℕ, List}
+use Rattle.std.specs.Prelude.{◌≡◌, ◌≢◌, ◌⊎◌, ℕ, List}
 use Rattle.std.specs.List.{AllByRecursion}
+use Rattle.std.specs.Str.{encode_utf8_all}
 use Rattle.cfg_base.specs.Text.{characters}
 use Rattle.cfg_types.specs.declared.reply.FailKind.TheVariants.{Dispatch, Io}
 use Rattle.cfg_world.specs.declared.ask.Question.{Question}
@@ -10,12 +11,13 @@ use Rattle.cfg_world.specs.declared.ask.Answer.TheVariants as answer
 use Rattle.cfg_world.specs.Epoch.{epoch}
 use Rattle.cfg_world.specs.Fits.{Pair}
 
--- A clock that stands at the epoch, a jitter that is 0, and the file of this path, which is read as this content
--- or fails. All else fails.
+-- A clock that stands at the epoch, a jitter that is 0, and the file of this path, which is read as this content.
+-- All else fails.
 abbrev pub IsAnswer : List ℕ → List ℕ → Question → Answer → Type 0
 IsAnswer path content question.Now given = given ≡ answer.Moment epoch
 IsAnswer path content question.Jitter given = given ≡ answer.Jitter 0
-IsAnswer path content (question.Read asked) given = (given ≡ answer.Failed Io) ⊎ ((asked ≡ characters path) × (given ≡ answer.Contents content))
+IsAnswer path content (question.Read asked) given =
+    ((encode_utf8_all asked ≢ path) × (given ≡ answer.Failed Io)) ⊎ ((asked ≡ characters path) × (given ≡ answer.Contents content))
 IsAnswer path content (question.Send request) given = given ≡ answer.Failed Dispatch
 IsAnswer path content _ given = given ≡ answer.Failed Io
 

@@ -1,5 +1,5 @@
 -- What the program's lines tell.
-use Rattle.std.specs.Prelude.{◌≡◌, ℕ, List, [], ◌++◌, None, codes}
+use Rattle.std.specs.Prelude.{◌≡◌, ℕ, List, [], ◌++◌, codes}
 use Rattle.cfg_world.specs.Fits.{Pair}
 use Rattle.cfg_kept.specs.Kinds.{Value, States, no_states}
 use Rattle.cfg_providers.specs.CustomSources.{Answer}

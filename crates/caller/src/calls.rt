@@ -10,7 +10,7 @@ use crate::devices::OneFile;
 use crate::lines::call_line;
 use cfg_chain::DefaultCredentialsChain;
 use cfg_kept::Kept;
-use cfg_types::{Credentials, CredentialsError, OutOfMemory};
+use cfg_types::{OutOfMemory, Outcome};
 use cfg_world::{Devices, World};
 use std::alloc::Global;
 
@@ -64,15 +64,4 @@ fn call<D: Devices>(
     let line = call_line(alloc, &outcome.answer, world.journal())?;
     lines.push_str(line.as_str())?;
     Ok(())
-}
-
-// What a call answered, which is let go by one call.
-struct Outcome {
-    answer: Result<Credentials, CredentialsError>,
-}
-
-impl Drop for Outcome {
-    fn drop(self) {
-        let Outcome { answer: _ } = self;
-    }
 }

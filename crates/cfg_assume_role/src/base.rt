@@ -1,14 +1,15 @@
 //! Where the credentials come from that sign a role's exchange.
 ghost use Rattle.std.specs.Option.{option_copied};
-ghost use Rattle.std.specs.Prelude.{◌≡◌, IfOk};
+ghost use Rattle.std.specs.Prelude.{◌≡◌};
 ghost use Rattle.cfg_sso.specs.Tokens.{HasKey};
 ghost use Rattle.cfg_assume_role.specs.Bases.{base_of, base_key, FollowsBaseBy};
 
 use cfg_chain::DefaultCredentialsChain;
 use cfg_kept::Keeper;
+use cfg_providers::steps::answer_of;
 use cfg_providers::{CustomProvider, EnvironmentVariableCredentialsProvider};
 use cfg_token::TokenKey;
-use cfg_types::{Credentials, CredentialsError, OutOfMemory, TryCopy, is_memory};
+use cfg_types::{Credentials, CredentialsError, TryCopy};
 use cfg_world::{Asking, Stop};
 use std::alloc::Global;
 
@@ -70,20 +71,9 @@ impl RoleBase {
                 Ok(Ok(credentials))
             }
             RoleBase::Custom(source) => {
-                let answer = told(source)?;
+                let answer = answer_of(source)?;
                 Ok(answer)
             }
         }
     }
-}
-
-// What a source answers.
-fn told(source: &CustomProvider) -> Result<Result<Credentials, CredentialsError>, OutOfMemory>
-    ensures { IfOk result (λ answer. answer ≡ value source.now) }
-{
-    let answer = source.provide_credentials();
-    if is_memory(&answer) {
-        return Err(OutOfMemory);
-    }
-    Ok(answer)
 }

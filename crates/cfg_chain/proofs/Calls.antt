@@ -8,13 +8,11 @@ use Rattle.cfg_world.specs.Script.{Place, Given}
 use Rattle.cfg_world.specs.Agreeing.{AnswerAlike}
 use Rattle.cfg_world.proofs.Agreeing.{given_alike}
 use Rattle.cfg_kept.specs.Kinds.{Value, States}
-use Rattle.cfg_kept.specs.KeptInquiry.{KeptInquiry, Runs, Begins, Reads, kept_after}
+use Rattle.cfg_kept.specs.KeptInquiry.{Runs, Begins, Reads, kept_after}
 use Rattle.cfg_kept.specs.Holds.{Holdings, HoldsFollows}
 use Rattle.cfg_kept.proofs.Told.{told, told_back}
 use Rattle.cfg_kept.proofs.Agreeing.{one_run}
 use Rattle.cfg_exchange.proofs.OnePlace.{one_place}
-use Rattle.cfg_profile.specs.Configuration.{Configuration}
-use Rattle.cfg_imds.specs.Clients.{ClientRules}
 use Rattle.cfg_imds.proofs.OneEndpoint.{one_client}
 use Rattle.cfg_imds.specs.Setups.{configured}
 use Rattle.cfg_providers.specs.CustomSources.{Answer}

@@ -31,7 +31,8 @@ use Rattle.cfg_providers.specs.RoleCauses.{of_role}
 use Rattle.cfg_base.specs.Gives.{◌>>=◌}
 use Rattle.cfg_chain.specs.Settings.{Setting}
 use Rattle.cfg_kept.specs.Chains.{passed}
-use Rattle.cfg_chain.specs.Members.{is_not_loaded, credentials_chain}
+use Rattle.cfg_chain.specs.Members.{credentials_chain}
+use Rattle.cfg_meta.specs.CredentialsAnswers.{is_not_loaded}
 use Rattle.cfg_chain.specs.profile.Causes.{of_base}
 use Rattle.cfg_chain.specs.profile.Plans.{is_not_loaded_error, refusal}
 use Rattle.cfg_chain.proofs.UsableEntries.{no_success}

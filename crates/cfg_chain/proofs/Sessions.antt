@@ -15,7 +15,6 @@ use Rattle.cfg_kept.proofs.Splits.{lowered, split_runs}
 use Rattle.cfg_kept.proofs.Told.{told}
 use Rattle.cfg_profile.specs.declared.chain.BaseProvider.{BaseProvider}
 use Rattle.cfg_profile.specs.declared.chain.BaseProvider.TheVariants as base
-use Rattle.cfg_profile.specs.Configuration.{Configuration}
 use Rattle.cfg_providers.specs.CustomSources.{Answer}
 use Rattle.cfg_providers.specs.EnvironmentKeys.{environment, by_environment}
 use Rattle.cfg_login.specs.declared.asked_by.AskedBy.TheVariants as by

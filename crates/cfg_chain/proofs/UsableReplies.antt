@@ -12,7 +12,7 @@ use Rattle.cfg_world.specs.declared.leaves.NotGranted.{NotGranted}
 use Rattle.cfg_providers.specs.Sts.{behind_colon, before_colon, fifth_part, account_of, account_or, keys_in, or_unhandled, into_credentials}
 use Rattle.cfg_providers.specs.AssumeRole.{granted}
 use Rattle.cfg_providers.specs.WebIdentities.{marked, identity_answer}
-use Rattle.cfg_chain.specs.Valid.{colons, HasFiveParts, HoldsCredentials, IsUsable}
+use Rattle.cfg_chain.specs.Valid.{colons, HasFiveParts, HoldsCredentials, IsGrantOfUse}
 
 -- a text with a colon has a rest behind its first, with one colon less
 abbrev Behind : ℕ → List ℕ → Option (List ℕ) → Type 0
@@ -63,11 +63,11 @@ marked_fine : (r : Result Keys CredentialsError) → is_ok r ≡ true → is_ok 
 marked_fine (Ok keys) h = refl
 marked_fine (Err e) h = h
 
-pub granted_fine : (r : Result StsReply NotGranted) → IsUsable r → is_ok (granted r) ≡ true
+pub granted_fine : (r : Result StsReply NotGranted) → IsGrantOfUse r → is_ok (granted r) ≡ true
 granted_fine (Ok given) h = reply_given given (codes "AssumeRoleProvider") h
 granted_fine (Err reason) h = absurd h
 
-pub identity_fine : (r : Result StsReply NotGranted) → IsUsable r → is_ok (identity_answer r) ≡ true
+pub identity_fine : (r : Result StsReply NotGranted) → IsGrantOfUse r → is_ok (identity_answer r) ≡ true
 unfolding identity_answer
 identity_fine (Ok given) h = marked_fine (into_credentials given (codes "WebIdentityToken")) (reply_given given (codes "WebIdentityToken") h)
 identity_fine (Err reason) h = absurd h

@@ -13,12 +13,12 @@ use Rattle.cfg_kept.specs.Chains.{passed}
 use Rattle.cfg_kept.specs.ChainParts.{AreParts}
 use Rattle.cfg_kept.specs.Kinds.{Value, States}
 use Rattle.cfg_exchange.specs.Containers.{IsContainerUri}
-use Rattle.cfg_profile.specs.Configuration.{Configuration}
 use Rattle.cfg_providers.specs.CustomSources.{Answer}
 use Rattle.cfg_types.specs.Classes.{is_not_loaded_answer}
 use Rattle.cfg_chain.specs.declared.member.Member.{Member}
 use Rattle.cfg_chain.specs.Settings.{Setting, ChainSetting, setting}
-use Rattle.cfg_chain.specs.Members.{credentials_chain, default_members, is_not_loaded, none_loaded}
+use Rattle.cfg_chain.specs.Members.{credentials_chain, default_members}
+use Rattle.cfg_meta.specs.CredentialsAnswers.{is_not_loaded, none_loaded}
 use Rattle.cfg_chain.specs.Resolves.{IsPart}
 use Rattle.cfg_chain.specs.Provides.{IsCall, Provides}
 use Rattle.cfg_chain.specs.Callers.{Passed, WasNotLoaded, members_in, found_in, parts_in, told_of, IsAnsweredBy, IsAnsweredByNone, TellsWho}

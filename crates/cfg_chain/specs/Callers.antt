@@ -8,12 +8,12 @@ use Rattle.cfg_world.specs.Held.{Held}
 use Rattle.cfg_kept.specs.declared.kept.Kept.{Kept}
 use Rattle.cfg_kept.specs.Kinds.{Value}
 use Rattle.cfg_kept.specs.KeptStates.{kept_holdings}
-use Rattle.cfg_profile.specs.Configuration.{Configuration}
 use Rattle.cfg_providers.specs.CustomSources.{Answer}
 use Rattle.cfg_types.specs.Classes.{is_not_loaded_answer}
 use Rattle.cfg_chain.specs.declared.member.Member.{Member}
 use Rattle.cfg_chain.specs.Settings.{Setting, ChainSetting, Services, AreServices, setting}
-use Rattle.cfg_chain.specs.Members.{name_of, is_not_loaded, none_loaded, default_members}
+use Rattle.cfg_chain.specs.Members.{name_of, default_members}
+use Rattle.cfg_meta.specs.CredentialsAnswers.{is_not_loaded, none_loaded}
 use Rattle.cfg_chain.specs.PassedOver.{IsPassedOver}
 use Rattle.cfg_chain.specs.Resolves.{IsPart}
 

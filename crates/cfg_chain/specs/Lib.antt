@@ -4,7 +4,6 @@ pub mod Follows
 pub mod Answers
 pub mod profile
 pub mod Members
-pub mod Turns
 pub mod Resolves
 pub mod PassedOver
 pub mod Causes

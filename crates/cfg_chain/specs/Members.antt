@@ -1,12 +1,7 @@
 -- What each member of the default chain asks and reads.
-use Rattle.std.specs.Prelude.{ℕ, List, [], ◌∷◌, None, Bool, codes}
+use Rattle.std.specs.Prelude.{ℕ, List, [], ◌∷◌, None, codes}
 use Rattle.cfg_types.specs.Keys.{Keys}
-use Rattle.cfg_types.specs.Classes.{is_of_class}
-use Rattle.cfg_types.specs.declared.errors.Class.TheVariants as class
 use Rattle.cfg_types.specs.declared.errors.CredentialsError.{CredentialsError}
-use Rattle.cfg_types.specs.declared.errors.CredentialsError.TheVariants as error
-use Rattle.cfg_types.specs.declared.errors.NotLoadedCause.TheVariants as cause
-use Rattle.cfg_types.specs.declared.errors.ProviderAttempt.{ProviderAttempt}
 use Rattle.cfg_kept.specs.KeptInquiry.{KeptInquiry, lift}
 use Rattle.cfg_imds_credentials.specs.Metadata.{metadata}
 use Rattle.cfg_providers.specs.CustomSources.{Answer}
@@ -14,6 +9,7 @@ use Rattle.cfg_providers.specs.EnvironmentKeys.{by_environment}
 use Rattle.cfg_providers.specs.WebIdentities.{no_policies, web_identity}
 use Rattle.cfg_chain.specs.declared.member.Member.{Member}
 use Rattle.cfg_chain.specs.declared.member.Member.TheVariants.{Environment, Profile, WebIdentityToken, EcsContainer, Ec2InstanceMetadata}
+use Rattle.cfg_meta.specs.CredentialsAnswers.{is_not_loaded, none_loaded}
 use Rattle.cfg_chain.specs.Settings.{Setting, chain_metadata}
 use Rattle.cfg_kept.specs.Chains.{Chain, chain}
 use Rattle.cfg_chain.specs.profile.Bases.{by_container}
@@ -34,14 +30,6 @@ member_tree s Profile = profile s
 member_tree s WebIdentityToken = lift (web_identity s.configuration None no_policies)
 member_tree s EcsContainer = lift (by_container s.configuration s.container)
 member_tree s Ec2InstanceMetadata = metadata (chain_metadata s)
-
--- the answer of a provider that was not loaded
-abbrev pub is_not_loaded : CredentialsError → Bool
-is_not_loaded e = is_of_class class.CredentialsNotLoaded e
-
--- the answer of a chain of which no member was loaded
-abbrev pub none_loaded : List (ProviderAttempt CredentialsError) → CredentialsError
-none_loaded attempts = error.CredentialsNotLoaded (cause.Chain (record { attempts = attempts }))
 
 -- a chain of credentials providers, over this setting
 abbrev pub credentials_chain : Setting → Chain Member Keys CredentialsError

@@ -13,8 +13,8 @@ use Rattle.cfg_chain.specs.declared.member.Member.TheVariants.{Environment, Prof
 use Rattle.cfg_chain.specs.Settings.{Setting, names_of, chain_metadata}
 use Rattle.cfg_chain.specs.profile.Plans.{Planned, plan, is_not_loaded_error}
 
--- the profile is passed over exactly where there is none, where it has no credentials, or where it
--- gives a token in their place
+-- the profile is passed over exactly where it or one on its path is not there, where it has no credentials or a
+-- token in their place, or where it lacks the region or the start URL of IAM Identity Center
 abbrev pub plan_is_passed_over : Planned → Bool
 plan_is_passed_over (Ok p) = false
 plan_is_passed_over (Err e) = is_not_loaded_error e
@@ -27,7 +27,7 @@ is_error (Err e) = true
 -- The table of the members that are passed over: the environment without keys, the profile without a
 -- plan that is there, web identity where a variable is missing, each without a question; a
 -- container without an address, whose token's file at most was read; and instance metadata that is
--- switched off, or that names no role, with nothing retrieved kept.
+-- switched off, that names no role, or whose token request could not be sent, with nothing retrieved kept.
 abbrev pub IsPassedOver : Setting → Member → List Value → List Pair → Type 0
 IsPassedOver s Environment found part = (part ≡ []) × (environment_is_passed_over s.configuration.environment ≡ true)
 IsPassedOver s Profile found part = (part ≡ []) × (plan_is_passed_over (plan s.configuration (names_of s.sources)) ≡ true)

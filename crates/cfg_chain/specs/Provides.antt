@@ -12,7 +12,6 @@ use Rattle.cfg_kept.specs.Kinds.{Value, States}
 use Rattle.cfg_kept.specs.KeptStates.{kept_holdings, states_of}
 use Rattle.cfg_kept.specs.KeptInquiry.{Begins, found_by, kept_after}
 use Rattle.cfg_kept.specs.Holds.{Holdings, HoldsFollows}
-use Rattle.cfg_profile.specs.Configuration.{Configuration}
 use Rattle.cfg_providers.specs.CustomSources.{Answer}
 use Rattle.cfg_chain.specs.Settings.{ChainSetting, Services, AreServices, setting}
 use Rattle.cfg_chain.specs.Members.{default_chain}
@@ -20,7 +19,7 @@ use Rattle.cfg_chain.specs.Resolves.{Resolves}
 use Rattle.cfg_chain.specs.Valid.{IsValid}
 
 -- A call of a default chain of this setting found these values, has this journal, and came to this outcome,
--- over the services that the configuration names: there is one answer which. Where nothing stands in the
+-- over the services that the configuration names, and these are one. Where nothing stands in the
 -- way, the outcome is credentials.
 pub record IsCall (over : ChainSetting) (old new : States) (found : List Value) (part : List Pair) (out : Answer) : Type 0 where
   pub services : Services

@@ -20,8 +20,8 @@ abbrev pub PlansSignOn : Planned → SsoProviderConfig → Type 0
 PlansSignOn (Ok p) sso = IsSignOn p.base sso
 PlansSignOn (Err e) sso = ⊥
 
--- The journal begins with the part of a token, and one `GetRoleCredentials` with it: that of a session ends
--- after the last reading of the clock in this part. Behind them there is no other such request.
+-- The journal begins with the part of a token, and one `GetRoleCredentials` with it, which ends after the last
+-- reading of the clock in this part. Behind them there is no other such request.
 pub record AsksOnce (conf : Configuration) (sso : SsoProviderConfig) (found : List Value) (journal : List Pair) : Type 0 where
   pub found_first : List Value
   pub found_then : List Value

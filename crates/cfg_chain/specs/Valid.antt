@@ -71,15 +71,15 @@ pub record HoldsCredentials (given : StsReply) : Type 0 where
   pub arn : IfSome given.arn HasFiveParts
 
 -- A service granted something, and what it granted holds credentials.
-abbrev pub IsUsable : Result StsReply NotGranted → Type 0
-IsUsable (Ok given) = HoldsCredentials given
-IsUsable (Err reason) = ⊥
+abbrev pub IsGrantOfUse : Result StsReply NotGranted → Type 0
+IsGrantOfUse (Ok given) = HoldsCredentials given
+IsGrantOfUse (Err reason) = ⊥
 
 -- A request for a role was granted, and a container's reply is a document of credentials. No other
 -- request is looked at here.
 abbrev pub IsGranted : Request → Given → Type 0
-IsGranted (request.AssumeRole call) given = IsUsable (granted_of sts_in given)
-IsGranted (request.AssumeRoleWithWebIdentity call) given = IsUsable (granted_of sts_in given)
+IsGranted (request.AssumeRole call) given = IsGrantOfUse (granted_of sts_in given)
+IsGranted (request.AssumeRoleWithWebIdentity call) given = IsGrantOfUse (granted_of sts_in given)
 IsGranted (request.Http call) given = IsOk (answer_keys given)
 IsGranted _ given = Unit {0}
 

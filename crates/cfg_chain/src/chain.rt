@@ -1,19 +1,18 @@
-ghost use Rattle.std.specs.Prelude.{◌≡◌, [], ◌∷◌, ◌++◌, OnOk};
+//! A chain asks its members in order.
+ghost use Rattle.std.specs.Prelude.{◌≡◌};
 ghost use Rattle.cfg_chain.specs.Follows.{FollowsTree};
 ghost use Rattle.cfg_chain.specs.Views.{view};
 ghost use Rattle.cfg_chain.specs.profile.Plans.{key_of};
 ghost use Rattle.cfg_sso.specs.Tokens.{HasKey};
-ghost use Rattle.cfg_chain.specs.Members.{name_of, members_tree};
+ghost use Rattle.cfg_chain.specs.Members.{members_tree};
 
 use crate::call::ChainCall;
-use crate::member::{Member, Turn, follow_member, turn_of};
+use crate::member::{Member, follow_member};
 use cfg_kept::Keeper;
-use cfg_types::{
-    Credentials, CredentialsError, NotLoadedCause, OutOfMemory, ProviderAttempt,
-    ProviderChainError, Seq, Text,
-};
+use cfg_meta::ChainError;
+use cfg_meta::steps::{Turn, note_attempt, turn_of};
+use cfg_types::{Credentials, CredentialsError, ProviderChainError, Seq};
 use cfg_world::{Asking, Stop};
-use std::alloc::Global;
 
 /// Asks the members in order, up to the first one that was loaded or that failed, and answers what it gave.
 /// Where none was loaded it is `CredentialsNotLoaded(Chain)`, with what each one answered. It stops with `Open`
@@ -36,26 +35,12 @@ pub fn follow_chain<P: Keeper, A: Asking>(
         match turn_of(outcome) {
             Turn::Answers(answer) => return Ok(answer),
             Turn::PassedOver(error) => {
-                let Ok(()) = note_attempt(call.alloc, &mut attempts, *member, error) else {
+                let Ok(()) = note_attempt(call.alloc, &mut attempts, member.name(), error) else {
                     return Err(Stop::OutOfMemory);
                 };
             }
         }
     }
     let attempts = ProviderChainError::new(Seq::of(attempts));
-    Ok(Err(CredentialsError::CredentialsNotLoaded(NotLoadedCause::Chain(attempts))))
-}
-
-// One attempt more.
-fn note_attempt(
-    alloc: Global,
-    attempts: &mut Vec<ProviderAttempt<CredentialsError>>,
-    member: Member,
-    error: CredentialsError,
-) -> Result<(), OutOfMemory>
-    ensures { OnOk result (attempts.new.items ≡ attempts.old.items ++ record { name = name_of member; error = error } ∷ []) }
-{
-    let name = Text::of(alloc, member.name())?;
-    attempts.push(ProviderAttempt::new(name, error))?;
-    Ok(())
+    Ok(Err(CredentialsError::none_loaded(attempts)))
 }

@@ -1,3 +1,3 @@
-//! The default chains.
+//! The default chain.
 
 pub mod credentials;

@@ -12,7 +12,7 @@ ghost use Rattle.cfg_profile.specs.declared.chain.ProfileChain.{ProfileChain};
 ghost use Rattle.cfg_profile.specs.NamedSources.{IsPlan};
 ghost use Rattle.cfg_profile.specs.SectionSets.{SectionSets};
 ghost use Rattle.cfg_providers.specs.CustomSources.{Answer};
-ghost use Rattle.cfg_chain.specs.declared.member.Member.{Member as Asked};
+ghost use Rattle.cfg_chain.specs.declared.member.Member.{Member};
 ghost use Rattle.cfg_chain.specs.Settings.{ChainSetting, Setting, names_of};
 ghost use Rattle.cfg_kept.specs.Chains.{Chain, chain};
 ghost use Rattle.cfg_kept.specs.ChainParts.{MemberReads, AreParts, AreBegunParts};
@@ -51,14 +51,14 @@ pub fn an_interrupted_chain_is_its_members<M, V, E>()
 
 /// Each answer of a member has its cause over its part, by the rule of its provider.
 pub fn members_have_causes()
-    ensures { (s : Setting) (member : Asked) (found : List Value) (part : List Pair) (out : Answer) →
+    ensures { (s : Setting) (member : Member) (found : List Value) (part : List Pair) (out : Answer) →
         Reads (member_tree s member) found part out → Cause s member found part out }
 {}
 
 /// A member is passed over by its line of the table, and by nothing else, where the address of a
 /// container is the one that the variables name.
 pub fn members_are_passed_over_by_the_table()
-    ensures { (s : Setting) (member : Asked) (found : List Value) (part : List Pair) (out : Answer) →
+    ensures { (s : Setting) (member : Member) (found : List Value) (part : List Pair) (out : Answer) →
         IsContainerUri s.configuration.environment s.container → Reads (member_tree s member) found part out →
         PassesByTable out (IsPassedOver s member found part) }
 {}
@@ -117,8 +117,8 @@ pub fn a_call_tells_who_answered<D: Devices>()
 {}
 
 /// Where the selected profile's plan begins with a role of IAM Identity Center, a call sends at most one
-/// `GetRoleCredentials`, with the token that the part before it gave; a session's token ends after the last
-/// reading of the clock in this part. It holds of a call for which memory ran out, too.
+/// `GetRoleCredentials`, with the token that the part before it gave, which ends after the last reading of
+/// the clock in this part. It holds of a call for which memory ran out, too.
 pub fn a_call_sends_no_expired_token<D: Devices>()
     ensures answered { (over : ChainSetting) (sso : SignOn) (old new : States) (found : List Value) (before later : Held D) (out : Answer) →
         PlansSignOn (plan over.configuration (names_of over.sources)) sso → Provides ⟦<D as Devices>⟧ over old new found before later out →

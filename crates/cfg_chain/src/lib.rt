@@ -1,7 +1,7 @@
-//! Chains of credentials providers. It stands on cfg_providers, cfg_imds_credentials, cfg_sso, cfg_login,
-//! cfg_region, cfg_kept and cfg_profile. The layers above may use that a call's journal is the parts of
-//! the members up to the one that answered, in order, that every earlier one was not loaded, and that each
-//! part has its cause.
+//! The default chain of credentials, and the provider of a profile's credentials. It stands on cfg_meta,
+//! cfg_providers, cfg_imds_credentials, cfg_sso, cfg_login, cfg_region, cfg_kept and cfg_profile. The layers
+//! above may use that a call's journal is the parts of the members up to the one that answered, in order,
+//! that every earlier one was not loaded, and that each part has its cause.
 #![tactic(auto)]
 
 mod call;

@@ -1,10 +1,10 @@
+//! The members of the default chain.
 ghost use Rattle.std.specs.Prelude.{◌≡◌};
 ghost use Rattle.cfg_base.specs.Text.{characters};
 ghost use Rattle.cfg_sso.specs.Tokens.{HasKey};
 ghost use Rattle.cfg_chain.specs.Follows.{FollowsTree};
 ghost use Rattle.cfg_chain.specs.Views.{view};
 ghost use Rattle.cfg_chain.specs.Members.{name_of, member_tree};
-ghost use Rattle.cfg_chain.specs.Turns.{IsTurn};
 ghost use Rattle.cfg_chain.specs.profile.Plans.{key_of};
 
 use crate::call::ChainCall;
@@ -42,27 +42,6 @@ impl Member {
             Member::EcsContainer => "EcsContainer",
             Member::Ec2InstanceMetadata => "Ec2InstanceMetadata",
         }
-    }
-}
-
-/// How a chain goes on after what a member answered.
-#[derive(Drop)]
-pub enum Turn {
-    /// The member was not loaded. The next one is asked.
-    PassedOver(CredentialsError),
-    /// The answer is the chain's.
-    Answers(Result<Credentials, CredentialsError>),
-}
-
-/// How a chain goes on: a member that was not loaded is passed over, and anything else is its answer.
-pub fn turn_of(outcome: Result<Credentials, CredentialsError>) -> Turn
-    ensures { IsTurn outcome result }
-{
-    match outcome {
-        Err(CredentialsError::CredentialsNotLoaded(cause)) => {
-            Turn::PassedOver(CredentialsError::CredentialsNotLoaded(cause))
-        }
-        answer => Turn::Answers(answer),
     }
 }
 

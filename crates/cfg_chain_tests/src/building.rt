@@ -1,9 +1,9 @@
 //! What builders build, by scripts: a chain in its region, and a provider of a profile.
-use crate::setup::{Configured, Outcome, answer_words, answered, read_configuration};
+use crate::setup::{Configured, answer_words, answered, read_configuration};
 use cfg_chain::{DefaultCredentialsChain, ProfileFileCredentialsProvider};
 use cfg_profile::{ProfileSource, ProviderConfig};
 use cfg_region::{EnvironmentVariableRegionProvider, RegionSource};
-use cfg_types::{OutOfMemory, Region, Request, Text, TryCopy};
+use cfg_types::{OutOfMemory, Outcome, Region, Request, Text, TryCopy};
 use cfg_world::{Entry, Question, ScriptDevices, World};
 use std::alloc::{AllocError, Global};
 use std::test::Fail;
@@ -80,10 +80,8 @@ fn chain_by(
 }
 
 // What is asked for the chain, and by its call.
-fn built(alloc: Global, script: &str, call: u8) -> Result<String, OutOfMemory> {
-    let Some(Configured { config, mut world }) = read_configuration(alloc, script)? else {
-        return Ok(String::from_str(alloc, "no script")?);
-    };
+fn built(alloc: Global, configured: Configured, call: u8) -> Result<String, OutOfMemory> {
+    let Configured { config, mut world } = configured;
     let chain = chain_by(alloc, config, call, &mut world)?;
     let _answer = answered(alloc, &chain, &mut world)?;
     Ok(journal_words(alloc, world.journal())?)
@@ -110,7 +108,8 @@ fn regions_of_chains(rt: HostRuntime) -> Result<(), Fail> {
     ];
     for (variables, call, want) in table {
         let script = script_of(rt.alloc(), variables)?;
-        let words = built(rt.alloc(), script.as_str(), *call)?;
+        let configured = read_configuration(rt.alloc(), script.as_str())?;
+        let words = built(rt.alloc(), configured, *call)?;
         assert_eq!(rt; words.as_str(), *want, "{variables} {call}");
     }
     Ok(())
@@ -134,10 +133,8 @@ fn provider_by(
 }
 
 // What the provider answers, and what was asked.
-fn provided(alloc: Global, script: &str, call: u8) -> Result<String, OutOfMemory> {
-    let Some(Configured { config, mut world }) = read_configuration(alloc, script)? else {
-        return Ok(String::from_str(alloc, "no script")?);
-    };
+fn provided(alloc: Global, configured: Configured, call: u8) -> Result<String, OutOfMemory> {
+    let Configured { config, mut world } = configured;
     let provider = provider_by(alloc, &config, call)?;
     let mut kept = provider.new_kept()?;
     let outcome = Outcome {
@@ -169,7 +166,8 @@ fn providers_of_a_profile(rt: HostRuntime) -> Result<(), Fail> {
     ];
     let script = script_of(rt.alloc(), r#"["AWS_REGION","e"]"#)?;
     for (call, want) in table {
-        let words = provided(rt.alloc(), script.as_str(), *call)?;
+        let configured = read_configuration(rt.alloc(), script.as_str())?;
+        let words = provided(rt.alloc(), configured, *call)?;
         assert_eq!(rt; words.as_str(), *want, "{call}");
     }
     Ok(())

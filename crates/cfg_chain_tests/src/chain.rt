@@ -7,10 +7,8 @@ use std::alloc::Global;
 use std::test::Fail;
 
 // What a call of the chain answers, and what it asked.
-fn words_of(alloc: Global, script: &str) -> Result<String, OutOfMemory> {
-    let Some(Setup { chain, devices }) = set_up(alloc, script)? else {
-        return Ok(String::from_str(alloc, "no script")?);
-    };
+fn words_of(alloc: Global, setup: Setup) -> Result<String, OutOfMemory> {
+    let Setup { chain, devices } = setup;
     let mut world = World::new(alloc, devices);
     let answer = answered(alloc, &chain, &mut world)?;
     let questions = questions(alloc, world.journal())?;
@@ -47,7 +45,8 @@ fn calls(rt: HostRuntime) -> Result<(), Fail> {
         ),
     ];
     for (script, want) in table {
-        let words = words_of(rt.alloc(), script)?;
+        let setup = set_up(rt.alloc(), script)?;
+        let words = words_of(rt.alloc(), setup)?;
         assert_eq!(rt; words.as_str(), *want, "{script}");
     }
     Ok(())

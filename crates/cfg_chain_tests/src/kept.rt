@@ -4,6 +4,7 @@ use crate::setup::{Setup, answer_words, called, set_up};
 use cfg_chain::DefaultCredentialsChain;
 use cfg_imds::Client;
 use cfg_kept::{Keeper, Kept};
+use cfg_script::ScriptError;
 use cfg_types::OutOfMemory;
 use cfg_world::{ScriptDevices, World};
 use std::alloc::Global;
@@ -52,12 +53,10 @@ fn client_at(alloc: Global, endpoint: &str) -> Result<Option<Client>, OutOfMemor
 }
 
 // Two calls over a script, a line each, of a chain with a client of this endpoint.
-fn calls_of(alloc: Global, endpoint: &str, script: &str) -> Result<String, OutOfMemory> {
+fn calls_of(alloc: Global, endpoint: &str, script: &str) -> Result<String, ScriptError> {
     let client = client_at(alloc, endpoint)?;
-    match set_up(alloc, script)? {
-        Some(setup) => calls_by(alloc, setup, client),
-        None => Ok(String::from_str(alloc, "no script")?),
-    }
+    let setup = set_up(alloc, script)?;
+    Ok(calls_by(alloc, setup, client)?)
 }
 
 #[test]
@@ -75,11 +74,11 @@ fn two_calls(rt: HostRuntime) -> Result<(), Fail> {
             r#"{"variables":[["HOME","/home/u"]],"profiles":[["default",[["sso_session","abc"],["sso_account_id","1"],["sso_role_name","r"]]]],"sessions":[["abc",[["sso_region","us-east-1"],["sso_start_url","u"]]]],"files":[["/home/u/.aws/sso/cache/a9993e364706816aba3e25717850c26c9cd0d89d.json","{\"accessToken\":\"t\",\"expiresAt\":\"1970-01-01T00:15:00Z\",\"clientId\":\"i\",\"clientSecret\":\"s\",\"refreshToken\":\"r\",\"registrationExpiresAt\":\"1970-01-02T00:00:00Z\"}"]],"clock":[700],"replies":{"create-token":[{"access":"t2","expires_in":3600}],"role-credentials":[{"id":"R","secret":"S","token":"T","expires_ms":5000000},"dispatch"]}}"#,
             "Credentials { provider_name: \"SSO\", access_key_id: \"R\", secret_access_key: \"** redacted **\", expires_after: 5000 s 0 ns, account_id: \"1\" } S Some(\"T\") [CredentialsSso, CredentialsProfile] 6 1 None\nProviderError(Base(ProviderError(Sent(Dispatch)))) 2 1 None\n",
         ),
-        // A sign-in session, whose refresh is granted at the second call.
+        // A sign-in session, whose refresh is granted at the second call, half a minute after a failed one.
         (
             "",
-            r#"{"variables":[["AWS_LOGIN_CACHE_DIRECTORY","/c"]],"profiles":[["default",[["login_session","abc"]]]],"files":[["/c/ba7816bf8f01cfea414140de5dae2223b00361a396177a9cb410ff61f20015ad.json","{\"accessToken\":{\"accessKeyId\":\"AK\",\"secretAccessKey\":\"SK\",\"sessionToken\":\"ST\",\"accountId\":\"012345678901\",\"expiresAt\":\"1970-01-01T00:15:00Z\"},\"refreshToken\":\"rt\",\"clientId\":\"ci\",\"dpopKey\":\"dk\"}"]],"clock":[1000],"replies":{"sign-in":["dispatch",{"id":"AK2","secret":"SK2","token":"ST2","refresh":"rt2","expires_in":900}]}}"#,
-            "ProviderError(Base(ProviderError(LoginToken(RefreshFailed { message: None })))) 4 1 None\nCredentials { provider_name: \"Login\", access_key_id: \"AK2\", secret_access_key: \"** redacted **\", expires_after: 1900 s 0 ns, account_id: \"012345678901\" } SK2 Some(\"ST2\") [CredentialsProfileLogin, CredentialsProfile] 5 1 None\n",
+            r#"{"variables":[["AWS_LOGIN_CACHE_DIRECTORY","/c"]],"profiles":[["default",[["login_session","abc"]]]],"files":[["/c/ba7816bf8f01cfea414140de5dae2223b00361a396177a9cb410ff61f20015ad.json","{\"accessToken\":{\"accessKeyId\":\"AK\",\"secretAccessKey\":\"SK\",\"sessionToken\":\"ST\",\"accountId\":\"012345678901\",\"expiresAt\":\"1970-01-01T00:15:00Z\"},\"refreshToken\":\"rt\",\"clientId\":\"ci\",\"dpopKey\":\"dk\"}"]],"clock":[1000,1000,1030],"replies":{"sign-in":["dispatch",{"id":"AK2","secret":"SK2","token":"ST2","refresh":"rt2","expires_in":900}]}}"#,
+            "ProviderError(Base(ProviderError(LoginToken(RefreshFailed { message: None })))) 4 1 None\nCredentials { provider_name: \"Login\", access_key_id: \"AK2\", secret_access_key: \"** redacted **\", expires_after: 1930 s 0 ns, account_id: \"012345678901\" } SK2 Some(\"ST2\") [CredentialsProfileLogin, CredentialsProfile] 5 1 None\n",
         ),
     ];
     for (endpoint, script, want) in table {
@@ -91,18 +90,12 @@ fn two_calls(rt: HostRuntime) -> Result<(), Fail> {
 
 // A call of a chain that metadata answers, and then one of a chain for which it is switched off, on the same kept
 // values.
-fn switched_off(alloc: Global, on: &str, off: &str) -> Result<String, OutOfMemory> {
-    let Some(first) = set_up(alloc, on)? else {
-        return Ok(String::from_str(alloc, "no script")?);
-    };
-    let Setup { chain, devices } = first;
+fn switched_off(alloc: Global, on: &str, off: &str) -> Result<String, ScriptError> {
+    let Setup { chain, devices } = set_up(alloc, on)?;
     let mut world = World::new(alloc, devices);
     let mut kept = chain.new_kept()?;
     let answered = call_words(alloc, &chain, &mut kept, &mut world)?;
-    let Some(second) = set_up(alloc, off)? else {
-        return Ok(String::from_str(alloc, "no script")?);
-    };
-    let Setup { chain, devices } = second;
+    let Setup { chain, devices } = set_up(alloc, off)?;
     let mut world = World::new(alloc, devices);
     let kept_words = call_words(alloc, &chain, &mut kept, &mut world)?;
     Ok(format!(in alloc; "{answered}{kept_words}")?)

@@ -1,6 +1,7 @@
 //! What no clause says: the chain over devices of which one call fails, each in turn, and over each
 //! beginning of the receipts of a call.
 use crate::setup::{Setup, followed, set_up};
+use cfg_script::ScriptError;
 use cfg_types::{OutOfMemory, Seq, TryCopy};
 use cfg_world::{Answers, Entry, FaultDevices, Receipt, ScriptDevices, World};
 use std::alloc::Global;
@@ -46,15 +47,13 @@ fn with_fault(alloc: Global, setup: Setup, at: u64) -> Result<(String, u64), Out
     Ok((words, devices.calls()))
 }
 
-fn fault_of(alloc: Global, script: &str, at: u64) -> Result<(String, u64), OutOfMemory> {
-    match set_up(alloc, script)? {
-        Some(setup) => with_fault(alloc, setup, at),
-        None => Ok((String::from_str(alloc, "no script")?, 0)),
-    }
+fn fault_of(alloc: Global, script: &str, at: u64) -> Result<(String, u64), ScriptError> {
+    let setup = set_up(alloc, script)?;
+    Ok(with_fault(alloc, setup, at)?)
 }
 
 // A line for each call of the devices that may fail.
-fn faults_of(alloc: Global, script: &str) -> Result<String, OutOfMemory> {
+fn faults_of(alloc: Global, script: &str) -> Result<String, ScriptError> {
     let (_, calls) = fault_of(alloc, script, 0)?;
     let mut lines = String::new(alloc);
     for at in 1..=calls {
@@ -103,11 +102,9 @@ fn over_receipts(alloc: Global, setup: Setup, entries: &[Entry]) -> Result<Strin
     Ok(format!(in alloc; "{answer} {open:?}")?)
 }
 
-fn beginning(alloc: Global, script: &str, entries: &[Entry]) -> Result<String, OutOfMemory> {
-    match set_up(alloc, script)? {
-        Some(setup) => over_receipts(alloc, setup, entries),
-        None => Ok(String::from_str(alloc, "no script")?),
-    }
+fn beginning(alloc: Global, script: &str, entries: &[Entry]) -> Result<String, ScriptError> {
+    let setup = set_up(alloc, script)?;
+    Ok(over_receipts(alloc, setup, entries)?)
 }
 
 // What the same comes to by the whole journal: the next question stays open, or none behind the last.
@@ -126,14 +123,14 @@ fn by_journal(
     }
 }
 
-// Of how many beginnings of a call's receipts the question behind is the open one, and whether all of them
-// give the call's answer. The first that comes to something else is named.
+// How many questions of a call were answered, where behind each beginning of its receipts the next one is
+// open and all of them give the call's answer. Otherwise the first beginning that comes to something else.
 fn beginnings(
     alloc: Global,
     script: &str,
     answer: &str,
     journal: &[Entry],
-) -> Result<String, OutOfMemory> {
+) -> Result<String, ScriptError> {
     let asked = journal.len();
     for count in 0..=asked {
         let entries = journal.get(..count).unwrap_or(journal);
@@ -143,18 +140,14 @@ fn beginnings(
             return Ok(format!(in alloc; "behind {count} of {asked}: {got} in place of {want}")?);
         }
     }
-    Ok(format!(in alloc; "open {asked} of {asked}, answered")?)
+    Ok(format!(in alloc; "{asked} answered")?)
 }
 
-fn beginnings_of(alloc: Global, script: &str) -> Result<String, OutOfMemory> {
+fn beginnings_of(alloc: Global, script: &str) -> Result<String, ScriptError> {
     let mut journal = Vec::new(alloc);
-    match set_up(alloc, script)? {
-        Some(setup) => {
-            let answer = whole_call(alloc, setup, &mut journal)?;
-            beginnings(alloc, script, answer.as_str(), journal.as_slice())
-        }
-        None => Ok(String::from_str(alloc, "no script")?),
-    }
+    let setup = set_up(alloc, script)?;
+    let answer = whole_call(alloc, setup, &mut journal)?;
+    beginnings(alloc, script, answer.as_str(), journal.as_slice())
 }
 
 #[test]
@@ -222,13 +215,13 @@ fn each_call_of_the_devices_may_fail(rt: HostRuntime) -> Result<(), Fail> {
 #[test]
 fn the_question_behind_a_beginning_is_open(rt: HostRuntime) -> Result<(), Fail> {
     let table: &[(&str, &str)] = &[
-        (ROLE, "open 2 of 2, answered"),
-        (PROCESS, "open 4 of 4, answered"),
-        (IDENTITY, "open 3 of 3, answered"),
-        (CONTAINER, "open 5 of 5, answered"),
-        (METADATA, "open 10 of 10, answered"),
-        (SESSION, "open 6 of 6, answered"),
-        (SIGN_IN, "open 6 of 6, answered"),
+        (ROLE, "2 answered"),
+        (PROCESS, "4 answered"),
+        (IDENTITY, "3 answered"),
+        (CONTAINER, "5 answered"),
+        (METADATA, "10 answered"),
+        (SESSION, "6 answered"),
+        (SIGN_IN, "6 answered"),
     ];
     for (script, want) in table {
         let words = beginnings_of(rt.alloc(), script)?;

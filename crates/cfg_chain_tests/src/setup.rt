@@ -8,8 +8,10 @@ use cfg_chain::DefaultCredentialsChain;
 use cfg_kept::Kept;
 use cfg_profile::{ProfileSet, ProfileSource, ProviderConfig, Section};
 use cfg_region::RegionSource;
-use cfg_script::{Script, ScriptProfiles, read_script};
-use cfg_types::{Credentials, CredentialsError, Env, EnvText, OutOfMemory, Region, TryCopy};
+use cfg_script::{Script, ScriptError, ScriptProfiles, read_script};
+use cfg_types::{
+    Credentials, CredentialsError, Env, EnvText, OutOfMemory, Outcome, Region, TryCopy,
+};
 use cfg_world::{Asking, Entry, ScriptDevices, World};
 use std::alloc::{AllocError, Global};
 
@@ -100,15 +102,10 @@ fn configure(alloc: Global, script: Script) -> Result<Configured, OutOfMemory>
     Ok(Configured { config, world })
 }
 
-/// What a script configures, and a world over the devices that it scripts. None for what is no script.
-pub(crate) fn read_configuration(
-    alloc: Global,
-    script: &str,
-) -> Result<Option<Configured>, OutOfMemory> {
-    match read_script(alloc, script.as_bytes()) {
-        Ok(script) => Ok(Some(configure(alloc, script)?)),
-        Err(_) => Ok(None),
-    }
+/// What a script configures, and a world over the devices that it scripts.
+pub(crate) fn read_configuration(alloc: Global, script: &str) -> Result<Configured, ScriptError> {
+    let script = read_script(alloc, script.as_bytes())?;
+    Ok(configure(alloc, script)?)
 }
 
 // The chain over what is configured, in a region.
@@ -120,23 +117,10 @@ fn set_up_over(alloc: Global, configured: Configured) -> Result<Setup, OutOfMemo
     Ok(Setup { chain, devices })
 }
 
-/// The chain that a script configures, and the devices that it scripts. None for what is no script.
-pub(crate) fn set_up(alloc: Global, script: &str) -> Result<Option<Setup>, OutOfMemory> {
-    match read_configuration(alloc, script)? {
-        Some(configured) => Ok(Some(set_up_over(alloc, configured)?)),
-        None => Ok(None),
-    }
-}
-
-/// An answer that is let go by one call.
-pub(crate) struct Outcome {
-    pub(crate) answer: Result<Credentials, CredentialsError>,
-}
-
-impl Drop for Outcome {
-    fn drop(self) {
-        let Outcome { answer: _ } = self;
-    }
+/// The chain that a script configures, and the devices that it scripts.
+pub(crate) fn set_up(alloc: Global, script: &str) -> Result<Setup, ScriptError> {
+    let configured = read_configuration(alloc, script)?;
+    Ok(set_up_over(alloc, configured)?)
 }
 
 /// An answer, with the secret, the token and the features of credentials.
@@ -160,7 +144,7 @@ pub(crate) fn called(
     chain: &DefaultCredentialsChain,
     kept: &mut Kept,
     world: &mut World<ScriptDevices>,
-) -> Option<Outcome> {
+) -> Option<Outcome<Credentials, CredentialsError>> {
     if !kept.fits(chain.token_key()) {
         return None;
     }

@@ -16,7 +16,7 @@ use Rattle.cfg_meta.specs.Provides.{ProvidesByMembers, InterruptedMembers}
 use Rattle.cfg_meta.proofs.Mapped.{mapped_follows, mapped_provides, mapped_interrupted}
 use Rattle.cfg_providers.specs.CustomSources.{Answer}
 use Rattle.cfg_types.specs.Classes.{is_memory}
-use Rattle.cfg_credentials_chain.specs.CredentialsAnswers.{credentials_rules}
+use Rattle.cfg_meta.specs.CredentialsAnswers.{credentials_rules}
 use Rattle.cfg_credentials_chain.specs.Members.{NamedAsked, name_in, IsNamedTree}
 
 -- an answer that says that memory ran out

@@ -1,4 +1,3 @@
-pub mod CredentialsAnswers
 pub mod Members
 pub mod OneTree
 pub mod Causes

@@ -7,7 +7,7 @@ ghost use Rattle.cfg_meta.specs.FirstAnswers.{IsFirstAnswer, IsNoneLoaded};
 ghost use Rattle.cfg_meta.specs.MemberParts.{Keeping, IsMemberPart, AreMemberParts};
 ghost use Rattle.cfg_providers.specs.CustomSources.{Answer};
 ghost use Rattle.cfg_credentials_chain.specs.Causes.{HasCause};
-ghost use Rattle.cfg_credentials_chain.specs.CredentialsAnswers.{credentials_rules};
+ghost use Rattle.cfg_meta.specs.CredentialsAnswers.{credentials_rules};
 ghost use Rattle.cfg_credentials_chain.specs.Members.{Asked, IsMemberTree, NamedAsked, name_in, IsNamedTree};
 
 /// Each answer of a member has its cause over its part, by the rule of its provider.

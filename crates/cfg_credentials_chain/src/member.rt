@@ -12,13 +12,14 @@ use cfg_chain::{DefaultCredentialsChain, ProfileFileCredentialsProvider};
 use cfg_imds_credentials::ImdsCredentialsProvider;
 use cfg_kept::Kept;
 use cfg_login::LoginCredentialsProvider;
+use cfg_providers::steps::answer_of;
 use cfg_providers::{
     CredentialProcessProvider, CustomProvider, EcsCredentialsProvider,
     EnvironmentVariableCredentialsProvider, WebIdentityTokenCredentialsProvider,
 };
 use cfg_sso::SsoCredentialsProvider;
 use cfg_token::TokenKey;
-use cfg_types::{Credentials, CredentialsError, OutOfMemory, TryCopy, is_memory};
+use cfg_types::{Credentials, CredentialsError, OutOfMemory, TryCopy};
 use cfg_world::{Asking, Stop};
 use std::alloc::Global;
 
@@ -95,7 +96,7 @@ impl Member {
                 Ok(Ok(credentials))
             }
             Member::Custom(own) => {
-                let answer = told(own)?;
+                let answer = answer_of(own)?;
                 Ok(answer)
             }
         }
@@ -115,15 +116,4 @@ impl Member {
             _ => Ok(None),
         }
     }
-}
-
-// What a source answers.
-fn told(own: &CustomProvider) -> Result<Result<Credentials, CredentialsError>, OutOfMemory>
-    ensures { IfOk result (λ answer. answer ≡ value own.now) }
-{
-    let answer = own.provide_credentials();
-    if is_memory(&answer) {
-        return Err(OutOfMemory);
-    }
-    Ok(answer)
 }

@@ -1,16 +1,11 @@
 //! Members of a chain by their names.
-ghost use Rattle.std.specs.Prelude.{◌≡◌, true};
-ghost use Rattle.cfg_chain.specs.Members.{is_not_loaded as is_not_loaded_error, none_loaded as none_loaded_of};
-ghost use Rattle.cfg_credentials_chain.specs.CredentialsAnswers.{is_memory_error};
 
 use crate::member::Member;
 use cfg_imds::BoxedClassifier;
 use cfg_kept::Kept;
 use cfg_meta::{ChainMember, FallsBack};
 use cfg_token::TokenKey;
-use cfg_types::{
-    Credentials, CredentialsError, NotLoadedCause, OutOfMemory, ProviderChainError, Text,
-};
+use cfg_types::{Credentials, CredentialsError, OutOfMemory, Text};
 use cfg_world::{Asking, Stop};
 use std::alloc::Global;
 use std::marker::PhantomData;
@@ -25,7 +20,6 @@ pub(crate) struct NamedMember {
 }
 
 impl ChainMember for NamedMember {
-    ghost use Rattle.cfg_credentials_chain.specs.CredentialsAnswers.{credentials_rules};
     ghost use Rattle.cfg_credentials_chain.specs.Members.{name_in, needed_in, IsNamedTree};
     ghost use Rattle.cfg_credentials_chain.specs.Views.{named_of};
     ghost use Rattle.cfg_credentials_chain.specs.OneTree.{one_member_tree};
@@ -43,8 +37,6 @@ impl ChainMember for NamedMember {
     ghost is_tree = { λ m tree. IsNamedTree (named_of (λ b. (ProvideCredentials-box b).value b.value)
         (λ b. (ProvideCredentials-box b).fallback b.value) (λ b. (ClassifyRetry-box b).repeated b.value) m) tree };
 
-    ghost rules = { credentials_rules };
-
     fn name(&self) -> &str {
         self.name.as_str()
     }
@@ -60,24 +52,6 @@ impl ChainMember for NamedMember {
         asking: &mut A,
     ) -> Result<Result<Credentials, CredentialsError>, Stop> {
         self.member.follow(alloc, kept, asking)
-    }
-
-    fn is_not_loaded(error: &CredentialsError) -> bool
-        ensures { result ≡ is_not_loaded_error error.now }
-    {
-        matches!(error, CredentialsError::CredentialsNotLoaded(_))
-    }
-
-    fn none_loaded(attempts: ProviderChainError<CredentialsError>) -> CredentialsError
-        ensures { result ≡ none_loaded_of attempts.attempts }
-    {
-        CredentialsError::CredentialsNotLoaded(NotLoadedCause::Chain(attempts))
-    }
-
-    fn out_of_memory() -> CredentialsError
-        ensures { is_memory_error result ≡ true }
-    {
-        CredentialsError::OutOfMemory
     }
 
     ghost one_tree = { λ m one other is also. one_member_tree _ one other is also };

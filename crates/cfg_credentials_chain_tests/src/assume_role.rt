@@ -1,3 +1,2 @@
 //! The tests of cfg_assume_role, over public calls: what no clause says.
 mod provider;
-mod setup;

@@ -5,3 +5,5 @@
 mod assume_role;
 #[cfg(test)]
 mod credentials_chain;
+#[cfg(test)]
+mod setup;

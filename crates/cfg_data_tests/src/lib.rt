@@ -1,4 +1,5 @@
-//! The tests of values, documents, profiles, causes and the script, over public calls: what no clause says.
+//! The tests of values, documents, profiles, the texts of errors and the script, over public calls: what no
+//! clause says.
 #![tactic(auto)]
 
 #[cfg(test)]

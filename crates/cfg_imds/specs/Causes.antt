@@ -27,22 +27,16 @@ fault_after a [] = None
 fault_after a (b ∷ []) = by_question b.0 (entry_fault b) (token_fault a b)
 fault_after a (b ∷ c ∷ part) = fault_after b (c ∷ part)
 
+-- Why no session token is settled: the last two entries give none. None where enough of a kept one is left.
 abbrev pub why_asked : List Pair → Option ImdsError
 why_asked [] = None
 why_asked (a ∷ part) = fault_after a part
 
--- Why no session token is settled: the last two entries give none. None where enough of a kept one is left.
-abbrev pub why_unsettled : List Pair → Option ImdsError
-why_unsettled part = why_asked part
-
+-- why a path is not fetched: what is wrong with the last answer
 abbrev pub last_fault : List Pair → Option ImdsError
 last_fault [] = None
 last_fault (a ∷ []) = entry_fault a
 last_fault (a ∷ b ∷ part) = last_fault (b ∷ part)
-
--- why a path is not fetched: what is wrong with the last answer
-abbrev pub why_unfetched : List Pair → Option ImdsError
-why_unfetched part = last_fault part
 
 -- Why a get gives no text: the path, else the endpoint, else what is wrong at the end of the part.
 abbrev pub why_no_text : ClientRules → List ℕ → List Pair → Option ImdsError

@@ -1,8 +1,8 @@
 -- Where the instance metadata service is asked.
-use Rattle.std.specs.Prelude.{◌≡◌, ℕ, List, Option, Some, None, option_map, option_and_then, Result, Ok, Err, codes, if◌then◌else◌}
+use Rattle.std.specs.Prelude.{◌≡◌, ℕ, List, Option, Some, None, option_map, option_and_then, Result, Ok, Err, codes}
 use Rattle.std.specs.FinMap.{get}
 use Rattle.std.specs.Option.{option_or}
-use Rattle.std.specs.Str.{encode_utf8_all, str_eq_ignore_ascii_case}
+use Rattle.std.specs.Str.{encode_utf8_all}
 use Rattle.http_uri.specs.Grammar.{IsUriText}
 use Rattle.cfg_base.specs.Text.{characters}
 use Rattle.cfg_types.specs.declared.errors.imds.EndpointMode.{EndpointMode}
@@ -13,16 +13,11 @@ use Rattle.cfg_profile.specs.Selected.{selected_name}
 use Rattle.cfg_profile.specs.declared.sections.ProfileSource.{ProfileSource}
 use Rattle.cfg_profile.specs.declared.sections.ProfileSource.TheVariants.{Sections, Refused}
 use Rattle.cfg_types.specs.Environment.{readable}
+use Rattle.cfg_types.specs.Metadata.{mode_in}
 use Rattle.cfg_imds.specs.declared.endpoint.Endpoint.{Endpoint}
 use Rattle.cfg_imds.specs.declared.endpoint.Endpoint.TheVariants.{At, NoUri, NoMode}
 
 -- ---- modes
-
--- the mode that a text names, ASCII case of letters apart
-abbrev pub mode_in : List ℕ → Option EndpointMode
-mode_in text =
-    if str_eq_ignore_ascii_case text (codes "IPv4") then Some IpV4
-    else (if str_eq_ignore_ascii_case text (codes "IPv6") then Some IpV6 else None)
 
 -- the address of the service
 abbrev pub mode_endpoint : EndpointMode → List ℕ

@@ -1,14 +1,12 @@
 //! Where the instance metadata service is asked.
-ghost use Rattle.std.specs.Prelude.{◌≡◌, ◌≢◌, Option, Bool, true, false, Ok as ok, Err as err, option_map, IfOk, IfErr, codes, is_some, Some as some, None as none, ◌&&◌};
+ghost use Rattle.std.specs.Prelude.{◌≡◌, Ok as ok, Err as err, option_map, IfOk, IfErr, is_some, None as none, ◌&&◌};
 ghost use Rattle.http_uri.specs.Uri.{uri_scheme, uri_authority};
-ghost use Rattle.cfg_base.specs.Text.{characters};
-ghost use Rattle.cfg_types.specs.declared.errors.imds.InvalidEndpointMode.TheVariants as invalid;
-ghost use Rattle.cfg_imds.specs.Endpoints.{mode_in, mode_endpoint as mode_endpoint_of, key_in, setting as setting_of, mode_by, by_mode as by_mode_of, or_mode as or_mode_of, endpoint_text, IsEndpointAt, IsEndpointBy, IsEndpoint};
+ghost use Rattle.cfg_imds.specs.Endpoints.{mode_endpoint as mode_endpoint_of, key_in, setting as setting_of, mode_by, by_mode as by_mode_of, or_mode as or_mode_of, endpoint_text, IsEndpointAt, IsEndpointBy, IsEndpoint};
 ghost use Rattle.cfg_profile.specs.Selected.{selected_name as selected_name_of};
 ghost use Rattle.cfg_imds.specs.Hosts.{IsHosted};
 
 use cfg_profile::{ProfileSource, ProviderConfig, selected_name};
-use cfg_types::imds::{EndpointMode, InvalidEndpointMode};
+use cfg_types::imds::EndpointMode;
 use cfg_types::{OutOfMemory, Text, TryCopy};
 use http_uri::{Uri, UriError};
 use std::alloc::Global;
@@ -67,34 +65,6 @@ fn setting<'a>(config: &'a ProviderConfig, variable: &str, key: &str) -> Option<
     }
 }
 
-// The mode that a text names.
-fn mode_of(text: &str) -> Option<EndpointMode>
-    ensures { result ≡ mode_in text.now }
-{
-    if text.eq_ignore_ascii_case("IPv4") {
-        Some(EndpointMode::IpV4)
-    } else if text.eq_ignore_ascii_case("IPv6") {
-        Some(EndpointMode::IpV6)
-    } else {
-        None
-    }
-}
-
-/// The mode of a text: `IPv4` or `IPv6`, whatever the ASCII case of its letters. The error `Mode` comes
-/// exactly where the text is neither, and has it. `OutOfMemory` where memory runs out.
-pub fn endpoint_mode(alloc: Global, text: &str) -> Result<EndpointMode, InvalidEndpointMode>
-    ensures mode { IfOk result (λ mode. mode_in text.now ≡ some mode) }
-    ensures none { IfErr result (λ e. e ≢ invalid.OutOfMemory → (mode_in text.now ≡ none) × (e ≡ invalid.Mode (characters text.now))) }
-{
-    match mode_of(text) {
-        Some(mode) => Ok(mode),
-        None => {
-            let text = Text::of(alloc, text)?;
-            Err(InvalidEndpointMode::Mode(text))
-        }
-    }
-}
-
 fn mode_endpoint(mode: EndpointMode) -> &'static str
     ensures { result.now ≡ mode_endpoint_of mode }
 {
@@ -144,7 +114,7 @@ fn mode_said<'a>(said: Option<&'a str>) -> Result<&'a str, &'a str>
     let Some(text) = said else {
         return Ok(mode_endpoint(EndpointMode::IpV4));
     };
-    match mode_of(text) {
+    match EndpointMode::named(text) {
         Some(mode) => Ok(mode_endpoint(mode)),
         None => Err(text),
     }

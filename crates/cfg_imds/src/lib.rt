@@ -20,7 +20,6 @@ mod token;
 
 pub use cfg_types::OutOfMemory;
 pub use classifier::BoxedClassifier;
-pub use endpoint::endpoint_mode;
 pub use imds::{Builder, Client};
 pub use state::ImdsTokenState;
 pub use token::MetadataToken;

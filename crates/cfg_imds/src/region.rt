@@ -1,6 +1,7 @@
 //! The region that the instance metadata service tells.
-ghost use Rattle.std.specs.Prelude.{◌≡◌, option_map, IfOk};
+ghost use Rattle.std.specs.Prelude.{◌≡◌, option_map, IfOk, OnErr};
 ghost use Rattle.cfg_imds.specs.Clients.{rules_of};
+ghost use Rattle.cfg_imds.specs.Left.{RegionLeftBy};
 ghost use Rattle.cfg_imds.specs.Regions.{is_true_text as is_true_text_of, is_disabled as is_disabled_of, region_in, region as region_of};
 ghost use Rattle.cfg_imds.specs.Settles.{FollowsKept};
 ghost use Rattle.cfg_imds.specs.Tokens.{bare_kept};
@@ -48,7 +49,7 @@ fn region_of_text(
 /// The region of the machine: the text at `/latest/meta-data/placement/region`, as it stands. None where
 /// metadata is switched off, and nothing is asked then; none, too, after each error but that memory ran
 /// out, which is a stop. What is kept is as [`follow_get`] leaves it, and as it was where metadata
-/// is switched off.
+/// is switched off. After a stop it is as it was, or as a settle or a get that came to its end left it.
 #[tactic(auto, using(crate::proofs::Located::located_steps), unfolding(crate::specs::Regions::region))]
 pub fn follow_region<A: Asking>(
     alloc: Global,
@@ -57,9 +58,10 @@ pub fn follow_region<A: Asking>(
     kept: &mut Option<MetadataToken>,
     asking: &mut A,
 ) -> Result<Option<Region>, Stop>
-    ensures { FollowsKept ⟦<A as Asking>⟧
+    ensures follows { FollowsKept ⟦<A as Asking>⟧
         (region_of (is_disabled_of env.now) (rules_of repeated client.now) (bare_kept kept.old))
         asking.old asking.new (bare_kept kept.new) result }
+    ensures left { OnErr result (RegionLeftBy ⟦<A as Asking>⟧ (rules_of repeated client.now) asking.old asking.new kept.old kept.new) }
 {
     if is_disabled(env) {
         return Ok(None);

@@ -18,7 +18,7 @@ pub record IsUnlisted (s : MetadataSetting) (part : List Pair) : Type 0 where
   pub is : why_no_text s.client listing_path part ≡ Some fault
   pub absent : IsSome (absence fault)
 
--- Metadata is switched off and nothing is asked, or the listing names no role; and nothing retrieved was
--- found.
+-- Metadata is switched off and nothing is asked, or the listing names no role, or its token request could not be
+-- sent; and nothing retrieved was found.
 abbrev pub IsPassedOver : MetadataSetting → List Value → List Pair → Type 0
 IsPassedOver s found part = (retrieved_in found ≡ None) × (((s.disabled ≡ true) × (part ≡ [])) ⊎ IsUnlisted s part)

@@ -123,7 +123,7 @@ fn cut_jitter(jitter: u64) -> u64
     }
 }
 
-// Expired credentials still serve where the service gives none that are newer. The sum stays below 15
+// Expired credentials still serve where the service gives none that are newer. What is added is at most 15
 // minutes, the shortest time for which credentials are given.
 fn extended(now: Instant, jitter: u64) -> Instant
     ensures { result ≡ extended_of now jitter }

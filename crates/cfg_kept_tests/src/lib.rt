@@ -4,7 +4,7 @@
 #[cfg(test)]
 mod kept;
 #[cfg(test)]
-mod login;
+mod login_token;
 #[cfg(test)]
 mod sections;
 #[cfg(test)]

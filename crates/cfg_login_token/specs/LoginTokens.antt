@@ -96,9 +96,9 @@ refusal_words kind.Other = None
 abbrev pub refusal_message : RefusalKind → Option (List ℕ)
 refusal_message kind = option_map characters (refusal_words kind)
 
--- A refresh that fails is an error, and the attempt is not noted.
+-- A refresh that fails is an error, and the attempt is noted.
 abbrev pub fails : Option (List ℕ) → Renewal LoginToken LoginTokenError
-fails message = Refused (RefreshFailed message) false
+fails message = Refused (RefreshFailed message) true
 
 abbrev pub renewed_to : LoginToken → SignInToken → Option Moment → Renewal LoginToken LoginTokenError
 renewed_to token given None = fails None

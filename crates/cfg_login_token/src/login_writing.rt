@@ -1,13 +1,15 @@
+//! The text of a token's file.
 ghost use Rattle.std.specs.Prelude.{◌≡◌, [], IfOk, OnOk};
 ghost use Rattle.std.specs.Option.{option_copied};
 ghost use Rattle.cfg_base.specs.Text.{characters};
 ghost use Rattle.cfg_json.specs.Dates.{IsWrittenDate, IsOutside};
 ghost use Rattle.cfg_json.specs.Writing.{braced};
-ghost use Rattle.cfg_token.specs.SsoText.{with_text, with_text_if_there, IsWrittenIfThere, IsOutsideIfThere};
+ghost use Rattle.cfg_token.specs.SsoText.{with_text_if_there, IsWrittenIfThere, IsOutsideIfThere};
 ghost use Rattle.cfg_login_token.specs.LoginText.{access_members, access_member, token_members, IsLoginText, HasNoText, Writes, FailsToFormat};
 
 use crate::login_token::LoginToken;
 use cfg_json::{ObjectWriter, write_date};
+use cfg_token::writing::{push_if_there, push_text};
 use cfg_types::{Credentials, Field, Instant, LoginTokenError, OutOfMemory, Text};
 use std::alloc::Global;
 
@@ -111,25 +113,6 @@ fn push_account(object: &mut ObjectWriter, keys: &Credentials) -> Result<(), Out
 {
     match keys.account_id() {
         Some(account) => push_text(object, Field::LowerAccountId, account.as_str()),
-        None => Ok(()),
-    }
-}
-
-fn push_text(object: &mut ObjectWriter, field: Field, text: &str) -> Result<(), OutOfMemory>
-    ensures { OnOk result (object.new ≡ with_text field (characters text.now) object.old) }
-{
-    object.text(field.as_str(), text)
-}
-
-fn push_if_there(
-    object: &mut ObjectWriter,
-    field: Field,
-    text: &Option<Text>,
-) -> Result<(), OutOfMemory>
-    ensures { OnOk result (object.new ≡ with_text_if_there field text.now object.old) }
-{
-    match text {
-        Some(text) => push_text(object, field, text.as_str()),
         None => Ok(()),
     }
 }

@@ -51,14 +51,14 @@ pub fn by_refusal(
     }
 }
 
-/// The error `RefreshFailed` with this message. The attempt is not noted: as in aws-config, a refresh that
-/// was granted alone is.
+/// The error `RefreshFailed` with this message. The attempt is noted, so that the next one comes 30 seconds later at
+/// the earliest, where aws-config tries again at each call.
 pub fn failed(message: Option<Text>) -> Renewal<LoginToken, LoginTokenError>
     ensures { result ≡ fails message }
 {
     Renewal::Refused {
         error: LoginTokenError::RefreshFailed { message },
-        noted: false,
+        noted: true,
     }
 }
 

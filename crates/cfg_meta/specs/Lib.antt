@@ -1,4 +1,6 @@
 pub mod AnswerRules
+pub mod CredentialsAnswers
+pub mod TokenAnswers
 pub mod MemberParts
 pub mod FollowsMembers
 pub mod Provides

@@ -1,7 +1,7 @@
 -- How a chain goes on after what a member answered.
 use Rattle.std.specs.Prelude.{◌≡◌, Some, None, Result}
-use Rattle.cfg_meta.specs.declared.follow.Turn.{Turn}
-use Rattle.cfg_meta.specs.declared.follow.Turn.TheVariants.{PassedOver, Answers}
+use Rattle.cfg_meta.specs.declared.turn.Turn.{Turn}
+use Rattle.cfg_meta.specs.declared.turn.Turn.TheVariants.{PassedOver, Answers}
 use Rattle.cfg_meta.specs.AnswerRules.{AnswerRules, passed_over}
 
 -- an error that is passed over, or the answer as it is

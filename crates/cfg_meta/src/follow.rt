@@ -1,25 +1,16 @@
 //! A chain asks its members in order.
-ghost use Rattle.std.specs.Prelude.{◌≡◌, ◌++◌, ◌∷◌, [], OnOk, map};
+ghost use Rattle.std.specs.Prelude.{◌≡◌, map};
 ghost use Rattle.cfg_kept.specs.KeptStates.{kept_key};
-ghost use Rattle.cfg_meta.specs.AnswerRules.{attempt_of};
 ghost use Rattle.cfg_meta.specs.FollowsMembers.{FollowsMembers};
 ghost use Rattle.cfg_meta.specs.MemberParts.{keeping_of};
-ghost use Rattle.cfg_meta.specs.Turns.{IsTurn};
 
+use crate::error::ChainError;
 use crate::member::ChainMember;
+use crate::turn::{Turn, note_attempt, turn_of};
 use cfg_kept::Kept;
-use cfg_types::{OutOfMemory, ProviderAttempt, ProviderChainError, Seq, Text};
+use cfg_types::{ProviderChainError, Seq};
 use cfg_world::{Asking, Stop};
 use std::alloc::Global;
-
-/// How a chain goes on after what a member answered.
-#[derive(Drop)]
-pub(crate) enum Turn<V, E> {
-    /// The next member is asked.
-    PassedOver(E),
-    /// The answer is the chain's.
-    Answers(Result<V, E>),
-}
 
 /// Asks the members in order, up to the first one that was loaded or that failed, whose answer is the
 /// outcome. Where each one was not loaded, that is the outcome, which tells of each. What is kept of each
@@ -38,51 +29,22 @@ pub fn follow_members<M: ChainMember, A: Asking>(
     asking: &mut A,
 ) -> Result<Result<M::Value, M::Error>, Stop>
     requires { map kept_key kept.old ≡ map (λ m. M.needs m) members.now }
-    ensures follows { FollowsMembers ⟦<A as Asking>⟧ M.rules (λ m. M.named m) (λ m. M.is_tree m) members.now (map keeping_of kept.old)
+    ensures follows { FollowsMembers ⟦<A as Asking>⟧ M.Error.rules (λ m. M.named m) (λ m. M.is_tree m) members.now (map keeping_of kept.old)
         (map keeping_of kept.new) asking.old asking.new result }
     ensures keys { map kept_key kept.new ≡ map kept_key kept.old }
 {
     let mut attempts = Vec::new(alloc);
     for (i, member) in members.iter().enumerate() {
         let outcome = member.follow(alloc, &mut kept[i], asking)?;
-        match turn_of::<M>(outcome) {
+        match turn_of(outcome) {
             Turn::Answers(answer) => return Ok(answer),
             Turn::PassedOver(error) => {
-                let Ok(()) = note_attempt(alloc, &mut attempts, member, error) else {
+                let Ok(()) = note_attempt(alloc, &mut attempts, member.name(), error) else {
                     return Err(Stop::OutOfMemory);
                 };
             }
         }
     }
     let attempts = ProviderChainError::new(Seq::of(attempts));
-    Ok(Err(M::none_loaded(attempts)))
-}
-
-fn turn_of<M: ChainMember>(outcome: Result<M::Value, M::Error>) -> Turn<M::Value, M::Error>
-    ensures { IsTurn M.rules outcome result }
-{
-    match outcome {
-        Ok(value) => Turn::Answers(Ok(value)),
-        Err(error) => {
-            if M::is_not_loaded(&error) {
-                Turn::PassedOver(error)
-            } else {
-                Turn::Answers(Err(error))
-            }
-        }
-    }
-}
-
-// One attempt more.
-fn note_attempt<M: ChainMember>(
-    alloc: Global,
-    attempts: &mut Vec<ProviderAttempt<M::Error>>,
-    member: &M,
-    error: M::Error,
-) -> Result<(), OutOfMemory>
-    ensures { OnOk result (attempts.new.items ≡ attempts.old.items ++ attempt_of (M.named member.now) error ∷ []) }
-{
-    let name = Text::of(alloc, member.name())?;
-    attempts.push(ProviderAttempt::new(name, error))?;
-    Ok(())
+    Ok(Err(M::Error::none_loaded(attempts)))
 }

@@ -11,15 +11,15 @@ use crate::member::ChainMember;
 /// passed over, and it tells of each.
 pub fn the_first_answer_is_the_chains<M: ChainMember>()
     ensures { (members : List M) (olds news : List Keeping) (part : List Pair) (out : Result M.Value M.Error) →
-        AreMemberParts M.rules (λ m. M.named m) (λ m. M.is_tree m) members olds news part out →
-        IsFirstAnswer M.rules (λ m. M.named m) (λ m. M.is_tree m) members out ⊎ IsNoneLoaded M.rules (λ m. M.named m) (λ m. M.is_tree m) members out }
+        AreMemberParts M.Error.rules (λ m. M.named m) (λ m. M.is_tree m) members olds news part out →
+        IsFirstAnswer M.Error.rules (λ m. M.named m) (λ m. M.is_tree m) members out ⊎ IsNoneLoaded M.Error.rules (λ m. M.named m) (λ m. M.is_tree m) members out }
 {}
 
 /// From what is kept of the members there is one journal: of two calls whose answers agree as far as both
 /// ask the same, the parts, what is kept and the outcome are the same.
 pub fn one_journal<M: ChainMember>()
     ensures { (members : List M) (olds news newer : List Keeping) (one other : List Pair) (x y : Result M.Value M.Error) →
-        AreMemberParts M.rules (λ m. M.named m) (λ m. M.is_tree m) members olds news one x →
-        AreMemberParts M.rules (λ m. M.named m) (λ m. M.is_tree m) members olds newer other y →
+        AreMemberParts M.Error.rules (λ m. M.named m) (λ m. M.is_tree m) members olds news one x →
+        AreMemberParts M.Error.rules (λ m. M.named m) (λ m. M.is_tree m) members olds newer other y →
         AnswerAlike one other → (one ≡ other) × (news ≡ newer) × (x ≡ y) }
 {}

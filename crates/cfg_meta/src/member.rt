@@ -1,17 +1,17 @@
 //! What a chain needs of its members.
-ghost use Rattle.std.specs.Prelude.{◌≡◌, ℕ, List, Option, Result, IfOk, true, map};
+ghost use Rattle.std.specs.Prelude.{◌≡◌, ℕ, List, Option, Result, IfOk, map};
 ghost use Rattle.std.specs.Option.{option_copied};
 ghost use Rattle.cfg_base.specs.Text.{characters};
 ghost use Rattle.cfg_token.specs.declared.token_key.TokenKey.{TokenKey as KeyNeeded};
 ghost use Rattle.cfg_kept.specs.KeptInquiry.{KeptInquiry};
 ghost use Rattle.cfg_kept.specs.KeptStates.{kept_holdings, kept_key, states_of};
 ghost use Rattle.cfg_kept.specs.Kinds.{no_states};
-ghost use Rattle.cfg_meta.specs.AnswerRules.{AnswerRules};
 ghost use Rattle.cfg_meta.specs.FollowsMembers.{FollowsMember};
 
+use crate::error::ChainError;
 use cfg_kept::Kept;
 use cfg_token::TokenKey;
-use cfg_types::{OutOfMemory, ProviderChainError, TryCopy};
+use cfg_types::{OutOfMemory, TryCopy};
 use cfg_world::{Asking, Stop};
 use std::alloc::Global;
 
@@ -21,7 +21,7 @@ pub trait ChainMember {
     type Value: Drop;
 
     /// Why it gives nothing.
-    type Error: Drop;
+    type Error: ChainError;
 
     /// The name under which a chain tells of it.
     ghost named: { Self → List ℕ };
@@ -31,9 +31,6 @@ pub trait ChainMember {
 
     /// The trees by which it may ask: there is at most one.
     ghost is_tree: { Self → KeptInquiry (Result Self.Value Self.Error) → Type 0 };
-
-    /// What its kind says of answers.
-    ghost rules: { AnswerRules Self.Error };
 
     /// The name under which a chain tells of it.
     fn name(&self) -> &str
@@ -56,18 +53,6 @@ pub trait ChainMember {
         requires { kept_key kept.old ≡ needs self.now }
         ensures follows { FollowsMember ⟦<A as Asking>⟧ (is_tree self.now) asking.old (kept_holdings kept.old) asking.new (kept_holdings kept.new) result }
         ensures key { kept_key kept.new ≡ kept_key kept.old };
-
-    /// Whether a member with this error is passed over.
-    fn is_not_loaded(error: &Self::Error) -> bool
-        ensures { result ≡ rules.is_not_loaded error.now };
-
-    /// The error of a chain whose members were all passed over.
-    fn none_loaded(attempts: ProviderChainError<Self::Error>) -> Self::Error
-        ensures { result ≡ rules.none_loaded attempts.attempts };
-
-    /// The error where memory runs out.
-    fn out_of_memory() -> Self::Error
-        ensures { rules.is_memory result ≡ true };
 
     ghost one_tree: { (member : Self) (one other : KeptInquiry (Result Self.Value Self.Error)) → is_tree member one → is_tree member other → one ≡ other };
 }

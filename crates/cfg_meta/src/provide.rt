@@ -5,6 +5,7 @@ ghost use Rattle.cfg_meta.specs.AnswerRules.{is_memory_answer};
 ghost use Rattle.cfg_meta.specs.MemberParts.{keeping_of, with_nothing_found};
 ghost use Rattle.cfg_meta.specs.Provides.{ProvidesByMembers, InterruptedMembers};
 
+use crate::error::ChainError;
 use crate::follow::follow_members;
 use crate::member::ChainMember;
 use cfg_kept::Kept;
@@ -31,16 +32,17 @@ pub fn provide_by_members<M: ChainMember, D: Devices>(
     world: &mut World<D>,
 ) -> Result<M::Value, M::Error>
     requires { map kept_key kept.old ≡ map (λ m. M.needs m) members.now }
-    ensures provides { is_memory_answer M.rules result ≡ false → ProvidesByMembers ⟦<D as Devices>⟧ M.rules (λ m. M.named m) (λ m. M.is_tree m)
+    ensures provides { is_memory_answer M.Error.rules result ≡ false → ProvidesByMembers ⟦<D as Devices>⟧ M.Error.rules (λ m. M.named m) (λ m. M.is_tree m)
         members.now (map with_nothing_found (map keeping_of kept.old)) (map keeping_of kept.new) world.old world.new result }
-    ensures stays { is_memory_answer M.rules result ≡ true → InterruptedMembers ⟦<D as Devices>⟧ M.rules (λ m. M.named m) (λ m. M.is_tree m)
+    ensures stays { is_memory_answer M.Error.rules result ≡ true → InterruptedMembers ⟦<D as Devices>⟧ M.Error.rules (λ m. M.named m) (λ m. M.is_tree m)
         members.now (map with_nothing_found (map keeping_of kept.old)) (map keeping_of kept.new) world.old world.new }
     ensures keys { map kept_key kept.new ≡ map kept_key kept.old }
 {
     clear_found(kept);
     match follow_members(alloc, members, kept, world) {
         Ok(outcome) => outcome,
-        Err(_) => Err(M::out_of_memory()),
+        // A world leaves no question open: a call over it stops for want of memory alone.
+        Err(_) => Err(M::Error::out_of_memory()),
     }
 }
 

@@ -1,3 +1,4 @@
+//! What the program's arguments ask for.
 ghost use Rattle.std.specs.Prelude.{◌≡◌, ◌≤◌, ℕ, map, string_bytes, ◌∷◌, [], Some, IfSome};
 ghost use Rattle.cfg_program.specs.Commands.{command_named, count_of, most_profiles};
 

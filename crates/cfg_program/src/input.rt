@@ -1,3 +1,4 @@
+//! All bytes of a source.
 ghost use Rattle.std.specs.Prelude.{◌≡◌, ◌≤◌, [], IfOk, IfSome, Err, length};
 ghost use Rattle.cfg_world.specs.Faults.{Rose};
 ghost use Rattle.cfg_program.specs.Inputs.{IsTooLong, most_bytes};

@@ -7,7 +7,7 @@ ghost use Rattle.cfg_chain.specs.Settings.{ChainSetting};
 ghost use Rattle.cfg_providers.specs.CustomSources.{NamedAnswer};
 ghost use Rattle.cfg_script.specs.Script.{Plain};
 ghost use Rattle.cfg_program.specs.declared.status.Status.{Status as Ended};
-ghost use Rattle.cfg_program.specs.declared.commands.Command.{Command as Asked};
+ghost use Rattle.cfg_program.specs.declared.commands.Command.{Command};
 ghost use Rattle.cfg_program.specs.declared.lines.LineForm.{LineForm as Form};
 ghost use Rattle.cfg_program.specs.declared.input.TheConstants.{LIMIT};
 ghost use Rattle.cfg_program.specs.declared.lines.TheConstants.{ESCAPED};
@@ -74,7 +74,7 @@ pub fn one_number_has_one_line()
 /// Of the statuses that depend on the command, the input and the world's answers alone, one run meets the case of one,
 /// where the bytes of the input are known.
 pub fn statuses_exclude_one_another()
-    ensures { (seen : Seen) (handed : Handed) (command : Option Asked) (one other : Ended)
+    ensures { (seen : Seen) (handed : Handed) (command : Option Command) (one other : Ended)
         → BytesAreKnown seen → IsTrue (depends_on_input one) → IsTrue (depends_on_input other)
         → EndsRun seen handed command one → EndsRun seen handed command other → one ≡ other }
 {}
@@ -83,7 +83,7 @@ pub fn statuses_exclude_one_another()
 /// status and write the same bytes, where the journals of their worlds gain the same, and the status of both depends
 /// on the command, the input and the world's answers alone.
 pub fn runs_over_one_input_are_alike()
-    ensures { (one other : Seen) (handed : Handed) (command : Option Asked) (ended ended_other : Ended)
+    ensures { (one other : Seen) (handed : Handed) (command : Option Command) (ended ended_other : Ended)
         → BytesAreKnown one → one.source.left ≡ other.source.left → GainTheSame one other
         → IsTrue (depends_on_input ended) → IsTrue (depends_on_input ended_other)
         → EndsRun one handed command ended → EndsRun other handed command ended_other → (ended ≡ ended_other) × AppendTheSame one other }
@@ -92,12 +92,12 @@ pub fn runs_over_one_input_are_alike()
 /// Where the bytes of the input call for a refusal (no script, or too long), whatever was written, a run of a
 /// command that reads them ends with it, or with a fault, or memory runs out.
 pub fn a_refusal_comes_where_the_input_calls_for_it()
-    ensures { (seen : Seen) (handed : Handed) (command : Asked) (cause ended : Ended)
+    ensures { (seen : Seen) (handed : Handed) (command : Command) (cause ended : Ended)
         → BytesAreKnown seen → IsTrue (reads_input command) → CallsFor seen (script_for command) cause → IsTrue (depends_on_input ended)
         → EndsRun seen handed (Some command) ended → ended ≡ cause }
 {}
 
 /// No run ends as one over a history that differs, or as one that needs what is not built.
 pub fn two_statuses_never_come()
-    ensures { (seen : Seen) (handed : Handed) (command : Option Asked) (ended : Ended) → EndsRun seen handed command ended → IsTrue (comes ended) }
+    ensures { (seen : Seen) (handed : Handed) (command : Option Command) (ended : Ended) → EndsRun seen handed command ended → IsTrue (comes ended) }
 {}

@@ -7,12 +7,12 @@ ghost use Rattle.cfg_chain.specs.Views.{named_sources, chain_of};
 ghost use Rattle.cfg_program.specs.Local.{local_configuration, GrowsByCall};
 
 use crate::lines::LineForm;
-use crate::outcome::{Answered, Outcome, tell};
+use crate::outcome::{Answered, tell};
 use crate::resolve::chain_over;
 use cfg_chain::DefaultCredentialsChain;
 use cfg_profile::ProviderConfig;
 use cfg_providers::CustomSource;
-use cfg_types::{Env, EnvText, OutOfMemory};
+use cfg_types::{Env, EnvText, OutOfMemory, Outcome};
 use cfg_world::{Devices, World};
 use std::alloc::Global;
 

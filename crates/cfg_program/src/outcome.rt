@@ -16,18 +16,6 @@ pub struct Answered {
     pub lines: Vec<u8>,
 }
 
-/// What a call answered. A caller that lets it go drops it by one call.
-pub struct Outcome {
-    /// Its credentials, or its error.
-    pub answer: Result<Credentials, CredentialsError>,
-}
-
-impl Drop for Outcome {
-    fn drop(self) {
-        let Outcome { answer: _ } = self;
-    }
-}
-
 /// Writes the line of a call behind the others, and tells whether it gave credentials. `OutOfMemory` where memory
 /// runs out, also where that is what the call answered.
 pub fn tell(

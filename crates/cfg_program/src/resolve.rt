@@ -11,13 +11,13 @@ ghost use Rattle.cfg_program.specs.Calls.{region_of, in_region, IsFresh, MakesCa
 
 use crate::configuration::{configuration, region_named};
 use crate::lines::LineForm;
-use crate::outcome::{Answered, Outcome, tell};
+use crate::outcome::{Answered, tell};
 use cfg_chain::{ChainCore, DefaultCredentialsChain};
 use cfg_kept::Kept;
 use cfg_profile::ProviderConfig;
 use cfg_providers::CustomSource;
 use cfg_script::Script;
-use cfg_types::OutOfMemory;
+use cfg_types::{OutOfMemory, Outcome};
 use cfg_world::{DeviceLists, ScriptDevices, World};
 use std::alloc::Global;
 

@@ -1,3 +1,4 @@
+//! The top call.
 ghost use Rattle.std.specs.Prelude.{◌≡◌, ◌≤◌, IsTrue, None, false, IfOk, MatchResult, map, string_bytes};
 ghost use Rattle.cfg_base.specs.TextMap.{named};
 ghost use Rattle.cfg_world.specs.Script.{AllFit};

@@ -1,3 +1,4 @@
+//! How a run of the program ends.
 ghost use Rattle.std.specs.Prelude.{◌≡◌};
 ghost use Rattle.cfg_program.specs.Statuses.{number_of};
 

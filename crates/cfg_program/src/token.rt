@@ -15,7 +15,7 @@ use cfg_profile::ProviderConfig;
 use cfg_region::RegionSource;
 use cfg_script::Script;
 use cfg_token_chain::DefaultTokenChain;
-use cfg_types::{OutOfMemory, Region, Token, TokenError};
+use cfg_types::{OutOfMemory, Outcome, Region, Token, TokenError};
 use cfg_world::{Devices, Entry, ScriptDevices, World};
 use std::alloc::{AllocError, Global};
 
@@ -73,17 +73,6 @@ fn ask_token(
     let mut lines = Vec::new(alloc);
     let is_ok = tell(&mut lines, &outcome.answer, world.journal())?;
     Ok(Answered { is_ok, lines })
-}
-
-// What the call answered. Its caller drops it by one call.
-struct Outcome {
-    answer: Result<Token, TokenError>,
-}
-
-impl Drop for Outcome {
-    fn drop(self) {
-        let Outcome { answer: _ } = self;
-    }
 }
 
 // Writes the call's line, and tells whether it gave a token. `OutOfMemory` where memory runs out, also where that is

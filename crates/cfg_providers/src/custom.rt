@@ -6,7 +6,9 @@ ghost use Rattle.cfg_types.specs.Classes.{is_memory};
 ghost use Rattle.cfg_providers.specs.CustomSources.{named, last_named};
 
 use cfg_profile::is_named;
-use cfg_types::{Credentials, CredentialsError, OutOfMemory, Text, TryCopy};
+use cfg_types::{
+    Credentials, CredentialsError, OutOfMemory, Text, TryCopy, is_memory as is_memory_answer,
+};
 use std::alloc::Global;
 
 /// A source, as it is handed in.
@@ -67,6 +69,19 @@ pub fn provide_by_name(
         None => None,
         Some(source) => Some(source.provider.provide_credentials()),
     }
+}
+
+/// What a source answers. `OutOfMemory` where memory ran out.
+pub fn answer_of(
+    source: &CustomProvider,
+) -> Result<Result<Credentials, CredentialsError>, OutOfMemory>
+    ensures { IfOk result (λ answer. answer ≡ value source.now) }
+{
+    let answer = source.provide_credentials();
+    if is_memory_answer(&answer) {
+        return Err(OutOfMemory);
+    }
+    Ok(answer)
 }
 
 /// The names of these sources, in order, as a plan takes them. `OutOfMemory` where memory runs out.

@@ -1,5 +1,5 @@
 //! Credentials of a container, as the agents of Amazon ECS and EKS give them.
-ghost use Rattle.std.specs.Prelude.{◌≡◌, IfOk, true, false};
+ghost use Rattle.std.specs.Prelude.{◌≡◌, IfOk, OnErr, true, false};
 ghost use Rattle.cfg_world.specs.Follows.{Follows};
 ghost use Rattle.cfg_profile.specs.Configuration.{nothing_configured};
 ghost use Rattle.cfg_exchange.specs.Containers.{IsContainerUri, FollowsContainer};
@@ -83,9 +83,10 @@ impl Builder {
         self
     }
 
-    /// The provider. The address is looked at in its calls alone. `OutOfMemory` where memory runs out.
+    /// The provider. The address is looked at in its calls alone. It takes no memory, and answers no error.
     pub fn build(self) -> Result<EcsCredentialsProvider, OutOfMemory>
-        ensures { IfOk result (λ p. p ≡ self) }
+        ensures built { IfOk result (λ p. p ≡ self) }
+        ensures always { OnErr result ⊥ }
     {
         let Builder {
             alloc,
@@ -205,6 +206,7 @@ impl EcsCredentialsProvider {
     {
         match self.follow(world) {
             Ok(outcome) => outcome,
+            // A world leaves no question open: a call over it stops for want of memory alone.
             Err(_) => Err(CredentialsError::OutOfMemory),
         }
     }

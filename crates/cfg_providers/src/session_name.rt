@@ -20,9 +20,10 @@ pub fn default_session_name(alloc: Global, base: &str, now: Instant) -> Result<T
     Ok(Text::from_string(name))
 }
 
-// The name of a session that was given, or one made from a reading of the clock.
+/// The name of a session that was given, or one made from a reading of the clock. It stops with `Open` at a
+/// reading that is left open, and with `OutOfMemory` where memory runs out.
 #[tactic(auto, using(cfg_world::proofs::Inquiries::asking_steps), unfolding(crate::specs::SessionNames::session_name))]
-pub(crate) fn session_name<A: Asking>(
+pub fn session_name<A: Asking>(
     alloc: Global,
     base: &str,
     given: &Option<Text>,

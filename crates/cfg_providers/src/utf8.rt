@@ -1,3 +1,4 @@
+//! Bytes that are a text.
 ghost use Rattle.std.specs.Prelude.{◌≡◌, IfOk};
 ghost use Rattle.cfg_providers.specs.Utf8.{text_in as text_in_of};
 

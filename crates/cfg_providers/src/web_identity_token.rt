@@ -1,5 +1,5 @@
 //! Credentials by a web identity token.
-ghost use Rattle.std.specs.Prelude.{◌≡◌, IfOk, Some, None, true, false, map, option_map, string_bytes};
+ghost use Rattle.std.specs.Prelude.{◌≡◌, IfOk, OnErr, Some, None, true, false, map, option_map, string_bytes};
 ghost use Rattle.cfg_base.specs.Text.{characters};
 ghost use Rattle.cfg_types.specs.Environment.{variable, text_read};
 ghost use Rattle.cfg_world.specs.Follows.{Follows};
@@ -417,9 +417,10 @@ impl Builder {
         Ok(self)
     }
 
-    /// The provider. The variables are looked at in its calls alone. `OutOfMemory` where memory runs out.
+    /// The provider. The variables are looked at in its calls alone. It takes no memory, and answers no error.
     pub fn build(self) -> Result<WebIdentityTokenCredentialsProvider, OutOfMemory>
-        ensures { IfOk result (λ p. p ≡ self) }
+        ensures built { IfOk result (λ p. p ≡ self) }
+        ensures always { OnErr result ⊥ }
     {
         let Builder {
             alloc,
@@ -520,6 +521,7 @@ impl WebIdentityTokenCredentialsProvider {
     {
         match self.follow(world) {
             Ok(outcome) => outcome,
+            // A world leaves no question open: a call over it stops for want of memory alone.
             Err(_) => Err(CredentialsError::OutOfMemory),
         }
     }

@@ -6,6 +6,8 @@ mod imds_credentials;
 #[cfg(test)]
 mod login;
 #[cfg(test)]
+mod outcome;
+#[cfg(test)]
 mod providers;
 #[cfg(test)]
 mod sso;

@@ -1,4 +1,4 @@
-//! What the crates above use: a configuration with the region of one source, and the settings of a profile's
-//! builder.
+//! What the crates above use: a configuration with the region of one source, and the builder of a provider that
+//! reads a profile.
 pub use crate::load::with_region_from;
-pub use crate::profile::settings::{ProfileBuilder, with_name};
+pub use crate::profile::settings::{FromProfile, ProfileBuilder, with_name};

@@ -4,7 +4,7 @@ use Rattle.std.specs.Prelude.{◌⊎◌, codes}
 use Rattle.cfg_types.specs.Environment.{variable}
 use Rattle.cfg_types.specs.declared.errors.sso.CachedSsoTokenError.{CachedSsoTokenError}
 use Rattle.cfg_world.specs.Fits.{Pair}
-use Rattle.cfg_world.specs.Leaves.{reading_file, getting_role_credentials}
+use Rattle.cfg_world.specs.Leaves.{clock, contents_of, reading_file, getting_role_credentials}
 use Rattle.cfg_profile.specs.Configuration.{Configuration}
 use Rattle.cfg_profile.specs.Settings.{settings_of}
 use Rattle.cfg_token.specs.declared.token_key.TokenKey.{TokenKey}
@@ -18,7 +18,7 @@ use Rattle.cfg_kept.proofs.Beginnings.{begins_splits}
 use Rattle.cfg_kept.proofs.CallParts.{read_of_run}
 use Rattle.cfg_sso.specs.declared.config.SsoProviderConfig.{SsoProviderConfig}
 use Rattle.cfg_sso.specs.RoleKeys.{exchange}
-use Rattle.cfg_sso.specs.Tokens.{Token, section_of, of_section, session_token, url_path, file_token, at_path, url_token, sso_key, token_by, sso_token}
+use Rattle.cfg_sso.specs.Tokens.{Token, section_of, of_section, session_token, url_path, token_in, of_file, file_token, by_clock, at_path, url_token, sso_key, token_by, sso_token}
 use Rattle.cfg_sso.specs.SsoCredentials.{behind_token, sso_credentials}
 use Rattle.cfg_sso.specs.RoleRequests.{AsksNoRole, SendsOnce}
 use Rattle.cfg_sso.proofs.NoRoleAsked.{NeverAsks, begins_without, runs_without, onwards_without, after_without, holding_without, all_without}
@@ -38,10 +38,15 @@ section_without conf key =
     after_without (section sso_rules key env settings was.token was.last) (settled was)
     (all_without (section sso_rules key env settings was.token was.last) (λ part made. AsksNoRole part) (section_asks_none key env settings was.token was.last) (λ part made w. w)) (λ made. tt))
 
+by_clock_without : (held : Token) → NeverAsks (lift (by_clock held))
+unfolding by_clock clock
+by_clock_without (Err e) = tt
+by_clock_without (Ok t) = (refl, λ a. tt)
+
 path_without : (path : Result (List ℕ) CachedSsoTokenError) → NeverAsks (lift (at_path path))
 unfolding file_token reading_file
 path_without (Err e) = tt
-path_without (Ok path) = (refl, λ a. tt)
+path_without (Ok path) = (refl, λ a. by_clock_without (of_file (token_in path (contents_of a))))
 
 by_key_without : (conf : Configuration) (url : List ℕ) (key : Option TokenKey) → NeverAsks (token_by conf url key)
 unfolding session_token url_token

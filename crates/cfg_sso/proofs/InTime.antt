@@ -1,12 +1,13 @@
 -- Where nothing stands in the way, there are credentials.
 use Rattle.std.proofs.Common.{◌≡◌, ◌⊎◌, inl, inr, ℕ, Bool, true, false, not, ◌&&◌, cond, List, [], ◌∷◌, Option, Some, None, Result, Ok, Err, refl, sym, ap, ◌∙◌, subst, append-nil}
-use Rattle.std.specs.Prelude.{codes, is_ok, IsSome, IsOk, option_map}
+use Rattle.std.specs.Prelude.{codes, is_ok, IsSome, IsOk, option_map, if◌then◌else◌}
 use Rattle.std.specs.Result.{result_err}
 use Rattle.std.specs.Str.{encode_utf8_all}
 use Rattle.cfg_base.specs.Moment.{Moment}
 use Rattle.cfg_types.specs.Environment.{Variables, variable}
 use Rattle.cfg_types.specs.Replies.{role_in}
 use Rattle.cfg_types.specs.declared.environment.VarError.{VarError}
+use Rattle.cfg_types.specs.declared.errors.CredentialsError.{CredentialsError}
 use Rattle.cfg_types.specs.declared.errors.CredentialsError.TheVariants.{Unhandled}
 use Rattle.cfg_types.specs.declared.errors.sso.CachedSsoTokenError.{CachedSsoTokenError}
 use Rattle.cfg_types.specs.declared.errors.sso.SsoTokenProviderError.{SsoTokenProviderError}
@@ -46,10 +47,10 @@ use Rattle.cfg_kept.specs.SectionParts.{found_at}
 use Rattle.cfg_kept.specs.SsoHoldings.{sso_spot}
 use Rattle.cfg_sso.specs.declared.config.SsoProviderConfig.{SsoProviderConfig}
 use Rattle.cfg_sso.specs.RoleKeys.{Answer}
-use Rattle.cfg_sso.specs.Tokens.{Token, url_path, token_in, of_file, of_section, key_by}
-use Rattle.cfg_sso.specs.SsoCauses.{IsSsoPart, IsFilePart, IsTokenPart, why_keys, why_reply, why_granted, IsBehind, SsoCause}
+use Rattle.cfg_sso.specs.Tokens.{Token, url_path, token_in, of_file, judged, of_section, key_by}
+use Rattle.cfg_sso.specs.SsoCauses.{IsSsoPart, IsJudgedPart, IsFilePart, IsTokenPart, why_keys, why_reply, why_granted, IsBehind, SsoCause}
 use Rattle.cfg_token.specs.Sections.{ok_of}
-use Rattle.cfg_sso.specs.InNoWay.{held_token, IsWritten, IsRenewed, IsRefreshed, IsInTime, IsSectionInTime, IsTokenInTime, HoldsKeys, IsGranted, AreGranted, NothingInTheWay}
+use Rattle.cfg_sso.specs.InNoWay.{held_token, IsHeldInTime, IsWritten, IsRenewed, IsRefreshed, IsInTime, IsSectionInTime, IsTokenInTime, HoldsKeys, IsGranted, AreGranted, NothingInTheWay}
 
 abbrev Made : Type 0
 Made = Sectioned CachedSsoToken SsoTokenProviderError
@@ -177,26 +178,64 @@ unfolding of_section
 told_fine (Ok token) h = refl
 told_fine (Err e) h = absurd (never h)
 
-held_fine : (path : List ℕ) (file : Result CachedSsoToken CachedSsoTokenError) → IsSome (ok_of file) → IsOk (of_file file)
-unfolding of_file
-held_fine path (Ok token) h = refl
-held_fine path (Err e) h = absurd (never h)
+abbrev IsTold : Token → Type 0
+IsTold token = IsOk token
 
-read_token : (path : List ℕ) (given : Given) → IsSome (held_token given) → IsOk (of_file (token_in path (contents_of given)))
+chosen_fine : (b : Bool) (token : CachedSsoToken) (e : CredentialsError) → b ≡ true → IsTold (if b then Ok token else Err e)
+chosen_fine true token e h = refl
+chosen_fine false token e h = absurd (never h)
+
+judged_fine : (token : CachedSsoToken) (now : Moment) → is_before now token.expires_at ≡ true → IsOk (judged token now)
+unfolding judged
+judged_fine token now h = chosen_fine (is_before now token.expires_at) token _ h
+
+-- what a file holds is in time, by the reading behind it
+abbrev IsHeldBy : Option CachedSsoToken → List Pair → Type 0
+IsHeldBy held [] = IsSome held
+IsHeldBy held (reading ∷ part) = IsHeldInTime (moment_of reading.1) held
+
+same_first : (x y : Pair) (part : List Pair) → x ∷ part ≡ y ∷ [] → x ≡ y
+same_first x y part h = cc
+
+no_reading : (y : Pair) → ◌≡◌ {A = List Pair} [] (y ∷ []) → ⊥
+no_reading y h = absurd cc
+
+held_fine : (file : Result CachedSsoToken CachedSsoTokenError) (rest : List Pair) (token : Token) → IsHeldBy (ok_of file) rest → IsJudgedPart (of_file file) rest token → IsOk token
+unfolding of_file
+held_fine (Err e) [] token h j = absurd (never h)
+held_fine (Err e) (r ∷ rest) token h j = absurd h
+held_fine (Ok t) [] token h j = absurd (no_reading _ j.1)
+held_fine (Ok t) (r ∷ rest) token h j =
+    subst (λ (x : Token). IsOk x) (sym j.2)
+    (judged_fine t (moment_of j.0) (subst (λ (x : Pair). is_before (moment_of x.1) t.expires_at ≡ true) (same_first r _ rest j.1) h))
+
+-- an answer that is no content holds no token
+holds_none : (given : Given) (rest : List Pair) (P : Type 0) → held_token given ≡ None → IsHeldBy (held_token given) rest → P
+holds_none given [] P is h = absurd (never (subst IsSome is h))
+holds_none given (r ∷ rest) P is h = absurd (subst (IsHeldInTime (moment_of r.1)) is h)
+
+told_fine_by : (path : List ℕ) (given : Given) (rest : List Pair) (token : Token) → IsHeldBy (held_token given) rest → IsJudgedPart (of_file (token_in path (contents_of given))) rest token → IsOk token
 unfolding token_in
-read_token path (answer.Contents bytes) h = held_fine path (sso_file bytes) h
-read_token path (answer.Moment m) h = absurd (never h)
-read_token path (answer.Jitter n) h = absurd (never h)
-read_token path answer.Written h = absurd (never h)
-read_token path (answer.Finished finished) h = absurd (never h)
-read_token path (answer.Addresses addresses) h = absurd (never h)
-read_token path (answer.Replied reply) h = absurd (never h)
-read_token path (answer.Failed kind) h = absurd (never h)
+told_fine_by path (answer.Contents bytes) rest token h j = held_fine (sso_file bytes) rest token h j
+told_fine_by path (answer.Moment m) rest token h j = holds_none (answer.Moment m) rest (IsOk token) refl h
+told_fine_by path (answer.Jitter n) rest token h j = holds_none (answer.Jitter n) rest (IsOk token) refl h
+told_fine_by path answer.Written rest token h j = holds_none answer.Written rest (IsOk token) refl h
+told_fine_by path (answer.Finished finished) rest token h j = holds_none (answer.Finished finished) rest (IsOk token) refl h
+told_fine_by path (answer.Addresses addresses) rest token h j = holds_none (answer.Addresses addresses) rest (IsOk token) refl h
+told_fine_by path (answer.Replied reply) rest token h j = holds_none (answer.Replied reply) rest (IsOk token) refl h
+told_fine_by path (answer.Failed kind) rest token h j = holds_none (answer.Failed kind) rest (IsOk token) refl h
+
+held_first : (file : Pair) (rest : List Pair) → IsTokenInTime None (file ∷ rest) → IsHeldBy (held_token file.1) rest
+held_first file [] h = h
+held_first file (r ∷ rest) h = h
+
+held_by : (part : List Pair) (file : Pair) (rest : List Pair) → part ≡ file ∷ rest → IsTokenInTime None part → IsHeldBy (held_token file.1) rest
+held_by part file rest is h = held_first file rest (subst (IsTokenInTime None) is h)
 
 file_fine : (url : List ℕ) (home : Result (List ℕ) VarError) (part : List Pair) (token : Token) → IsHit sso_rules None part ⊎ IsOk home → IsTokenInTime None part → IsFilePart (url_path url home) part token → IsOk token
 file_fine url home part token (inl h) t p = absurd h
 file_fine url (Err e) part token (inr h) t p = absurd (never h)
-file_fine url (Ok home) part token (inr h) t p = subst (λ (x : Token). IsOk x) (sym p.2) (read_token _ p.0 (subst (IsTokenInTime None) p.1 t))
+file_fine url (Ok home) part token (inr h) t p = told_fine_by _ p.0 p.1 token (held_by part _ p.1 p.2 t) p.3
 
 made_fine : (key : TokenKey) (env : Variables) (settings : CallSettings) (kept : Option CachedSsoToken) (last : Option Moment) (part : List Pair) (made : Made) → IsHit sso_rules kept part ⊎ IsOk (sso_rules.path key env) →
     IsSectionInTime key part → Reads (Sections.section sso_rules key env settings kept last) part made → IsOk (Sections.answer_of made)

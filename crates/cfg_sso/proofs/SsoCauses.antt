@@ -12,7 +12,7 @@ use Rattle.cfg_world.specs.declared.leaves.NotGranted.{NotGranted}
 use Rattle.cfg_world.specs.declared.leaves.NotGranted.TheVariants.{Failed, Refused}
 use Rattle.cfg_world.specs.Fits.{Pair}
 use Rattle.cfg_world.specs.Inquiry as low
-use Rattle.cfg_world.specs.Leaves.{reading_file, getting_role_credentials, granted_of}
+use Rattle.cfg_world.specs.Leaves.{clock, contents_of, reading_file, getting_role_credentials, granted_of}
 use Rattle.cfg_profile.specs.Configuration.{Configuration}
 use Rattle.cfg_profile.specs.Settings.{settings_of}
 use Rattle.cfg_token.specs.declared.sso_token.CachedSsoToken.{CachedSsoToken}
@@ -25,9 +25,9 @@ use Rattle.cfg_kept.proofs.CallParts.{given_then, section_part}
 use Rattle.cfg_kept.proofs.Splits.{split_onwards, lowered}
 use Rattle.cfg_sso.specs.declared.config.SsoProviderConfig.{SsoProviderConfig}
 use Rattle.cfg_sso.specs.RoleKeys.{Answer, keys_with, keys_in, role_keys, or_unhandled, role_answer, exchange}
-use Rattle.cfg_sso.specs.Tokens.{Token, section_of, of_section, session_token, url_path, file_token, at_path, url_token, sso_key, token_by, sso_token}
+use Rattle.cfg_sso.specs.Tokens.{Token, section_of, of_section, session_token, url_path, token_in, of_file, file_token, by_clock, at_path, url_token, sso_key, token_by, sso_token}
 use Rattle.cfg_sso.specs.SsoCredentials.{behind_token, sso_credentials}
-use Rattle.cfg_sso.specs.SsoCauses.{IsSsoPart, IsFilePart, IsTokenPart, why_keys, why_reply, why_granted, IsBehind, SsoCause}
+use Rattle.cfg_sso.specs.SsoCauses.{IsSsoPart, IsJudgedPart, IsFilePart, IsTokenPart, why_keys, why_reply, why_granted, IsBehind, SsoCause}
 use Rattle.cfg_sso.specs.BearerTokens.{Bearer, bearer, bearer_token, BearerCause}
 
 -- ---- the token
@@ -35,13 +35,20 @@ use Rattle.cfg_sso.specs.BearerTokens.{Bearer, bearer, bearer_token, BearerCause
 section_of_key : (conf : Configuration) (key : TokenKey) (found : List Value) (part : List Pair) (given : Given CachedSsoToken) → Reads (section_of conf key) found part given → IsSsoPart conf key found part given
 section_of_key conf key found part given h = section_part sso_rules sso_spot key conf.environment (settings_of conf) found part given h
 
+judged_part : (held : Token) (part : List Pair) (token : Token) → low.Reads (by_clock held) part token → IsJudgedPart held part token
+unfolding by_clock clock
+judged_part (Err e) [] token h = (refl, sym h)
+judged_part (Err e) (x ∷ part) token h = absurd h
+judged_part (Ok t) [] token h = absurd h
+judged_part (Ok t) (e ∷ []) token h = (e.1, ap (λ q. (q, e.1) ∷ []) h.0, sym h.1)
+judged_part (Ok t) (e ∷ f ∷ part) token h = absurd h.1
+
 file_part : (path : Result (List ℕ) CachedSsoTokenError) (part : List Pair) (token : Token) → low.Reads (at_path path) part token → IsFilePart path part token
 unfolding file_token reading_file
 file_part (Err e) [] token h = (refl, sym h)
 file_part (Err e) (x ∷ part) token h = absurd h
 file_part (Ok path) [] token h = absurd h
-file_part (Ok path) (e ∷ []) token h = (e.1, ap (λ q. (q, e.1) ∷ []) h.0, sym h.1)
-file_part (Ok path) (e ∷ f ∷ part) token h = absurd h.1
+file_part (Ok path) (e ∷ part) token h = (e.1, part, ap (λ q. (q, e.1) ∷ part) h.0, judged_part (of_file (token_in path (contents_of e.1))) part token h.1)
 
 pub token_part : (conf : Configuration) (url : List ℕ) (key : Option TokenKey) (found : List Value) (part : List Pair) (token : Token) → Reads (token_by conf url key) found part token → IsTokenPart conf url key found part token
 unfolding session_token url_token

@@ -11,7 +11,7 @@ use Rattle.cfg_token.specs.declared.sso_token.CachedSsoToken.{CachedSsoToken}
 use Rattle.cfg_token.specs.declared.token_key.TokenKey.{TokenKey}
 use Rattle.cfg_token.specs.declared.token_key.TokenKey.TheVariants.{Sso}
 use Rattle.cfg_token.specs.SsoTokens.{Given}
-use Rattle.cfg_kept.specs.KeptInquiry.{KeptInquiry, Gives, lift}
+use Rattle.cfg_kept.specs.KeptInquiry.{Gives, lift}
 use Rattle.cfg_kept.specs.KeyedStates.{is_sso_key}
 use Rattle.cfg_kept.specs.Holds.{Holdings, HoldsEnds, HoldsBreaks, HoldsHalts, HoldsFollows}
 use Rattle.cfg_kept.proofs.HoldingSteps.{holds_ends_then, holds_waits_then, holds_breaks_then, holds_waits_first, holds_breaks_first, holds_ends, holds_waits, holds_breaks, holds_said, holds_breaks_here}

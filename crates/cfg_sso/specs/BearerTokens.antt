@@ -1,9 +1,7 @@
 -- Bearer tokens of a session of IAM Identity Center.
-use Rattle.std.specs.Prelude.{◌≡◌, Bool, true, false, List, Some, Result, Ok, Err}
+use Rattle.std.specs.Prelude.{◌≡◌, Bool, false, List, Some, Result, Ok, Err}
 use Rattle.cfg_types.specs.Tokens.{BearerToken}
-use Rattle.cfg_types.specs.TokenClasses.{token_class}
-use Rattle.cfg_types.specs.declared.errors.token.TokenClass.{TokenClass}
-use Rattle.cfg_types.specs.declared.errors.token.TokenClass.TheVariants as class
+use Rattle.cfg_types.specs.TokenClasses.{token_class, is_memory_class}
 use Rattle.cfg_types.specs.declared.errors.token.TokenError.{TokenError}
 use Rattle.cfg_types.specs.declared.errors.token.TokenError.TheVariants.{ProviderError}
 use Rattle.cfg_world.specs.Fits.{Pair}
@@ -27,10 +25,6 @@ bearer (Err e) = Err (ProviderError e)
 -- one section of the token of this key, and what it gives
 unfoldable pub bearer_token : Configuration → TokenKey → KeptInquiry Bearer
 bearer_token conf key = onwards (section_of conf key) (λ given. Gives (bearer given))
-
-abbrev pub is_memory_class : TokenClass → Bool
-is_memory_class class.OutOfMemory = true
-is_memory_class _ = false
 
 -- whether memory ran out
 abbrev pub is_memory : Bearer → Bool

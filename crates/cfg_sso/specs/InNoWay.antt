@@ -62,11 +62,17 @@ IsSectionInTime key (first ∷ []) = Unit {0}
 IsSectionInTime key (first ∷ file ∷ []) = IsSome (held_token file.1)
 IsSectionInTime key (first ∷ file ∷ second ∷ rest) = IsInTime key (moment_of second.1) rest (held_token file.1)
 
+-- The file of a start URL holds a token that ends after the reading behind it.
+abbrev pub IsHeldInTime : Moment → Option CachedSsoToken → Type 0
+IsHeldInTime now None = ⊥
+IsHeldInTime now (Some token) = is_before now token.expires_at ≡ true
+
 -- and over the part of a token
 abbrev pub IsTokenInTime : Option TokenKey → List Pair → Type 0
 IsTokenInTime (Some key) part = IsSectionInTime key part
 IsTokenInTime None [] = Unit {0}
-IsTokenInTime None (file ∷ part) = IsSome (held_token file.1)
+IsTokenInTime None (file ∷ []) = IsSome (held_token file.1)
+IsTokenInTime None (file ∷ reading ∷ part) = IsHeldInTime (moment_of reading.1) (held_token file.1)
 
 -- The reply holds credentials with an id and a secret of their access key.
 pub record HasKeys (given : RoleCredentials) : Type 0 where

@@ -1,5 +1,5 @@
 -- What is sent for the credentials of a role, and with which token.
-use Rattle.std.specs.Prelude.{◌≡◌, List, [], ◌∷◌, ◌++◌, Bool, true, false, Option, Some, None, IfSome, Ok, is_ok}
+use Rattle.std.specs.Prelude.{◌≡◌, List, [], ◌∷◌, ◌++◌, Bool, true, false, Ok, is_ok}
 use Rattle.cfg_types.specs.declared.request.Request.TheVariants as request
 use Rattle.cfg_world.specs.declared.ask.Question.{Question}
 use Rattle.cfg_world.specs.declared.ask.Question.TheVariants as question
@@ -25,8 +25,8 @@ abbrev pub AsksNoRole : List Pair → Type 0
 AsksNoRole [] = Unit {0}
 AsksNoRole (e ∷ part) = (is_role_request e.0 ≡ false) × AsksNoRole part
 
--- Behind the part that gave a token stands one request with it, and no other. A session's token ends
--- after the last reading of its section.
+-- Behind the part that gave a token stands one request with it, and no other. The token ends after the last
+-- reading of that part.
 pub record SendsOnce (conf : Configuration) (sso : SsoProviderConfig) (found : List Value) (part : List Pair) : Type 0 where
   pub token_part : List Pair
   pub token : CachedSsoToken
@@ -34,7 +34,7 @@ pub record SendsOnce (conf : Configuration) (sso : SsoProviderConfig) (found : L
   pub parts : part ≡ token_part ++ (question.Send (request.GetRoleCredentials (request_of conf sso token)), given) ∷ []
   pub of_token : IsTokenPart conf sso.start_url (sso_key sso) found token_part (Ok token)
   pub alone : AsksNoRole token_part
-  pub unexpired : IfSome (sso_key sso) (λ key. EndsAfter (last_reading token_part) token.expires_at)
+  pub unexpired : EndsAfter (last_reading token_part) token.expires_at
 
 -- Nothing is sent for the role, and there are no credentials.
 pub record SendsNothing (part : List Pair) (out : Answer) : Type 0 where

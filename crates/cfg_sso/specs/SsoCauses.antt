@@ -17,7 +17,7 @@ use Rattle.cfg_world.specs.declared.ask.Answer.{Answer as Given}
 use Rattle.cfg_world.specs.declared.leaves.NotGranted.{NotGranted}
 use Rattle.cfg_world.specs.declared.leaves.NotGranted.TheVariants.{Failed, Refused}
 use Rattle.cfg_world.specs.Fits.{Pair}
-use Rattle.cfg_world.specs.Leaves.{contents_of, granted_of}
+use Rattle.cfg_world.specs.Leaves.{contents_of, granted_of, moment_of}
 use Rattle.cfg_profile.specs.Configuration.{Configuration}
 use Rattle.cfg_profile.specs.Settings.{settings_of}
 use Rattle.cfg_token.specs.declared.sso_token.CachedSsoToken.{CachedSsoToken}
@@ -28,7 +28,7 @@ use Rattle.cfg_kept.specs.SectionParts.{IsSectionPart}
 use Rattle.cfg_kept.specs.SsoHoldings.{sso_spot}
 use Rattle.cfg_sso.specs.declared.config.SsoProviderConfig.{SsoProviderConfig}
 use Rattle.cfg_sso.specs.RoleKeys.{Answer, request as request_of}
-use Rattle.cfg_sso.specs.Tokens.{Token, url_path, token_in, of_file, of_section, sso_key}
+use Rattle.cfg_sso.specs.Tokens.{Token, url_path, token_in, of_file, judged, of_section, sso_key}
 
 -- ---- the token
 
@@ -36,10 +36,17 @@ use Rattle.cfg_sso.specs.Tokens.{Token, url_path, token_in, of_file, of_section,
 abbrev pub IsSsoPart : Configuration → TokenKey → List Value → List Pair → GivenBy CachedSsoToken → Type 0
 IsSsoPart conf key found part given = IsSectionPart sso_rules sso_spot key conf.environment (settings_of conf) found part given
 
--- A file that has no path is not read. Another is read once, and gives what it holds, or why not.
+-- Behind the reading of a file nothing is asked where it holds no token; else the clock is read once, and the token
+-- is judged by it.
+abbrev pub IsJudgedPart : Token → List Pair → Token → Type 0
+IsJudgedPart (Err e) part token = (part ≡ []) × (token ≡ Err e)
+IsJudgedPart (Ok held) part token = (given : Given) × (part ≡ (question.Now, given) ∷ []) × (token ≡ judged held (moment_of given))
+
+-- A file that has no path is not read. Another is read once, and its token is judged, or it is told why it holds none.
 abbrev pub IsFilePart : Result (List ℕ) CachedSsoTokenError → List Pair → Token → Type 0
 IsFilePart (Err e) part token = (part ≡ []) × (token ≡ of_file (Err e))
-IsFilePart (Ok path) part token = (given : Given) × (part ≡ (question.Read path, given) ∷ []) × (token ≡ of_file (token_in path (contents_of given)))
+IsFilePart (Ok path) part token =
+    (given : Given) × (rest : List Pair) × (part ≡ (question.Read path, given) ∷ rest) × IsJudgedPart (of_file (token_in path (contents_of given))) rest token
 
 -- The part of the token: of a section, where a session is named, and else of the start URL's file.
 abbrev pub IsTokenPart : Configuration → List ℕ → Option TokenKey → List Value → List Pair → Token → Type 0

@@ -1,6 +1,7 @@
 -- The token that credentials of IAM Identity Center are asked for with.
-use Rattle.std.specs.Prelude.{◌≡◌, ℕ, List, true, Option, Some, None, is_some, Result, Ok, Err, codes}
+use Rattle.std.specs.Prelude.{◌≡◌, ℕ, List, true, Option, Some, None, is_some, Result, Ok, Err, codes, if◌then◌else◌}
 use Rattle.std.specs.Str.{encode_utf8_all}
+use Rattle.cfg_base.specs.Moment.{Moment}
 use Rattle.cfg_types.specs.Environment.{Variables, variable}
 use Rattle.cfg_types.specs.declared.environment.VarError.{VarError}
 use Rattle.cfg_types.specs.declared.errors.CredentialsError.{CredentialsError}
@@ -9,9 +10,10 @@ use Rattle.cfg_types.specs.declared.errors.ProviderCause.TheVariants as cause
 use Rattle.cfg_types.specs.declared.errors.sso.CachedSsoTokenError.{CachedSsoTokenError}
 use Rattle.cfg_types.specs.declared.errors.sso.CachedSsoTokenError.TheVariants.{IoError, NoHomeDirectory}
 use Rattle.cfg_types.specs.declared.errors.sso.IoStep.TheVariants as step
+use Rattle.cfg_types.specs.declared.errors.sso.SsoTokenProviderError.TheVariants.{ExpiredToken}
 use Rattle.cfg_types.specs.declared.reply.FailKind.{FailKind}
 use Rattle.cfg_world.specs.Inquiry.{Inquiry, Done, after}
-use Rattle.cfg_world.specs.Leaves.{reading_file}
+use Rattle.cfg_world.specs.Leaves.{clock, reading_file}
 use Rattle.cfg_profile.specs.Configuration.{Configuration}
 use Rattle.cfg_profile.specs.declared.chain.BaseProvider.{BaseProvider}
 use Rattle.cfg_profile.specs.declared.chain.BaseProvider.TheVariants as base
@@ -19,6 +21,7 @@ use Rattle.cfg_profile.specs.Settings.{settings_of}
 use Rattle.cfg_token.specs.declared.sso_token.CachedSsoToken.{CachedSsoToken}
 use Rattle.cfg_token.specs.declared.token_key.TokenKey.{TokenKey}
 use Rattle.cfg_token.specs.declared.token_key.TokenKey.TheVariants.{Sso}
+use Rattle.cfg_token.specs.Moments.{is_before}
 use Rattle.cfg_token.specs.Paths.{sso_path}
 use Rattle.cfg_token.specs.SsoFile.{sso_file}
 use Rattle.cfg_token.specs.SsoTokens.{Given}
@@ -66,11 +69,20 @@ unfoldable pub of_file : Result CachedSsoToken CachedSsoTokenError → Token
 of_file (Ok token) = Ok token
 of_file (Err e) = Err (ProviderError (cause.SsoFile e))
 
+-- A file's token by a reading of the clock: one that does not end after it has expired.
+unfoldable pub judged : CachedSsoToken → Moment → Token
+judged token now = if is_before now token.expires_at then Ok token else Err (ProviderError (cause.SsoToken ExpiredToken))
+
+-- nothing more where there is no token, and else a reading, by which it is judged
+unfoldable pub by_clock : Token → Inquiry Token
+by_clock (Err e) = Done (Err e)
+by_clock (Ok token) = after clock (λ now. Done (judged token now))
+
 abbrev pub at_path : Result (List ℕ) CachedSsoTokenError → Inquiry Token
 at_path (Err e) = Done (of_file (Err e))
-at_path (Ok path) = after (file_token path) (λ read. Done (of_file read))
+at_path (Ok path) = after (file_token path) (λ read. by_clock (of_file read))
 
--- The token in the file that a start URL names. Its expiry is not looked at.
+-- The token in the file that a start URL names, where it has not expired by a reading behind it.
 unfoldable pub url_token : Variables → List ℕ → Inquiry Token
 url_token env url = at_path (url_path url (variable env (codes "HOME")))
 

@@ -23,9 +23,9 @@ pub fn answers_have_their_causes()
         Reads (bearer_token conf key) found part out → BearerCause conf key found part out }
 {}
 
-/// Exactly one `GetRoleCredentials` is sent, with the token that the part before it gave and no other;
-/// a session's token ends after the last reading of the clock in its section. Or nothing is sent, and
-/// there are no credentials. A part that has only begun, too, has that one request, or none.
+/// Exactly one `GetRoleCredentials` is sent, with the token that the part before it gave and no other,
+/// which ends after the last reading of the clock in that part. Or nothing is sent, and there are no
+/// credentials. A part that has only begun, too, has that one request, or none.
 pub fn one_request_with_an_unexpired_token()
     ensures whole { (conf : Configuration) (sso : Asked) (found : List Value) (part : List Pair) (out : Answer) →
         Reads (sso_credentials conf sso) found part out → SendsOnce conf sso found part ⊎ SendsNothing part out }

@@ -1,8 +1,7 @@
 //! Credentials and tokens of AWS IAM Identity Center. It stands on cfg_token, cfg_kept and
 //! cfg_profile. The layers above may use that credentials come of one token, of a section of its
 //! session or else of the file that a start URL names, and of one request with it; that each answer has
-//! its cause; and that no token of a session is sent that has expired by the last reading of its
-//! section.
+//! its cause; and that no token is sent that has expired by the last reading before it.
 #![tactic(auto)]
 
 mod base;

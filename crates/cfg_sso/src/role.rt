@@ -2,15 +2,15 @@
 ghost use Rattle.std.specs.Prelude.{◌≡◌, ◌<◌, IfOk};
 ghost use Rattle.cfg_world.specs.Follows.{Follows};
 ghost use Rattle.cfg_world.specs.Leaves.{getting_role_credentials};
-ghost use Rattle.cfg_sso.specs.RoleKeys.{moment_at as moment_at_of, role_keys as role_keys_of, role_answer as role_answer_of, settings_in as settings_in_of, request as request_of, exchange as exchange_of, by_sign_on};
+ghost use Rattle.cfg_sso.specs.RoleKeys.{moment_at as moment_at_of, role_keys as role_keys_of, role_answer as role_answer_of, request as request_of, exchange as exchange_of, by_sign_on};
 
 use crate::config::SsoProviderConfig;
 use cfg_profile::{ProviderConfig, call_settings};
 use cfg_token::CachedSsoToken;
 use cfg_types::{
-    AccountId, AwsCredentialFeature, CallSettings, Credentials, CredentialsBuilder,
-    CredentialsError, GetRoleCredentials, Instant, OutOfMemory, ProviderCause, Region, RoleReply,
-    Text, TryCopy, UnhandledCause, copy_option,
+    AccountId, AwsCredentialFeature, Credentials, CredentialsBuilder, CredentialsError,
+    GetRoleCredentials, Instant, OutOfMemory, ProviderCause, RoleReply, Text, TryCopy,
+    UnhandledCause, copy_option,
 };
 use cfg_world::{Asking, NotGranted, Stop, leaves};
 use std::alloc::Global;
@@ -56,31 +56,12 @@ fn request(
     let role_name = sso.role_name.copy(alloc)?;
     let account_id = sso.account_id.copy(alloc)?;
     let access_token = token.access_token.copy(alloc)?;
-    let settings = settings_in(alloc, config, &sso.region)?;
+    let settings = call_settings(alloc, config)?.in_region(alloc, &sso.region)?;
     Ok(GetRoleCredentials {
         role_name,
         account_id,
         access_token,
         settings,
-    })
-}
-
-// The settings of the configuration's calls, in the region of IAM Identity Center.
-fn settings_in(
-    alloc: Global,
-    config: &ProviderConfig,
-    region: &Region,
-) -> Result<CallSettings, OutOfMemory>
-    ensures { IfOk result (λ s. s ≡ settings_in_of config.now region.now) }
-{
-    let settings = call_settings(alloc, config)?;
-    let region = region.copy(alloc)?;
-    Ok(CallSettings {
-        region: Some(region),
-        use_fips: settings.use_fips,
-        use_dual_stack: settings.use_dual_stack,
-        max_attempts: settings.max_attempts,
-        timeouts: settings.timeouts,
     })
 }
 

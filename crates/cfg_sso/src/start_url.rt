@@ -2,18 +2,20 @@
 ghost use Rattle.std.specs.Prelude.{◌≡◌, ◌≢◌, IfOk, codes};
 ghost use Rattle.cfg_types.specs.Environment.{variable};
 ghost use Rattle.cfg_world.specs.Follows.{Follows};
-ghost use Rattle.cfg_sso.specs.Tokens.{url_path as url_path_of, token_in as token_in_of, file_token as file_token_of, of_file as of_file_of, url_token as url_token_of};
+ghost use Rattle.cfg_sso.specs.Tokens.{url_path as url_path_of, token_in as token_in_of, file_token as file_token_of, of_file as of_file_of, judged as judged_of, by_clock as by_clock_of, url_token as url_token_of};
 
 use cfg_profile::ProviderConfig;
+use cfg_token::decision::is_before;
 use cfg_token::{CachedSsoToken, cached_sso_token_path, parse_cached_sso_token};
 use cfg_types::{
-    Bytes, CachedSsoTokenError, CredentialsError, Env, FailKind, IoStep, OutOfMemory,
-    ProviderCause, Text, TryCopy,
+    Bytes, CachedSsoTokenError, CredentialsError, Env, FailKind, Instant, IoStep, OutOfMemory,
+    ProviderCause, SsoTokenProviderError, Text, TryCopy,
 };
-use cfg_world::{Asking, Stop, read_file};
+use cfg_world::{Asking, Stop, read_clock, read_file};
 use std::alloc::Global;
 
-/// The token in the file that a start URL names. As in aws-config, its expiry is not looked at.
+/// The token in the file that a start URL names, where it has not expired by a reading of the clock behind it. In
+/// aws-config its expiry is not looked at.
 #[tactic(auto, using(cfg_world::proofs::Inquiries::asking_steps, crate::proofs::QuietSteps::quiet_steps), unfolding(crate::specs::Tokens::url_token))]
 pub(crate) fn url_token<A: Asking>(
     alloc: Global,
@@ -26,7 +28,7 @@ pub(crate) fn url_token<A: Asking>(
     match url_path(alloc, config.env(), start_url)? {
         Ok(path) => {
             let read = file_token(alloc, &path, asking)?;
-            Ok(of_file(read))
+            by_clock(of_file(read), asking)
         }
         Err(error) => Ok(of_file(Err(error))),
     }
@@ -107,5 +109,35 @@ fn of_file(
     match read {
         Ok(token) => Ok(token),
         Err(error) => Err(CredentialsError::ProviderError(ProviderCause::SsoFile(error))),
+    }
+}
+
+// A file's token, by a reading of the clock. Where there is none, nothing is asked.
+#[tactic(auto, using(cfg_world::proofs::Inquiries::asking_steps, crate::proofs::QuietSteps::quiet_steps), unfolding(crate::specs::Tokens::by_clock))]
+fn by_clock<A: Asking>(
+    held: Result<CachedSsoToken, CredentialsError>,
+    asking: &mut A,
+) -> Result<Result<CachedSsoToken, CredentialsError>, Stop>
+    ensures { Follows ⟦<A as Asking>⟧ (by_clock_of held) asking.old asking.new result }
+{
+    match held {
+        Ok(token) => {
+            let now = read_clock(asking)?;
+            Ok(judged(token, now))
+        }
+        Err(error) => Ok(Err(error)),
+    }
+}
+
+// A token that has ended by this reading is refused.
+#[tactic(auto, unfolding(crate::specs::Tokens::judged))]
+fn judged(token: CachedSsoToken, now: Instant) -> Result<CachedSsoToken, CredentialsError>
+    ensures { judged_of token now ≡ result }
+{
+    if is_before(now, token.expires_at) {
+        Ok(token)
+    } else {
+        let cause = ProviderCause::SsoToken(SsoTokenProviderError::ExpiredToken);
+        Err(CredentialsError::ProviderError(cause))
     }
 }

@@ -21,6 +21,7 @@ mod sso_token;
 mod sso_writing;
 mod state;
 mod token_key;
+pub mod writing;
 
 pub use cfg_types::{
     CachedSsoTokenError, Field, IoStep, OutOfMemory, Region, SsoTokenProviderError,

@@ -36,7 +36,7 @@ fn hashed(alloc: Global, identifier: &str) -> Result<String, OutOfMemory>
 }
 
 /// Puts a part behind a path, with a `/` between them unless the path is empty or ends with one. `OutOfMemory`
-/// where memory runs out; the path may then have the `/`.
+/// where memory runs out; the path is then of no use.
 #[tactic(auto, unfolding(crate::specs::Paths::joined))]
 pub fn push_part(path: &mut String, part: &str) -> Result<(), OutOfMemory>
     ensures { OnOk result (string_bytes path.new ≡ joined (string_bytes path.old) part.now) }

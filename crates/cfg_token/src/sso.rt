@@ -178,14 +178,7 @@ fn in_region(
     let TokenKey::Sso { region, .. } = key else {
         unreachable!()
     };
-    let region = region.copy(alloc)?;
-    Ok(CallSettings {
-        region: Some(region),
-        use_fips: settings.use_fips,
-        use_dual_stack: settings.use_dual_stack,
-        max_attempts: settings.max_attempts,
-        timeouts: settings.timeouts,
-    })
+    settings.in_region(alloc, region)
 }
 
 fn renewed(

@@ -1,9 +1,11 @@
-ghost use Rattle.std.specs.Prelude.{◌≡◌, IfOk, OnOk};
+//! The text of a token's file.
+ghost use Rattle.std.specs.Prelude.{◌≡◌, IfOk};
 ghost use Rattle.cfg_json.specs.Dates.{IsWrittenDate, IsOutside};
 ghost use Rattle.cfg_json.specs.Writing.{braced};
-ghost use Rattle.cfg_token.specs.SsoText.{with_text, with_text_if_there, dated_members, IsWrittenIfThere, IsSsoText, IsOutsideIfThere, HasNoText, Writes, FailsToFormat};
+ghost use Rattle.cfg_token.specs.SsoText.{dated_members, IsWrittenIfThere, IsSsoText, IsOutsideIfThere, HasNoText, Writes, FailsToFormat};
 
 use crate::sso_token::CachedSsoToken;
+use crate::writing::{push_if_there, push_text};
 use cfg_json::{ObjectWriter, write_date};
 use cfg_types::{CachedSsoTokenError, Field, Instant, OutOfMemory, Text};
 use std::alloc::Global;
@@ -63,8 +65,8 @@ fn file_text(
     ensures { IfOk result (λ text. text ≡ braced (dated_members token.now expiry.now registration.now)) }
 {
     let mut file = ObjectWriter::new(alloc);
-    push_text(&mut file, Field::AccessToken, &token.access_token)?;
-    push_text(&mut file, Field::LowerExpiresAt, expiry)?;
+    push_text(&mut file, Field::AccessToken, token.access_token.as_str())?;
+    push_text(&mut file, Field::LowerExpiresAt, expiry.as_str())?;
     push_if_there(&mut file, Field::RefreshToken, &token.refresh_token)?;
     push_if_there(&mut file, Field::ClientId, &token.client_id)?;
     push_if_there(&mut file, Field::ClientSecret, &token.client_secret)?;
@@ -72,23 +74,4 @@ fn file_text(
     push_if_there(&mut file, Field::Region, &token.region)?;
     push_if_there(&mut file, Field::StartUrl, &token.start_url)?;
     file.finish()
-}
-
-fn push_text(file: &mut ObjectWriter, field: Field, text: &Text) -> Result<(), OutOfMemory>
-    ensures { OnOk result (file.new ≡ with_text field text.now file.old) }
-{
-    file.text(field.as_str(), text.as_str())
-}
-
-fn push_if_there(
-    file: &mut ObjectWriter,
-    field: Field,
-    text: &Option<Text>,
-) -> Result<(), OutOfMemory>
-    ensures { OnOk result (file.new ≡ with_text_if_there field text.now file.old) }
-{
-    match text {
-        Some(text) => push_text(file, field, text),
-        None => Ok(()),
-    }
 }

@@ -8,7 +8,7 @@ use Rattle.cfg_profile.specs.Configuration.{Configuration}
 use Rattle.cfg_sso.specs.BearerTokens.{Bearer}
 use Rattle.cfg_token_chain.specs.ProfileTokens.{profile_token, default_token}
 use Rattle.cfg_token_chain.specs.Told.{told_by, chain_answer, told_of_profile}
-use Rattle.cfg_token_chain.specs.TokenAnswers.{token_rules}
+use Rattle.cfg_meta.specs.TokenAnswers.{token_rules}
 
 step : (conf : Configuration) (given : Bearer) (o : Option TokenError) →
     Gives (told_by given o) ≡ go_on (asked_chain token_rules) (chain (asked_chain token_rules) []) (codes "Profile", profile_token conf) [] given o

@@ -14,7 +14,7 @@ use Rattle.cfg_meta.proofs.Mapped.{mapped_follows, mapped_provides, mapped_inter
 use Rattle.cfg_sso.specs.BearerTokens.{Bearer, is_memory}
 use Rattle.cfg_token_chain.specs.Members.{NamedAsked, name_in, IsTokenTree}
 use Rattle.cfg_token_chain.specs.Provides.{ProvidesTokens, InterruptedTokens}
-use Rattle.cfg_token_chain.specs.TokenAnswers.{token_rules}
+use Rattle.cfg_meta.specs.TokenAnswers.{token_rules}
 
 -- an answer that says that memory ran out
 memory_same : (out : Bearer) → is_memory_answer token_rules out ≡ is_memory out

@@ -14,7 +14,7 @@ use Rattle.cfg_token.specs.declared.token_key.TokenKey.{TokenKey}
 use Rattle.cfg_token_chain.specs.Members.{Asked, OfProfile, OfSession, ByDefault, Given, ByCaller, member_tree, TokenCause}
 use Rattle.cfg_token_chain.specs.ProfileTokens.{by_session, profile_token, IsSessionPart, ProfileTokenCause, default_members, default_token, DefaultTokenCause}
 use Rattle.cfg_token_chain.specs.Sessions.{profile_session}
-use Rattle.cfg_token_chain.specs.TokenAnswers.{token_rules}
+use Rattle.cfg_meta.specs.TokenAnswers.{token_rules}
 
 -- an answer without a question
 said_at_once : (said : Bearer) (found : List Value) (part : List Pair) (out : Bearer) → Reads (Gives said) found part out → (found ≡ []) × (part ≡ []) × (out ≡ said)

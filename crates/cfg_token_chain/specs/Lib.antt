@@ -1,5 +1,4 @@
 pub mod Sessions
-pub mod TokenAnswers
 pub mod ProfileTokens
 pub mod Told
 pub mod Members

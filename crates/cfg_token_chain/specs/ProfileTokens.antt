@@ -11,7 +11,7 @@ use Rattle.cfg_profile.specs.Configuration.{Configuration}
 use Rattle.cfg_sso.specs.BearerTokens.{Bearer, bearer_token, BearerCause}
 use Rattle.cfg_token.specs.declared.token_key.TokenKey.{TokenKey}
 use Rattle.cfg_token_chain.specs.Sessions.{profile_session}
-use Rattle.cfg_token_chain.specs.TokenAnswers.{token_rules}
+use Rattle.cfg_meta.specs.TokenAnswers.{token_rules}
 
 -- ---- of the selected profile
 

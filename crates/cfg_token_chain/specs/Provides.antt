@@ -10,7 +10,7 @@ use Rattle.cfg_meta.specs.MemberParts.{Keeping}
 use Rattle.cfg_meta.specs.Provides.{ProvidesByMembers, InterruptedMembers}
 use Rattle.cfg_sso.specs.BearerTokens.{Bearer}
 use Rattle.cfg_token_chain.specs.Members.{NamedAsked, name_in, IsTokenTree}
-use Rattle.cfg_token_chain.specs.TokenAnswers.{token_rules}
+use Rattle.cfg_meta.specs.TokenAnswers.{token_rules}
 
 -- ---- of one provider
 

@@ -6,7 +6,7 @@ use Rattle.cfg_meta.specs.AnswerRules.{passed_over, attempt_of}
 use Rattle.cfg_profile.specs.Configuration.{Configuration}
 use Rattle.cfg_sso.specs.BearerTokens.{Bearer}
 use Rattle.cfg_token_chain.specs.ProfileTokens.{profile_token}
-use Rattle.cfg_token_chain.specs.TokenAnswers.{token_rules, none_loaded}
+use Rattle.cfg_meta.specs.TokenAnswers.{token_rules, none_loaded}
 
 -- the error where the profile was not loaded, for this reason
 abbrev pub none_loaded_by : TokenError → TokenError

@@ -14,7 +14,7 @@ ghost use Rattle.cfg_profile.specs.SectionSets.{SectionSets};
 ghost use Rattle.cfg_sso.specs.BearerTokens.{Bearer};
 ghost use Rattle.cfg_token_chain.specs.Members.{Asked, member_tree, TokenCause, NamedAsked, name_in, IsTokenTree};
 ghost use Rattle.cfg_token_chain.specs.Sessions.{profile_chain};
-ghost use Rattle.cfg_token_chain.specs.TokenAnswers.{token_rules};
+ghost use Rattle.cfg_meta.specs.TokenAnswers.{token_rules};
 
 /// Each answer of a member has its cause over its part, by the rule of its provider.
 pub fn members_have_causes()

@@ -1,10 +1,9 @@
 //! Members of chains of bearer tokens.
-ghost use Rattle.std.specs.Prelude.{◌≡◌, true};
+ghost use Rattle.std.specs.Prelude.{◌≡◌};
 ghost use Rattle.std.specs.Option.{option_copied};
 ghost use Rattle.cfg_kept.specs.Holds.{HoldsFollows};
 ghost use Rattle.cfg_kept.specs.KeptStates.{kept_holdings, kept_key};
 ghost use Rattle.cfg_token_chain.specs.Members.{asked_of, member_tree, needed_key};
-ghost use Rattle.cfg_token_chain.specs.TokenAnswers.{is_not_loaded as is_not_loaded_error, none_loaded as none_loaded_of, is_memory_error};
 
 use crate::custom::{CustomToken, token_told};
 use crate::default_provider::token::DefaultTokenChain;
@@ -13,7 +12,7 @@ use cfg_kept::Kept;
 use cfg_meta::ChainMember;
 use cfg_sso::{SsoTokenProvider, is_memory};
 use cfg_token::TokenKey;
-use cfg_types::{ProviderChainError, Text, Token, TokenCause, TokenError, TryCopy};
+use cfg_types::{Text, Token, TokenError, TryCopy};
 use cfg_world::{Asking, Stop};
 use std::alloc::Global;
 
@@ -91,7 +90,6 @@ impl ChainMember for NamedToken {
     ghost use Rattle.std.specs.Prelude.{◌≡◌};
     ghost use Rattle.std.proofs.Common.{sym, ◌∙◌};
     ghost use Rattle.cfg_token_chain.specs.Members.{named_of, IsTokenTree, needed_in};
-    ghost use Rattle.cfg_token_chain.specs.TokenAnswers.{token_rules};
 
     type Value = Token;
 
@@ -102,8 +100,6 @@ impl ChainMember for NamedToken {
     ghost needs = { λ m. needed_in (named_of (λ b. (ProvideToken-box b).told_token b.value) m) };
 
     ghost is_tree = { λ m tree. IsTokenTree (named_of (λ b. (ProvideToken-box b).told_token b.value) m) tree };
-
-    ghost rules = { token_rules };
 
     fn name(&self) -> &str {
         self.name.as_str()
@@ -120,24 +116,6 @@ impl ChainMember for NamedToken {
         asking: &mut A,
     ) -> Result<Result<Token, TokenError>, Stop> {
         self.member.follow(alloc, kept, asking)
-    }
-
-    fn is_not_loaded(error: &TokenError) -> bool
-        ensures { result ≡ is_not_loaded_error error.now }
-    {
-        matches!(error, TokenError::TokenNotLoaded(_))
-    }
-
-    fn none_loaded(attempts: ProviderChainError<TokenError>) -> TokenError
-        ensures { result ≡ none_loaded_of attempts.attempts }
-    {
-        TokenError::TokenNotLoaded(TokenCause::Chain(attempts))
-    }
-
-    fn out_of_memory() -> TokenError
-        ensures { is_memory_error result ≡ true }
-    {
-        TokenError::OutOfMemory
     }
 
     ghost one_tree = { λ m one other is also. is ∙ sym also };

@@ -1,4 +1,4 @@
--- The Debug text of credentials, which depends on neither the secret nor the session token.
+-- Debug texts of values that hold secrets, which depend on none of them.
 use Rattle.std.specs.Prelude.{ℕ, ℤ, List, [], ◌++◌, Option, Some, None, codes}
 use Rattle.std.specs.Str.{encode_utf8_all}
 use Rattle.std.specs.Fmt.{decimal, signed_decimal}

@@ -1,5 +1,5 @@
 -- What kind of error a `TokenError` is.
-use Rattle.std.specs.Prelude.{ℕ, List, codes}
+use Rattle.std.specs.Prelude.{ℕ, List, Bool, true, false, codes}
 use Rattle.cfg_types.specs.declared.errors.token.TokenClass.{TokenClass}
 use Rattle.cfg_types.specs.declared.errors.token.TokenClass.TheVariants as class
 use Rattle.cfg_types.specs.declared.errors.token.TokenCause.{TokenCause}
@@ -26,3 +26,11 @@ token_class_name class.InvalidConfiguration = codes "InvalidConfiguration"
 token_class_name class.ProviderError = codes "ProviderError"
 token_class_name class.Unhandled = codes "Unhandled"
 token_class_name class.OutOfMemory = codes "OutOfMemory"
+
+abbrev pub is_not_loaded_class : TokenClass → Bool
+is_not_loaded_class class.TokenNotLoaded = true
+is_not_loaded_class _ = false
+
+abbrev pub is_memory_class : TokenClass → Bool
+is_memory_class class.OutOfMemory = true
+is_memory_class _ = false

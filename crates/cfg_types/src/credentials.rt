@@ -434,11 +434,12 @@ impl CredentialsBuilder {
         CredentialsBuilder { alloc, built }
     }
 
-    /// The credentials. Its contract allows for `OutOfMemory`, though it takes no memory.
+    /// The credentials. It takes no memory and answers no error: every `build` answers a Result, so that a caller
+    /// writes one form.
     pub fn build(self) -> Result<Credentials, OutOfMemory>
-        ensures { IfOk result (λ credentials. credentials ≡ self) }
+        ensures built { IfOk result (λ credentials. credentials ≡ self) }
+        ensures always { OnErr result ⊥ }
     {
-        // An Ok always: every `build` answers a Result, so that a caller writes one form.
         let CredentialsBuilder { alloc: _, built } = self;
         Ok(built)
     }

@@ -20,7 +20,8 @@ pub enum JsonError {
     OutOfMemory,
 }
 
-/// The name of a field, as it stands in a document. Names that differ in case are two.
+/// The name of a field, as it stands in a document. Each spelling is one of its own, since errors show it;
+/// whether a look-up minds case, the look-up says.
 #[derive(Clone, Copy, Debug, PartialEq, Eq)]
 pub enum Field {
     Code,

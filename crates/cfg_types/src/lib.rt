@@ -10,6 +10,7 @@ pub mod document;
 pub mod environment;
 pub mod errors;
 pub mod laws;
+pub mod outcome;
 pub mod region;
 pub mod reply;
 pub mod request;
@@ -32,6 +33,7 @@ pub use errors::{
     ProviderAttempt, ProviderCause, ProviderChainError, SsoTokenProviderError, TokenCause,
     TokenClass, TokenError, UnhandledCause, imds, is_memory,
 };
+pub use outcome::Outcome;
 pub use region::Region;
 pub use reply::{
     FailKind, Fault, Header, HttpReply, Refusal, RefusalKind, Reply, RoleCredentials, RoleReply,

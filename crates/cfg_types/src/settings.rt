@@ -1,5 +1,5 @@
 //! How a service is called: its region, its endpoints, its attempts and its limits of time.
-ghost use Rattle.std.specs.Prelude.{◌≡◌, IfOk};
+ghost use Rattle.std.specs.Prelude.{◌≡◌, IfOk, Some};
 
 use crate::region::Region;
 use cfg_base::{OutOfMemory, TryCopy, copy_option};
@@ -31,6 +31,21 @@ pub struct CallSettings {
     pub max_attempts: u32,
     /// The limits of time of the call.
     pub timeouts: Timeouts,
+}
+
+impl CallSettings {
+    /// The same in this region. `OutOfMemory` where memory runs out.
+    pub fn in_region(&self, alloc: Global, region: &Region) -> Result<CallSettings, OutOfMemory>
+        ensures { IfOk result (λ settings. settings ≡ record self.now { region = Some region.now }) }
+    {
+        Ok(CallSettings {
+            region: Some(region.copy(alloc)?),
+            use_fips: self.use_fips,
+            use_dual_stack: self.use_dual_stack,
+            max_attempts: self.max_attempts,
+            timeouts: self.timeouts,
+        })
+    }
 }
 
 impl TryCopy for CallSettings {

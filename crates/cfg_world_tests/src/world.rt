@@ -2,6 +2,6 @@
 mod devices;
 mod leaves;
 mod local;
-mod prefixes;
 mod questions;
+mod receipts;
 mod streams;

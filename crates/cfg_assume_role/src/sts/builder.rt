@@ -2,7 +2,6 @@
 ghost use Rattle.std.specs.Option.{option_or};
 ghost use Rattle.std.specs.Prelude.{◌≡◌, ◌≤◌, [], IfOk, OnErr, Some, map, pos, string_bytes};
 ghost use Rattle.cfg_base.specs.Text.{characters};
-ghost use Rattle.cfg_world.specs.Follows.{Follows};
 ghost use Rattle.cfg_providers.specs.SessionNames.{session_name as session_name_of};
 ghost use Rattle.cfg_chain.specs.Settings.{alone};
 ghost use Rattle.cfg_chain.specs.Views.{chain_of};
@@ -16,10 +15,10 @@ use crate::call::{RoleCall, RoleSession};
 use crate::sts::provider::AssumeRoleProvider;
 use cfg_chain::{ChainCore, DefaultCredentialsChain};
 use cfg_profile::ProviderConfig;
-use cfg_providers::default_session_name;
+use cfg_providers::steps::session_name;
 use cfg_region::load_default_region;
 use cfg_types::{OutOfMemory, Region, Seq, Tag, Text, TryCopy, texts};
-use cfg_world::{Asking, Devices, Stop, World, read_clock};
+use cfg_world::{Devices, World};
 use std::alloc::Global;
 use std::marker::Model;
 
@@ -270,27 +269,10 @@ fn named<D: Devices>(
     ensures asks { IfOk result (λ name. Asks ⟦<D as Devices>⟧ (session_name_of provider_session given.now) world.old world.new name) }
     ensures breaks { OnErr result (CallBreaks ⟦<D as Devices>⟧ (session_name_of provider_session given.now) world.old world.new) }
 {
-    match name_of(alloc, given, world) {
+    match session_name(alloc, "assume-role-provider", given, world) {
         Ok(name) => Ok(name),
+        // A world leaves no question open: a call over it stops for want of memory alone.
         Err(_) => Err(OutOfMemory),
-    }
-}
-
-// The name of a session that was given, or one made from a reading of the clock.
-#[tactic(auto, using(cfg_world::proofs::Inquiries::asking_steps), unfolding(cfg_providers::specs::SessionNames::session_name))]
-fn name_of<A: Asking>(alloc: Global, given: &Option<Text>, asking: &mut A) -> Result<Text, Stop>
-    ensures { Follows ⟦<A as Asking>⟧ (session_name_of provider_session given.now) asking.old asking.new result }
-{
-    match given {
-        Some(name) => {
-            let name = name.copy(alloc)?;
-            Ok(name)
-        }
-        None => {
-            let now = read_clock(asking)?;
-            let name = default_session_name(alloc, "assume-role-provider", now)?;
-            Ok(name)
-        }
     }
 }
 

@@ -8,7 +8,6 @@ use Rattle.cfg_kept.specs.KeptInquiry.{KeptInquiry, Gives, lift, onwards}
 use Rattle.cfg_imds.specs.Clients.{ClientRules}
 use Rattle.cfg_kept.specs.declared.place.Place.{Place}
 use Rattle.cfg_imds_credentials.specs.Metadata.{metadata}
-use Rattle.cfg_imds_credentials.specs.Settings.{MetadataSetting}
 use Rattle.cfg_exchange.specs.declared.container.ContainerUri.{ContainerUri}
 use Rattle.cfg_exchange.specs.Containers.{container}
 use Rattle.cfg_profile.specs.Configuration.{Configuration}

@@ -12,7 +12,6 @@ use Rattle.cfg_kept.specs.Kinds.{Value, States}
 use Rattle.cfg_kept.specs.KeptStates.{kept_holdings, states_of}
 use Rattle.cfg_kept.specs.KeptInquiry.{Reads, Begins, found_by, kept_after}
 use Rattle.cfg_kept.specs.Holds.{Holdings, HoldsFollows}
-use Rattle.cfg_profile.specs.Configuration.{Configuration}
 use Rattle.cfg_providers.specs.CustomSources.{Answer}
 use Rattle.cfg_chain.specs.Settings.{Setting, ChainSetting, Services, AreServices, setting, names_of}
 use Rattle.cfg_chain.specs.Valid.{AreOfUse, IsBase, IsFile}
@@ -31,8 +30,9 @@ pub record IsUsable (s : Setting) (found : List Value) (part : List Pair) : Type
   pub given : PlanGives s (plan s.configuration (names_of s.sources)) found part
   pub answers : AreOfUse (IsFile s.configuration.environment (plan s.configuration (names_of s.sources))) part
 
--- A call of a profile's provider of this setting found these values, has this part, and came to this
--- outcome, which has its cause, over the services that the configuration names: there is one answer which. Where nothing stands in the way, the outcome is credentials.
+-- A call of a profile's provider of this setting found these values, has this part, and came to this outcome, which
+-- has its cause, over the services that the configuration names: these are one. Where nothing stands in the way, the
+-- outcome is credentials.
 pub record IsProfileCall (over : ChainSetting) (old new : States) (found : List Value) (part : List Pair) (out : Answer) : Type 0 where
   pub services : Services
   pub names : AreServices over services

@@ -117,6 +117,7 @@ impl ProfileFileCredentialsProvider {
         kept.clear_found();
         match self.follow(kept, world) {
             Ok(outcome) => outcome,
+            // A world leaves no question open: a call over it stops for want of memory alone.
             Err(_) => Err(CredentialsError::OutOfMemory),
         }
     }
@@ -128,7 +129,7 @@ impl ProfileFileCredentialsProvider {
 #[derive(Drop)]
 pub struct Builder {
     alloc: Global,
-    settings: ProfileBuilder,
+    settings: ProfileBuilder<ProviderConfig>,
     custom_sources: Vec<CustomSource>,
 }
 
@@ -221,7 +222,7 @@ impl Builder {
             settings,
             custom_sources,
         } = self;
-        let config = settings.configured()?;
+        let config = settings.build()?;
         Ok(ProfileFileCredentialsProvider {
             core: ChainCore::of(alloc, config)?,
             custom_sources,

@@ -54,8 +54,8 @@ fn plan_in(
 }
 
 /// What the provider of profiles answers where there is no plan: `CredentialsNotLoaded` where profiles,
-/// credentials or a profile on the path are missing, or the profile gives a token alone, and else
-/// `InvalidConfiguration`.
+/// credentials or a profile on the path are missing, or the profile gives a token alone, or lacks the region or the
+/// start URL of IAM Identity Center; and else `InvalidConfiguration`.
 pub(crate) fn refusal(error: ProfileFileError) -> CredentialsError
     ensures { result ≡ refusal_of error }
 {

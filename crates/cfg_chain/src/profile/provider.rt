@@ -1,3 +1,4 @@
+//! What a profile is asked: its base, and then its roles.
 ghost use Rattle.std.specs.Prelude.{◌≡◌, IfOk};
 ghost use Rattle.cfg_world.specs.Follows.{Follows};
 ghost use Rattle.cfg_profile.specs.Settings.{settings_of};

@@ -1,38 +1,15 @@
 //! What no clause says: worked examples of a role over a base, and that calls succeed.
-use crate::assume_role::setup::{Setup, set_up};
+use crate::setup::{Setup, answer_words, set_up};
 use cfg_assume_role::{AssumeRoleProvider, AssumeRoleProviderBuilder, RoleBase};
 use cfg_profile::ProviderConfig;
 use cfg_providers::{EnvironmentVariableCredentialsProvider, ProvideCredentials};
 use cfg_types::{
-    AssumeRole, Credentials, CredentialsBuilder, CredentialsError, OutOfMemory, Region, Request,
-    Text, TryCopy,
+    AssumeRole, Credentials, CredentialsBuilder, CredentialsError, OutOfMemory, Outcome, Region,
+    Request, Text, TryCopy,
 };
 use cfg_world::{Entry, Question, ScriptDevices, World};
 use std::alloc::{AllocError, Global};
 use std::test::Fail;
-
-// An answer that is let go by one call.
-struct Outcome {
-    answer: Result<Credentials, CredentialsError>,
-}
-
-impl Drop for Outcome {
-    fn drop(self) {
-        let Outcome { answer: _ } = self;
-    }
-}
-
-fn answer_words(alloc: Global, outcome: &Outcome) -> Result<String, AllocError> {
-    match &outcome.answer {
-        Ok(keys) => {
-            let id = keys.access_key_id();
-            let provider = keys.provider_name();
-            let features = keys.features();
-            format!(in alloc; "{id} {provider} {features:?}")
-        }
-        Err(error) => format!(in alloc; "{error:?}"),
-    }
-}
 
 fn request_words(alloc: Global, request: &AssumeRole) -> Result<String, AllocError> {
     let signer = request.signer.access_key_id();
@@ -88,7 +65,7 @@ fn answered(
     let outcome = Outcome {
         answer: provider.provide_credentials(&mut kept, world),
     };
-    let answer = answer_words(alloc, &outcome)?;
+    let answer = answer_words(alloc, &outcome.answer)?;
     let questions = journal_words(alloc, world.journal())?;
     Ok(format!(in alloc; "{answer};{questions}")?)
 }
@@ -166,10 +143,8 @@ fn over_asked_region(
     answered(alloc, &provider, world)
 }
 
-fn words_of(alloc: Global, base: &str, script: &str) -> Result<String, OutOfMemory> {
-    let Some(Setup { config, mut world }) = set_up(alloc, script)? else {
-        return Ok(String::from_str(alloc, "no script")?);
-    };
+fn words_of(alloc: Global, base: &str, setup: Setup) -> Result<String, OutOfMemory> {
+    let Setup { config, mut world } = setup;
     match base {
         "fixed" => over_fixed(alloc, &mut world),
         "own" => over_own_source(alloc, &mut world),
@@ -210,7 +185,8 @@ fn bases_of_a_role(rt: HostRuntime) -> Result<(), Fail> {
         ),
     ];
     for (base, script, want) in table {
-        let words = words_of(rt.alloc(), base, script)?;
+        let setup = set_up(rt.alloc(), script)?;
+        let words = words_of(rt.alloc(), base, setup)?;
         assert_eq!(rt; words.as_str(), *want, "{base}");
     }
     Ok(())

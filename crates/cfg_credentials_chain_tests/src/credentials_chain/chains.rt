@@ -1,6 +1,7 @@
 //! Chains over given members: what a call answers, what the chain then falls back on, and what was asked.
 use crate::credentials_chain::own::{Failing, Sparing};
-use crate::credentials_chain::setup::{Outcome, Setup, kinds, set_up, words_of};
+use crate::credentials_chain::words::{Outcome, kinds, words_of};
+use crate::setup::{Setup, set_up};
 use cfg_assume_role::{AssumeRoleProvider, RoleBase};
 use cfg_chain::DefaultCredentialsChain;
 use cfg_credentials_chain::{CredentialsProviderChain, Member};
@@ -73,8 +74,7 @@ fn two_words(
 
 // By letters: the member of a source behind the environment, or behind a source of the test's own.
 fn source_words(alloc: Global, setup: Setup, letter: char) -> Result<String, OutOfMemory> {
-    let Setup { config, devices } = setup;
-    let mut world = World::new(alloc, devices);
+    let Setup { config, mut world } = setup;
     let first = Member::Environment(environment(alloc, &config)?);
     match letter {
         'F' => two_words(alloc, first, Member::Fixed(keys(alloc, "F")?), &mut world),
@@ -213,7 +213,7 @@ fn members_in_order(rt: HostRuntime) -> Result<(), Fail> {
         (
             'S',
             SIGNED_ON,
-            "R1 SSO [CredentialsSso]; none; read role-credentials",
+            "R1 SSO [CredentialsSso]; none; read now role-credentials",
         ),
         (
             'L',
@@ -227,10 +227,8 @@ fn members_in_order(rt: HostRuntime) -> Result<(), Fail> {
         ),
     ];
     for (letter, script, want) in table {
-        let words = match set_up(rt.alloc(), script)? {
-            Some(setup) => source_words(rt.alloc(), setup, *letter)?,
-            None => String::from_str(rt.alloc(), "no script")?,
-        };
+        let setup = set_up(rt.alloc(), script)?;
+        let words = source_words(rt.alloc(), setup, *letter)?;
         assert_eq!(rt; words.as_str(), *want, "{letter}");
     }
     Ok(())

@@ -26,7 +26,7 @@ fn section(alloc: Global, text: &str) -> Result<Section, OutOfMemory> {
     }
 }
 
-pub fn set_of(alloc: Global, selected: &str, text: &str) -> Result<ProfileSet, OutOfMemory> {
+pub(crate) fn set_of(alloc: Global, selected: &str, text: &str) -> Result<ProfileSet, OutOfMemory> {
     let mut profiles = Vec::new(alloc);
     let mut sessions = Vec::new(alloc);
     for part in text.split(';') {

@@ -2,8 +2,8 @@
 //! tables of the calls that answer them, and in those of the program.
 use cfg_types::imds::{BuildError, ImdsError, InvalidEndpointMode};
 use cfg_types::{
-    CachedSsoTokenError, CredentialsError, InvalidFullUriError, InvalidJsonCredentials, JsonError,
-    LoginTokenError, NotLoadedCause, OutOfMemory, ProfileFileError, ProviderAttempt,
+    CachedSsoTokenError, CredentialsError, Fault, InvalidFullUriError, InvalidJsonCredentials,
+    JsonError, LoginTokenError, NotLoadedCause, OutOfMemory, ProfileFileError, ProviderAttempt,
     ProviderChainError, Seq, SsoTokenProviderError, Text, TokenCause, TokenError,
 };
 use std::alloc::{AllocError, Global};
@@ -21,11 +21,10 @@ fn profile_error(row: usize, profile: Text, message: Text) -> ProfileFileError {
             feature: profile,
             message: Some(message),
         },
-        2 => ProfileFileError::FeatureNotEnabled {
+        _ => ProfileFileError::FeatureNotEnabled {
             feature: profile,
             message: None,
         },
-        _ => ProfileFileError::OutOfMemory,
     }
 }
 
@@ -36,18 +35,21 @@ fn profile_words(alloc: Global, row: usize) -> Result<String, OutOfMemory> {
     Ok(shown(alloc, &error)?)
 }
 
-fn memory_words(alloc: Global, row: usize) -> Result<String, AllocError> {
-    match row {
-        0 => shown(alloc, &CachedSsoTokenError::OutOfMemory),
-        1 => shown(alloc, &LoginTokenError::OutOfMemory),
-        2 => shown(alloc, &InvalidFullUriError::OutOfMemory),
-        3 => shown(alloc, &InvalidEndpointMode::OutOfMemory),
-        4 => shown(alloc, &CredentialsError::OutOfMemory),
-        5 => shown(alloc, &TokenError::OutOfMemory),
-        6 => shown(alloc, &ImdsError::OutOfMemory),
-        7 => shown(alloc, &BuildError::OutOfMemory),
-        8 => shown(alloc, &SsoTokenProviderError::OutOfMemory),
-        9 => shown(alloc, &InvalidJsonCredentials::OutOfMemory),
+// How the type of this name says that memory ran out.
+fn memory_words(alloc: Global, name: &str) -> Result<String, AllocError> {
+    match name {
+        "CachedSsoTokenError" => shown(alloc, &CachedSsoTokenError::OutOfMemory),
+        "LoginTokenError" => shown(alloc, &LoginTokenError::OutOfMemory),
+        "InvalidFullUriError" => shown(alloc, &InvalidFullUriError::OutOfMemory),
+        "InvalidEndpointMode" => shown(alloc, &InvalidEndpointMode::OutOfMemory),
+        "CredentialsError" => shown(alloc, &CredentialsError::OutOfMemory),
+        "TokenError" => shown(alloc, &TokenError::OutOfMemory),
+        "ImdsError" => shown(alloc, &ImdsError::OutOfMemory),
+        "BuildError" => shown(alloc, &BuildError::OutOfMemory),
+        "SsoTokenProviderError" => shown(alloc, &SsoTokenProviderError::OutOfMemory),
+        "InvalidJsonCredentials" => shown(alloc, &InvalidJsonCredentials::OutOfMemory),
+        "ProfileFileError" => shown(alloc, &ProfileFileError::OutOfMemory),
+        "Fault" => shown(alloc, &Fault::OutOfMemory),
         _ => shown(
             alloc,
             &InvalidJsonCredentials::JsonError(JsonError::OutOfMemory),
@@ -60,8 +62,7 @@ fn keys_error(alloc: Global, row: usize) -> Result<CredentialsError, OutOfMemory
         0 => NotLoadedCause::NotSet(Text::of(alloc, "AWS_ACCESS_KEY_ID")?),
         1 => NotLoadedCause::Custom(Text::of(alloc, "reason")?),
         2 => NotLoadedCause::Chain(ProviderChainError::new(Seq::of(Vec::new(alloc)))),
-        3 => return Ok(CredentialsError::ProviderTimedOut),
-        _ => return Ok(CredentialsError::OutOfMemory),
+        _ => return Ok(CredentialsError::ProviderTimedOut),
     };
     Ok(CredentialsError::CredentialsNotLoaded(cause))
 }
@@ -71,8 +72,7 @@ fn token_error(alloc: Global, row: usize) -> Result<TokenError, OutOfMemory> {
         0 => TokenCause::NoSession,
         1 => TokenCause::Custom(Text::of(alloc, "reason")?),
         2 => TokenCause::Chain(ProviderChainError::new(Seq::of(Vec::new(alloc)))),
-        3 => return Ok(TokenError::ProviderTimedOut),
-        _ => return Ok(TokenError::OutOfMemory),
+        _ => return Ok(TokenError::ProviderTimedOut),
     };
     Ok(TokenError::TokenNotLoaded(cause))
 }
@@ -111,7 +111,6 @@ fn errors_in_words(rt: HostRuntime) -> Result<(), Fail> {
         "missing credential source in `p`: m",
         "This behavior requires following cargo feature(s) enabled: p. m",
         "This behavior requires following cargo feature(s) enabled: p. ",
-        "out of memory",
     ];
     for (row, want) in profiles.iter().enumerate() {
         let words = profile_words(rt.alloc(), row)?;
@@ -125,14 +124,28 @@ fn errors_in_words(rt: HostRuntime) -> Result<(), Fail> {
     Ok(())
 }
 
+const MEMORY: &[(&str, &str)] = &[
+    ("CachedSsoTokenError", "out of memory"),
+    ("LoginTokenError", "out of memory"),
+    ("InvalidFullUriError", "out of memory"),
+    ("InvalidEndpointMode", "out of memory"),
+    ("CredentialsError", "out of memory"),
+    ("TokenError", "out of memory"),
+    ("ImdsError", "out of memory"),
+    ("BuildError", "out of memory"),
+    ("SsoTokenProviderError", "out of memory"),
+    ("InvalidJsonCredentials", "out of memory"),
+    ("ProfileFileError", "out of memory"),
+    ("Fault", "out of memory"),
+    ("JsonError", "invalid JSON in response: out of memory"),
+];
+
 #[test]
 fn out_of_memory_in_words(rt: HostRuntime) -> Result<(), Fail> {
-    for row in 0..10 {
-        let words = memory_words(rt.alloc(), row)?;
-        assert_eq!(rt; words.as_str(), "out of memory", "{row}");
+    for (name, want) in MEMORY {
+        let words = memory_words(rt.alloc(), name)?;
+        assert_eq!(rt; words.as_str(), *want, "{name}");
     }
-    let words = memory_words(rt.alloc(), 10)?;
-    assert_eq!(rt; words.as_str(), "invalid JSON in response: out of memory");
     Ok(())
 }
 
@@ -151,8 +164,8 @@ fn chains_in_words(rt: HostRuntime) -> Result<(), Fail> {
         ),
         (
             "credentials",
-            5,
-            "no credentials found in chain. Attempted:\n  M: not loaded: environment variable not set\n  M: not loaded: reason\n  M: not loaded: no providers were configured in the chain\n  M: provider timed out\n  M: out of memory",
+            4,
+            "no credentials found in chain. Attempted:\n  M: not loaded: environment variable not set\n  M: not loaded: reason\n  M: not loaded: no providers were configured in the chain\n  M: provider timed out",
         ),
         ("token", 0, "no providers were configured in the chain"),
         (
@@ -162,8 +175,8 @@ fn chains_in_words(rt: HostRuntime) -> Result<(), Fail> {
         ),
         (
             "token",
-            5,
-            "no credentials found in chain. Attempted:\n  M: not loaded: no sso-session configured in profile file\n  M: not loaded: reason\n  M: not loaded: no providers were configured in the chain\n  M: provider timed out\n  M: out of memory",
+            4,
+            "no credentials found in chain. Attempted:\n  M: not loaded: no sso-session configured in profile file\n  M: not loaded: reason\n  M: not loaded: no providers were configured in the chain\n  M: provider timed out",
         ),
     ];
     for (kind, members, want) in table {

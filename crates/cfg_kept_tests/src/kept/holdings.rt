@@ -156,13 +156,6 @@ fn words_over(alloc: Global, kind: &str, script: Script) -> Result<String, OutOf
     words_by(alloc, kind, &env, script.devices)
 }
 
-fn words_of(alloc: Global, kind: &str, script: &str) -> Result<String, OutOfMemory> {
-    match read_script(alloc, script.as_bytes()) {
-        Ok(script) => words_over(alloc, kind, script),
-        Err(_) => Ok(String::from_str(alloc, "no script")?),
-    }
-}
-
 #[test]
 fn holdings(rt: HostRuntime) -> Result<(), Fail> {
     let table: &[(&str, &str, &str)] = &[
@@ -183,7 +176,8 @@ fn holdings(rt: HostRuntime) -> Result<(), Fail> {
         ),
     ];
     for (kind, script, want) in table {
-        let words = words_of(rt.alloc(), kind, script)?;
+        let script = read_script(rt.alloc(), script.as_bytes())?;
+        let words = words_over(rt.alloc(), kind, script)?;
         assert_eq!(rt; words.as_str(), *want, "{kind}");
     }
     Ok(())

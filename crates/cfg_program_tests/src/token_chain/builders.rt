@@ -54,13 +54,6 @@ fn built_by(alloc: Global, setup: Setup, call: u8) -> Result<String, OutOfMemory
     Ok(format!(in alloc; "{building}; {call}")?)
 }
 
-fn built_of(alloc: Global, script: &str, call: u8) -> Result<String, OutOfMemory> {
-    match set_up(alloc, script)? {
-        Some(setup) => built_by(alloc, setup, call),
-        None => Ok(String::from_str(alloc, "no script")?),
-    }
-}
-
 #[test]
 fn regions_and_names(rt: HostRuntime) -> Result<(), Fail> {
     let nobodys = " now imds-token now; InvalidConfiguration(NoProfilesDefined)";
@@ -84,7 +77,8 @@ fn regions_and_names(rt: HostRuntime) -> Result<(), Fail> {
         let script = format!(in rt.alloc();
             r#"{{"variables":[["HOME","/home/u"]{variables}],"profiles":[["default",[["sso_session","abc"]]],["b",[["sso_session","b"],["region","z"]]]],{SESSIONS},{FILES}}}"#
         )?;
-        let words = built_of(rt.alloc(), script.as_str(), *call)?;
+        let setup = set_up(rt.alloc(), script.as_str())?;
+        let words = built_by(rt.alloc(), setup, *call)?;
         assert_eq!(rt; words.as_str(), *want, "{call} {variables}");
     }
     Ok(())

@@ -1,10 +1,10 @@
 //! Chains over given members.
 use crate::token_chain::own::{Having, Lacking, Late};
-use crate::token_chain::setup::{FILES, Handed, SESSIONS, Setup, asked, set_up, token_words};
+use crate::token_chain::setup::{FILES, SESSIONS, Setup, asked, set_up, token_words};
 use cfg_profile::ProviderConfig;
 use cfg_sso::SsoTokenProvider;
 use cfg_token_chain::{ProfileFileTokenProvider, TokenMember, TokenProviderChain};
-use cfg_types::{OutOfMemory, Region, Text, Token, TryCopy};
+use cfg_types::{OutOfMemory, Outcome, Region, Text, Token, TryCopy};
 use cfg_world::{ScriptDevices, World};
 use std::alloc::Global;
 use std::test::Fail;
@@ -16,10 +16,10 @@ fn call_words(
     world: &mut World<ScriptDevices>,
 ) -> Result<String, OutOfMemory> {
     let mut kept = chain.new_kept()?;
-    let handed = Handed {
+    let outcome = Outcome {
         answer: chain.provide_token(kept.as_mut_slice(), world),
     };
-    let answer = token_words(alloc, &handed)?;
+    let answer = token_words(alloc, &outcome)?;
     let questions = asked(alloc, world)?;
     Ok(format!(in alloc; "{answer}{questions}")?)
 }
@@ -72,13 +72,6 @@ fn chain_words(alloc: Global, setup: Setup, letters: &str) -> Result<String, Out
     Ok(format!(in alloc; "{making}; {call}")?)
 }
 
-fn words_of(alloc: Global, letters: &str, script: &str) -> Result<String, OutOfMemory> {
-    match set_up(alloc, script)? {
-        Some(setup) => chain_words(alloc, setup, letters),
-        None => Ok(String::from_str(alloc, "no script")?),
-    }
-}
-
 #[test]
 fn members_in_order(rt: HostRuntime) -> Result<(), Fail> {
     let table: &[(&str, &str)] = &[
@@ -98,7 +91,8 @@ fn members_in_order(rt: HostRuntime) -> Result<(), Fail> {
         r#"{{"variables":[["HOME","/home/u"]],"profiles":[["default",[["sso_session","abc"]]]],{SESSIONS},{FILES}}}"#
     )?;
     for (letters, want) in table {
-        let words = words_of(rt.alloc(), *letters, script.as_str())?;
+        let setup = set_up(rt.alloc(), script.as_str())?;
+        let words = chain_words(rt.alloc(), setup, *letters)?;
         assert_eq!(rt; words.as_str(), *want, "{letters}");
     }
     Ok(())
@@ -116,7 +110,8 @@ fn members_without_a_session(rt: HostRuntime) -> Result<(), Fail> {
         ("DPF", "; =given"),
     ];
     for (letters, want) in table {
-        let words = words_of(rt.alloc(), *letters, script)?;
+        let setup = set_up(rt.alloc(), script)?;
+        let words = chain_words(rt.alloc(), setup, *letters)?;
         assert_eq!(rt; words.as_str(), *want, "{letters}");
     }
     Ok(())
@@ -142,18 +137,12 @@ fn own_words(alloc: Global, setup: Setup, is_late: bool) -> Result<String, OutOf
     call_words(alloc, &chain, &mut world)
 }
 
-fn own_of(alloc: Global, is_late: bool) -> Result<String, OutOfMemory> {
-    match set_up(alloc, "{}")? {
-        Some(setup) => own_words(alloc, setup, is_late),
-        None => Ok(String::from_str(alloc, "no script")?),
-    }
-}
-
 #[test]
 fn sources_of_a_callers_own(rt: HostRuntime) -> Result<(), Fail> {
     let table: &[(bool, &str)] = &[(false, "=own"), (true, "ProviderTimedOut")];
     for (is_late, want) in table {
-        let words = own_of(rt.alloc(), *is_late)?;
+        let setup = set_up(rt.alloc(), "{}")?;
+        let words = own_words(rt.alloc(), setup, *is_late)?;
         assert_eq!(rt; words.as_str(), *want, "{is_late}");
     }
     Ok(())

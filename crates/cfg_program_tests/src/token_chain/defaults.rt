@@ -3,10 +3,10 @@ ghost use Rattle.std.specs.Prelude.{◌≡◌};
 ghost use Rattle.cfg_kept.specs.KeptStates.{kept_key};
 ghost use Rattle.cfg_token_chain.specs.Sessions.{session_key};
 
-use crate::token_chain::setup::{FILES, Handed, SESSIONS, Setup, asked, set_up, token_words};
+use crate::token_chain::setup::{FILES, SESSIONS, Setup, asked, set_up, token_words};
 use cfg_kept::Kept;
 use cfg_token_chain::DefaultTokenChain;
-use cfg_types::OutOfMemory;
+use cfg_types::{OutOfMemory, Outcome};
 use cfg_world::{ScriptDevices, World};
 use std::alloc::Global;
 use std::test::Fail;
@@ -20,10 +20,10 @@ fn call_words(
     requires { kept_key kept.old ≡ session_key chain.now }
     ensures { kept_key kept.new ≡ kept_key kept.old }
 {
-    let handed = Handed {
+    let outcome = Outcome {
         answer: chain.provide_token(kept, world),
     };
-    let answer = token_words(alloc, &handed)?;
+    let answer = token_words(alloc, &outcome)?;
     let questions = asked(alloc, world)?;
     Ok(format!(in alloc; "{answer}{questions}")?)
 }
@@ -56,13 +56,6 @@ fn words_by(alloc: Global, setup: Setup) -> Result<String, OutOfMemory> {
     let builder = DefaultTokenChain::builder(alloc)?;
     let chain = builder.configure(config).build(&mut world)?;
     two_words(alloc, &chain, &mut world)
-}
-
-fn words_of(alloc: Global, script: &str) -> Result<String, OutOfMemory> {
-    match set_up(alloc, script)? {
-        Some(setup) => words_by(alloc, setup),
-        None => Ok(String::from_str(alloc, "no script")?),
-    }
 }
 
 #[test]
@@ -105,7 +98,8 @@ fn paths_of_profiles(rt: HostRuntime) -> Result<(), Fail> {
         let script = format!(in rt.alloc();
             r#"{{"variables":[["HOME","/home/u"],["AWS_REGION","x"]],"profiles":[{profiles}],{SESSIONS},{FILES}}}"#
         )?;
-        let words = words_of(rt.alloc(), script.as_str())?;
+        let setup = set_up(rt.alloc(), script.as_str())?;
+        let words = words_by(rt.alloc(), setup)?;
         let want = format!(in rt.alloc(); "{first}; {second}")?;
         assert_eq!(rt; words.as_str(), want.as_str(), "{profiles}");
     }
@@ -114,10 +108,9 @@ fn paths_of_profiles(rt: HostRuntime) -> Result<(), Fail> {
 
 #[test]
 fn refused_sections(rt: HostRuntime) -> Result<(), Fail> {
-    let words = words_of(
-        rt.alloc(),
-        r#"{"variables":[["AWS_REGION","x"]],"refused":"unreadable"}"#,
-    )?;
+    let script = r#"{"variables":[["AWS_REGION","x"]],"refused":"unreadable"}"#;
+    let setup = set_up(rt.alloc(), script)?;
+    let words = words_by(rt.alloc(), setup)?;
     let refused = r#"InvalidConfiguration(InvalidProfile("unreadable"))"#;
     let want = format!(in rt.alloc(); "{refused}; {refused}")?;
     assert_eq!(rt; words.as_str(), want.as_str());

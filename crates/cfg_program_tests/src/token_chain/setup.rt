@@ -4,8 +4,8 @@ ghost use Rattle.cfg_script.specs.Script.{plain};
 ghost use Rattle.cfg_script.specs.Devices.{lists_of};
 
 use cfg_profile::{ProfileSet, ProfileSource, ProviderConfig, Section};
-use cfg_script::{Script, ScriptProfiles, read_script};
-use cfg_types::{Env, EnvText, OutOfMemory, Request, Token, TokenError};
+use cfg_script::{Script, ScriptError, ScriptProfiles, read_script};
+use cfg_types::{Env, EnvText, OutOfMemory, Outcome, Request, Token, TokenError};
 use cfg_world::{Entry, Question, ScriptDevices, World};
 use std::alloc::{AllocError, Global};
 
@@ -57,28 +57,18 @@ fn set_up_by(alloc: Global, script: Script) -> Result<Setup, OutOfMemory>
     Ok(Setup { config, devices })
 }
 
-/// The configuration of a script, and the devices that it scripts. None for what is no script.
-pub(crate) fn set_up(alloc: Global, script: &str) -> Result<Option<Setup>, OutOfMemory> {
-    match read_script(alloc, script.as_bytes()) {
-        Ok(script) => Ok(Some(set_up_by(alloc, script)?)),
-        Err(_) => Ok(None),
-    }
-}
-
-/// An answer that is let go by one call.
-pub(crate) struct Handed {
-    pub(crate) answer: Result<Token, TokenError>,
-}
-
-impl Drop for Handed {
-    fn drop(self) {
-        let Handed { answer: _ } = self;
-    }
+/// The configuration of a script, and the devices that it scripts.
+pub(crate) fn set_up(alloc: Global, script: &str) -> Result<Setup, ScriptError> {
+    let script = read_script(alloc, script.as_bytes())?;
+    Ok(set_up_by(alloc, script)?)
 }
 
 /// A token's text, or why there is none.
-pub(crate) fn token_words(alloc: Global, handed: &Handed) -> Result<String, AllocError> {
-    match &handed.answer {
+pub(crate) fn token_words(
+    alloc: Global,
+    outcome: &Outcome<Token, TokenError>,
+) -> Result<String, AllocError> {
+    match &outcome.answer {
         Ok(token) => {
             let text = token.token();
             format!(in alloc; "={text}")

@@ -1,5 +1,6 @@
 //! Calls on one kept state, by their places and roles.
-use crate::imds_credentials::setup::words_of;
+use crate::imds_credentials::setup::words_over;
+use cfg_script::read_script;
 use std::test::Fail;
 
 #[test]
@@ -25,9 +26,10 @@ Credentials { provider_name: \"IMDSv2\", access_key_id: \"K\", secret_access_key
 ",
         ),
     ];
-    for (calls, script, want) in table {
-        let words = words_of(rt.alloc(), script, calls)?;
-        assert_eq!(rt; words.as_str(), *want, "{script}");
+    for (calls, text, want) in table {
+        let script = read_script(rt.alloc(), text.as_bytes())?;
+        let words = words_over(rt.alloc(), script, calls)?;
+        assert_eq!(rt; words.as_str(), *want, "{text}");
     }
     Ok(())
 }

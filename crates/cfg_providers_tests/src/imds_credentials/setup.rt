@@ -3,24 +3,14 @@ ghost use Rattle.cfg_world.specs.Script.{AllFit};
 ghost use Rattle.cfg_script.specs.Script.{plain};
 ghost use Rattle.cfg_script.specs.Devices.{lists_of};
 
+use crate::outcome::{CredentialsOutcome, answer_words};
 use cfg_imds_credentials::ImdsCredentialsProvider;
 use cfg_kept::{Kept, Place};
 use cfg_profile::ProviderConfig;
-use cfg_script::{Script, read_script};
-use cfg_types::{Credentials, CredentialsError, Env, EnvText, OutOfMemory, Text};
+use cfg_script::Script;
+use cfg_types::{Env, EnvText, OutOfMemory, Outcome, Text};
 use cfg_world::{DeviceLists, ScriptDevices, World};
 use std::alloc::Global;
-
-/// An answer that is let go by one call.
-struct Outcome {
-    answer: Result<Credentials, CredentialsError>,
-}
-
-impl Drop for Outcome {
-    fn drop(self) {
-        let Outcome { answer: _ } = self;
-    }
-}
 
 fn switched_off(alloc: Global) -> Result<ProviderConfig, OutOfMemory> {
     let mut variables = Vec::new(alloc);
@@ -36,7 +26,7 @@ fn outcome_of(
     call: &str,
     kept: &mut Kept,
     world: &mut World<ScriptDevices>,
-) -> Result<Outcome, OutOfMemory> {
+) -> Result<CredentialsOutcome, OutOfMemory> {
     let config = ProviderConfig::empty(alloc)?;
     let builder = ImdsCredentialsProvider::builder(alloc)?.configure(&config)?;
     let provider = match call {
@@ -58,16 +48,9 @@ fn call_words(
 ) -> Result<String, OutOfMemory> {
     world.clear_journal();
     let outcome = outcome_of(alloc, call, kept, world)?;
+    let answer = answer_words(alloc, &outcome)?;
     let asked = world.journal().len();
-    match &outcome.answer {
-        Ok(keys) => {
-            let secret = keys.secret_access_key();
-            let token = keys.session_token();
-            let features = keys.features();
-            Ok(format!(in alloc; "{keys:?} {secret} {token:?} {features:?} {asked}\n")?)
-        }
-        Err(error) => Ok(format!(in alloc; "{error:?} {asked}\n")?),
-    }
+    Ok(format!(in alloc; "{answer} {asked}\n")?)
 }
 
 fn words_by(alloc: Global, lists: DeviceLists, calls: &[&str]) -> Result<String, OutOfMemory>
@@ -84,16 +67,13 @@ fn words_by(alloc: Global, lists: DeviceLists, calls: &[&str]) -> Result<String,
     Ok(words)
 }
 
-fn words_over(alloc: Global, script: Script, calls: &[&str]) -> Result<String, OutOfMemory>
+/// What these calls answer over a script, and how many questions each asks, a line each.
+pub(crate) fn words_over(
+    alloc: Global,
+    script: Script,
+    calls: &[&str],
+) -> Result<String, OutOfMemory>
     requires { AllFit (lists_of (plain script)) }
 {
     words_by(alloc, script.devices, calls)
-}
-
-/// What these calls answer over a script, and how many questions each asks, a line each.
-pub(crate) fn words_of(alloc: Global, script: &str, calls: &[&str]) -> Result<String, OutOfMemory> {
-    match read_script(alloc, script.as_bytes()) {
-        Ok(script) => words_over(alloc, script, calls),
-        Err(_) => Ok(String::from_str(alloc, "no script")?),
-    }
 }

@@ -6,34 +6,24 @@ ghost use Rattle.cfg_script.specs.Script.{plain};
 ghost use Rattle.cfg_token.specs.declared.token_key.TokenKey.TheVariants.{Login};
 ghost use Rattle.cfg_world.specs.Script.{AllFit};
 
+use crate::outcome::{CredentialsOutcome, answer_words};
 use cfg_kept::Kept;
 use cfg_login::steps::follow_login;
 use cfg_login::{AskedBy, LoginCredentialsProvider};
 use cfg_profile::ProviderConfig;
 use cfg_script::{Script, read_script};
 use cfg_token::TokenKey;
-use cfg_types::{Credentials, CredentialsError, Env, OutOfMemory, Text, TryCopy};
+use cfg_types::{CredentialsError, Env, OutOfMemory, Outcome, Text, TryCopy};
 use cfg_world::{DeviceLists, ScriptDevices, World};
 use std::alloc::Global;
 use std::test::Fail;
-
-// An answer that is let go by one call.
-struct Outcome {
-    answer: Result<Credentials, CredentialsError>,
-}
-
-impl Drop for Outcome {
-    fn drop(self) {
-        let Outcome { answer: _ } = self;
-    }
-}
 
 // A caller's own provider.
 fn by_caller(
     alloc: Global,
     config: &ProviderConfig,
     world: &mut World<ScriptDevices>,
-) -> Result<Outcome, OutOfMemory> {
+) -> Result<CredentialsOutcome, OutOfMemory> {
     let builder = LoginCredentialsProvider::builder(alloc, "abc")?.configure(config)?;
     let provider = builder.build()?;
     let key = match provider.token_key() {
@@ -52,7 +42,7 @@ fn followed(
     session: &Text,
     kept: &mut Kept,
     world: &mut World<ScriptDevices>,
-) -> Outcome
+) -> CredentialsOutcome
     requires { kept_key kept.old ≡ Some (Login session.now) }
 {
     let answer = match follow_login(alloc, config, session, AskedBy::Profile, kept, world) {
@@ -67,25 +57,13 @@ fn by_profile(
     alloc: Global,
     config: &ProviderConfig,
     world: &mut World<ScriptDevices>,
-) -> Result<Outcome, OutOfMemory> {
+) -> Result<CredentialsOutcome, OutOfMemory> {
     let session = Text::of(alloc, "abc")?;
     let key = TokenKey::Login {
         session: session.copy(alloc)?,
     };
     let mut kept = Kept::new(alloc, Some(key));
     Ok(followed(alloc, config, &session, &mut kept, world))
-}
-
-fn answer_words(alloc: Global, outcome: &Outcome) -> Result<String, OutOfMemory> {
-    match &outcome.answer {
-        Ok(keys) => {
-            let secret = keys.secret_access_key();
-            let token = keys.session_token();
-            let features = keys.features();
-            Ok(format!(in alloc; "{keys:?} {secret} {token:?} {features:?}")?)
-        }
-        Err(error) => Ok(format!(in alloc; "{error:?}")?),
-    }
 }
 
 fn words_by(
@@ -115,13 +93,6 @@ fn words_over(alloc: Global, by: AskedBy, script: Script) -> Result<String, OutO
     words_by(alloc, by, &config, script.devices)
 }
 
-fn words_of(alloc: Global, by: AskedBy, script: &str) -> Result<String, OutOfMemory> {
-    match read_script(alloc, script.as_bytes()) {
-        Ok(script) => words_over(alloc, by, script),
-        Err(_) => Ok(String::from_str(alloc, "no script")?),
-    }
-}
-
 // A refresh that is due.
 const REFRESH: &str =
     r#"{"variables":[["AWS_LOGIN_CACHE_DIRECTORY","/c"]],"clock":[1000],"files":[["/c/ba7816bf8f01cfea414140de5dae2223b00361a396177a9cb410ff61f20015ad.json","{\"accessToken\":{\"accessKeyId\":\"AK\",\"secretAccessKey\":\"SK\",\"sessionToken\":\"ST\",\"accountId\":\"012345678901\",\"expiresAt\":\"1970-01-01T00:15:00Z\"},\"refreshToken\":\"rt\",\"clientId\":\"ci\",\"dpopKey\":\"dk\"}"]],"replies":{"sign-in":[{"id":"AK2","secret":"SK2","token":"ST2","refresh":"rt2","expires_in":900}]}}"#;
@@ -145,9 +116,10 @@ fn calls(rt: HostRuntime) -> Result<(), Fail> {
             "Unhandled(LoginToken(NoHomeDirectory)) 1",
         ),
     ];
-    for (by, script, want) in table {
-        let words = words_of(rt.alloc(), *by, script)?;
-        assert_eq!(rt; words.as_str(), *want, "{by:?} {script}");
+    for (by, text, want) in table {
+        let script = read_script(rt.alloc(), text.as_bytes())?;
+        let words = words_over(rt.alloc(), *by, script)?;
+        assert_eq!(rt; words.as_str(), *want, "{by:?} {text}");
     }
     Ok(())
 }

@@ -3,42 +3,33 @@ ghost use Rattle.cfg_script.specs.Devices.{lists_of};
 ghost use Rattle.cfg_script.specs.Script.{plain};
 ghost use Rattle.cfg_world.specs.Script.{AllFit};
 
+use crate::outcome::{CredentialsOutcome, answer_words};
 use cfg_profile::{ProviderConfig, RoleArn, call_settings};
 use cfg_providers::{
     CredentialProcessProvider, EcsCredentialsProvider, EnvironmentVariableCredentialsProvider,
     StaticConfiguration, WebIdentityTokenCredentialsProvider, assume_roles,
 };
 use cfg_script::{Script, read_script};
-use cfg_types::{
-    AccountId, Credentials, CredentialsBuilder, CredentialsError, Env, OutOfMemory, Text, TryCopy,
-};
+use cfg_types::{AccountId, CredentialsBuilder, Env, OutOfMemory, Outcome, Text, TryCopy};
 use cfg_world::{DeviceLists, ScriptDevices, World};
 use std::alloc::Global;
 use std::test::Fail;
-
-// An answer that is let go by one call.
-struct Outcome {
-    answer: Result<Credentials, CredentialsError>,
-}
-
-impl Drop for Outcome {
-    fn drop(self) {
-        let Outcome { answer: _ } = self;
-    }
-}
 
 fn environment(
     alloc: Global,
     env: &Env,
     world: &mut World<ScriptDevices>,
-) -> Result<Outcome, OutOfMemory> {
+) -> Result<CredentialsOutcome, OutOfMemory> {
     let env = env.copy(alloc)?;
     let provider = EnvironmentVariableCredentialsProvider::new(alloc, env).copy(alloc)?;
     let answer = provider.provide_credentials(world);
     Ok(Outcome { answer })
 }
 
-fn process(alloc: Global, world: &mut World<ScriptDevices>) -> Result<Outcome, OutOfMemory> {
+fn process(
+    alloc: Global,
+    world: &mut World<ScriptDevices>,
+) -> Result<CredentialsOutcome, OutOfMemory> {
     let account = AccountId::new(alloc, "7")?;
     let provider = CredentialProcessProvider::new(alloc, "/opt/creds --user helen")?;
     let answer = provider.with_account_id(account).provide_credentials(world);
@@ -49,7 +40,7 @@ fn container(
     alloc: Global,
     config: &ProviderConfig,
     world: &mut World<ScriptDevices>,
-) -> Result<Outcome, OutOfMemory> {
+) -> Result<CredentialsOutcome, OutOfMemory> {
     let builder = EcsCredentialsProvider::builder(alloc)?
         .configure(config)?
         .dns(true);
@@ -63,7 +54,7 @@ fn named_container(
     alloc: Global,
     config: &ProviderConfig,
     world: &mut World<ScriptDevices>,
-) -> Result<Outcome, OutOfMemory> {
+) -> Result<CredentialsOutcome, OutOfMemory> {
     let builder = EcsCredentialsProvider::builder(alloc)?.configure(config)?;
     let provider = builder.dns(true).build()?;
     let named = provider.container_uri()?;
@@ -77,7 +68,7 @@ fn web_identity(
     alloc: Global,
     config: &ProviderConfig,
     world: &mut World<ScriptDevices>,
-) -> Result<Outcome, OutOfMemory> {
+) -> Result<CredentialsOutcome, OutOfMemory> {
     let builder = WebIdentityTokenCredentialsProvider::builder(alloc)?.configure(config)?;
     let provider = builder.build()?;
     let answer = provider.provide_credentials(world);
@@ -87,7 +78,7 @@ fn web_identity(
 fn limited_web_identity(
     alloc: Global,
     world: &mut World<ScriptDevices>,
-) -> Result<Outcome, OutOfMemory> {
+) -> Result<CredentialsOutcome, OutOfMemory> {
     let given = StaticConfiguration {
         web_identity_token_file: Text::of(alloc, "/f")?,
         role_arn: Text::of(alloc, "b")?,
@@ -106,7 +97,7 @@ fn role(
     alloc: Global,
     config: &ProviderConfig,
     world: &mut World<ScriptDevices>,
-) -> Result<Outcome, OutOfMemory> {
+) -> Result<CredentialsOutcome, OutOfMemory> {
     let base = CredentialsBuilder::new(alloc, "K", "S", "Fixed")?.build()?;
     let mut roles = Vec::new(alloc);
     roles.push(RoleArn {
@@ -124,7 +115,7 @@ fn outcome_of(
     provider: &str,
     env: Env,
     world: &mut World<ScriptDevices>,
-) -> Result<Outcome, OutOfMemory> {
+) -> Result<CredentialsOutcome, OutOfMemory> {
     let config = ProviderConfig::empty(alloc)?
         .with_env(env)
         .with_sleep_impl(true);
@@ -136,18 +127,6 @@ fn outcome_of(
         "web identity" => web_identity(alloc, &config, world),
         "role" => role(alloc, &config, world),
         _ => limited_web_identity(alloc, world),
-    }
-}
-
-fn answer_words(alloc: Global, outcome: &Outcome) -> Result<String, OutOfMemory> {
-    match &outcome.answer {
-        Ok(keys) => {
-            let secret = keys.secret_access_key();
-            let token = keys.session_token();
-            let features = keys.features();
-            Ok(format!(in alloc; "{keys:?} {secret} {token:?} {features:?}")?)
-        }
-        Err(error) => Ok(format!(in alloc; "{error:?}")?),
     }
 }
 
@@ -176,13 +155,6 @@ fn words_over(alloc: Global, provider: &str, script: Script) -> Result<String, O
 {
     let env = Env::new(alloc, script.variables)?;
     words_by(alloc, provider, env, script.devices)
-}
-
-fn words_of(alloc: Global, provider: &str, script: &str) -> Result<String, OutOfMemory> {
-    match read_script(alloc, script.as_bytes()) {
-        Ok(script) => words_over(alloc, provider, script),
-        Err(_) => Ok(String::from_str(alloc, "no script")?),
-    }
 }
 
 #[test]
@@ -229,9 +201,10 @@ fn providers(rt: HostRuntime) -> Result<(), Fail> {
             r#"Credentials { provider_name: "AssumeRoleProvider", access_key_id: "KA", secret_access_key: "** redacted **", expires_after: 2000 s 0 ns, account_id: "e" } SA Some("TA") [] Now Send(AssumeRole(AssumeRole { signer: Credentials { provider_name: "Fixed", access_key_id: "K", secret_access_key: "** redacted **", expires_after: never }, role_arn: "r", session_name: "assume-role-from-profile-5000", external_id: None, policy: None, policy_arns: None, duration_seconds: None, tags: None, settings: CallSettings { region: None, use_fips: None, use_dual_stack: None, max_attempts: 3, timeouts: Timeouts { connect_ms: None, read_ms: None, operation_ms: None, attempt_ms: None } } }))"#,
         ),
     ];
-    for (provider, script, want) in table {
-        let words = words_of(rt.alloc(), provider, script)?;
-        assert_eq!(rt; words.as_str(), *want, "{script}");
+    for (provider, text, want) in table {
+        let script = read_script(rt.alloc(), text.as_bytes())?;
+        let words = words_over(rt.alloc(), provider, script)?;
+        assert_eq!(rt; words.as_str(), *want, "{text}");
     }
     Ok(())
 }

@@ -4,39 +4,16 @@ ghost use Rattle.cfg_script.specs.Devices.{lists_of};
 ghost use Rattle.cfg_script.specs.Script.{plain};
 ghost use Rattle.cfg_world.specs.Script.{AllFit};
 
+use crate::outcome::answer_words;
 use cfg_kept::Kept;
 use cfg_profile::ProviderConfig;
 use cfg_script::{Script, read_script};
 use cfg_sso::sso::credentials::Builder;
 use cfg_sso::{SsoCredentialsProvider, SsoTokenProvider};
-use cfg_types::{
-    Credentials, CredentialsError, Env, OutOfMemory, Region, Text, Token, TokenError, TryCopy,
-};
+use cfg_types::{Env, OutOfMemory, Outcome, Region, Text, TryCopy};
 use cfg_world::{DeviceLists, ScriptDevices, World};
 use std::alloc::Global;
 use std::test::Fail;
-
-// An answer that is let go by one call.
-struct Outcome {
-    answer: Result<Credentials, CredentialsError>,
-}
-
-impl Drop for Outcome {
-    fn drop(self) {
-        let Outcome { answer: _ } = self;
-    }
-}
-
-// A bearer token that is let go by one call.
-struct Handed {
-    answer: Result<Token, TokenError>,
-}
-
-impl Drop for Handed {
-    fn drop(self) {
-        let Handed { answer: _ } = self;
-    }
-}
 
 // For the role `r` of the account `1`, by the start URL `abc` and, where it is wanted, by a session.
 fn builder_of(
@@ -73,15 +50,7 @@ fn credentials(
     let outcome = Outcome {
         answer: provider.provide_credentials(&mut kept, world),
     };
-    match &outcome.answer {
-        Ok(keys) => {
-            let secret = keys.secret_access_key();
-            let token = keys.session_token();
-            let features = keys.features();
-            Ok(format!(in alloc; "{keys:?} {secret} {token:?} {features:?}")?)
-        }
-        Err(error) => Ok(format!(in alloc; "{error:?}")?),
-    }
+    answer_words(alloc, &outcome)
 }
 
 fn bearer_token(
@@ -101,10 +70,10 @@ fn bearer_token(
         None => None,
     };
     let mut kept = Kept::new(alloc, key);
-    let handed = Handed {
+    let outcome = Outcome {
         answer: provider.provide_token(&mut kept, world),
     };
-    match &handed.answer {
+    match &outcome.answer {
         Ok(token) => {
             let text = token.token();
             Ok(format!(in alloc; "{text} {token:?}")?)
@@ -138,13 +107,6 @@ fn words_over(alloc: Global, kind: &str, script: Script) -> Result<String, OutOf
     let env = Env::new(alloc, script.variables)?;
     let config = ProviderConfig::empty(alloc)?.with_env(env);
     words_by(alloc, kind, &config, script.devices)
-}
-
-fn words_of(alloc: Global, kind: &str, script: &str) -> Result<String, OutOfMemory> {
-    match read_script(alloc, script.as_bytes()) {
-        Ok(script) => words_over(alloc, kind, script),
-        Err(_) => Ok(String::from_str(alloc, "no script")?),
-    }
 }
 
 // Whether a builder is complete: with all four settings, and without the start URL.
@@ -182,8 +144,13 @@ fn calls(rt: HostRuntime) -> Result<(), Fail> {
         ),
         (
             "start URL",
-            r#"{"variables":[["HOME","/home/u"]],"files":[["/home/u/.aws/sso/cache/a9993e364706816aba3e25717850c26c9cd0d89d.json","{\"accessToken\":\"t\",\"expiresAt\":\"0001-01-01T00:00:00Z\"}"]],"replies":{"role-credentials":[{"id":"R1","secret":"S1","expires_ms":9223372036854775807}]}}"#,
-            r#"Credentials { provider_name: "SSO", access_key_id: "R1", secret_access_key: "** redacted **", expires_after: 9223372036854775 s 807000000 ns, account_id: "1" } S1 None [CredentialsSso] 2"#,
+            r#"{"variables":[["HOME","/home/u"]],"files":[["/home/u/.aws/sso/cache/a9993e364706816aba3e25717850c26c9cd0d89d.json","{\"accessToken\":\"t\",\"expiresAt\":\"1970-01-01T00:00:01Z\"}"]],"replies":{"role-credentials":[{"id":"R1","secret":"S1","expires_ms":9223372036854775807}]}}"#,
+            r#"Credentials { provider_name: "SSO", access_key_id: "R1", secret_access_key: "** redacted **", expires_after: 9223372036854775 s 807000000 ns, account_id: "1" } S1 None [CredentialsSso] 3"#,
+        ),
+        (
+            "start URL",
+            r#"{"variables":[["HOME","/home/u"]],"files":[["/home/u/.aws/sso/cache/a9993e364706816aba3e25717850c26c9cd0d89d.json","{\"accessToken\":\"t\",\"expiresAt\":\"1970-01-01T00:00:00Z\"}"]]}"#,
+            "ProviderError(SsoToken(ExpiredToken)) 2",
         ),
         (
             "bearer token",
@@ -191,9 +158,10 @@ fn calls(rt: HostRuntime) -> Result<(), Fail> {
             r#"t2 Token { token: "** redacted **", expires_after: 4600 s 0 ns } 5"#,
         ),
     ];
-    for (kind, script, want) in table {
-        let words = words_of(rt.alloc(), kind, script)?;
-        assert_eq!(rt; words.as_str(), *want, "{script}");
+    for (kind, text, want) in table {
+        let script = read_script(rt.alloc(), text.as_bytes())?;
+        let words = words_over(rt.alloc(), kind, script)?;
+        assert_eq!(rt; words.as_str(), *want, "{text}");
     }
     Ok(())
 }

@@ -150,6 +150,7 @@ impl DefaultRegionChain {
     {
         match self.follow(world) {
             Ok(region) => Ok(region),
+            // A world leaves no question open: a call over it stops for want of memory alone.
             Err(_) => Err(OutOfMemory),
         }
     }

@@ -2,6 +2,7 @@
 ghost use Rattle.std.specs.Prelude.{◌≡◌, IfOk, OnErr, Some};
 ghost use Rattle.cfg_world.specs.Follows.{Follows};
 ghost use Rattle.cfg_imds.specs.Clients.{client_rules};
+ghost use Rattle.cfg_imds.specs.Left.{RegionLeftBy};
 ghost use Rattle.cfg_imds.specs.Settles.{FollowsKept};
 ghost use Rattle.cfg_imds.specs.Setups.{IsAskedClient, given_client, asked_client};
 ghost use Rattle.cfg_imds.specs.Tokens.{bare_kept};
@@ -53,16 +54,18 @@ impl ImdsRegionProvider {
     ///
     /// # Errors
     ///
-    /// `Stop::OutOfMemory` where memory runs out, `Stop::Open` where an answer is not known yet.
+    /// `Stop::OutOfMemory` where memory runs out, `Stop::Open` where an answer is not known yet. What is kept is then
+    /// as it was, or as a settle or a get that came to its end left it.
     #[tactic(auto, using(cfg_world::proofs::Inquiries::asking_steps))]
     pub fn follow<A: Asking>(
         &self,
         kept: &mut Option<MetadataToken>,
         asking: &mut A,
     ) -> Result<Option<Region>, Stop>
-        ensures { FollowsKept ⟦<A as Asking>⟧
+        ensures follows { FollowsKept ⟦<A as Asking>⟧
             (located_by (provider_of repeated self.now) (bare_kept kept.old))
             asking.old asking.new (bare_kept kept.new) result }
+        ensures left { OnErr result (RegionLeftBy ⟦<A as Asking>⟧ (provider_of repeated self.now).client asking.old asking.new kept.old kept.new) }
     {
         match &self.client {
             AskedClient::Given(client) => {

@@ -5,7 +5,7 @@ ghost use Rattle.cfg_script.specs.Devices.{lists_of};
 
 use crate::imds::calls::{get_words, world};
 use cfg_exchange::{ClassifyRetry, Reading};
-use cfg_imds::{Builder, Client, endpoint_mode};
+use cfg_imds::{Builder, Client};
 use cfg_script::{Script, read_script};
 use cfg_types::imds::{BuildError, EndpointMode};
 use cfg_types::{HttpReply, OutOfMemory};
@@ -94,7 +94,7 @@ impl Drop for Built {
 
 // Whether a text is taken as an endpoint, and the mode that it names.
 fn endpoint_words(alloc: Global, text: &str) -> Result<String, OutOfMemory> {
-    let mode = endpoint_mode(alloc, text);
+    let mode = EndpointMode::from_text(alloc, text);
     let built = Built {
         builder: Client::builder(alloc)?.endpoint(text),
     };

@@ -143,10 +143,8 @@ fn region_of(
     }
 }
 
-fn words_of(alloc: Global, call: &str, script: &str) -> Result<String, OutOfMemory> {
-    let Some(Setup { config, mut world }) = set_up(alloc, script)? else {
-        return Ok(String::from_str(alloc, "no script")?);
-    };
+fn words_of(alloc: Global, call: &str, setup: Setup) -> Result<String, OutOfMemory> {
+    let Setup { config, mut world } = setup;
     let region = region_of(alloc, call, &config, &mut world)?;
     let asked = world.journal().len();
     Ok(format!(in alloc; "{region:?} {asked}")?)
@@ -179,7 +177,8 @@ fn regions(rt: HostRuntime) -> Result<(), Fail> {
         ("of variables and profiles", PROFILES, r#"Some("b") 0"#),
     ];
     for (call, script, want) in table {
-        let words = words_of(rt.alloc(), call, script)?;
+        let setup = set_up(rt.alloc(), script)?;
+        let words = words_of(rt.alloc(), call, setup)?;
         assert_eq!(rt; words.as_str(), *want, "{call}");
     }
     Ok(())

@@ -4,7 +4,7 @@ ghost use Rattle.cfg_script.specs.Script.{plain};
 ghost use Rattle.cfg_script.specs.Devices.{lists_of};
 
 use cfg_profile::{ProfileSet, ProfileSource, ProviderConfig, Section};
-use cfg_script::{Script, ScriptProfiles, read_script};
+use cfg_script::{Script, ScriptError, ScriptProfiles, read_script};
 use cfg_types::{Env, OutOfMemory};
 use cfg_world::{DeviceLists, ScriptDevices, World};
 use std::alloc::Global;
@@ -54,10 +54,8 @@ fn set_up_by(alloc: Global, script: Script) -> Result<Setup, OutOfMemory>
     set_up_over(alloc, config, script.devices)
 }
 
-/// The configuration of a script, and a world over its devices. None for what is no script.
-pub(crate) fn set_up(alloc: Global, script: &str) -> Result<Option<Setup>, OutOfMemory> {
-    match read_script(alloc, script.as_bytes()) {
-        Ok(script) => Ok(Some(set_up_by(alloc, script)?)),
-        Err(_) => Ok(None),
-    }
+/// The configuration of a script, and a world over its devices.
+pub(crate) fn set_up(alloc: Global, script: &str) -> Result<Setup, ScriptError> {
+    let script = read_script(alloc, script.as_bytes())?;
+    Ok(set_up_by(alloc, script)?)
 }

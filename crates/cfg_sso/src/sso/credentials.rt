@@ -316,9 +316,9 @@ impl SsoCredentialsProvider {
     /// Asks for the role's credentials with one token. Where a session is named it is that of one
     /// section of the keeper's token, whose key has to be [`Self::token_key`]; the value that was found
     /// is added to the keeper's list, and what comes of the section is kept in its place. Else it is the
-    /// token in the file that the start URL names, below `HOME`, and nothing is found or kept. That
-    /// token's expiry is not looked at. Then one `GetRoleCredentials` is sent, in the region that was
-    /// set.
+    /// token in the file that the start URL names, below `HOME`, and nothing is found or kept; the clock is
+    /// read behind the file, and a token that does not end after this reading has expired. Then one
+    /// `GetRoleCredentials` is sent, in the region that was set.
     ///
     /// The credentials are named `SSO`, have the account that was set, and expire when the reply says,
     /// to the millisecond. They have the reply's session token, where it has one, and the feature
@@ -329,7 +329,8 @@ impl SsoCredentialsProvider {
     ///
     /// - `ProviderError(SsoToken)` around the section's error, where it gives no token, as
     ///   [`SsoTokenProvider::provide_token`](crate::SsoTokenProvider::provide_token) says. Nothing is sent
-    ///   then, and no token is kept.
+    ///   then, and no token is kept. Around `ExpiredToken`, where the token of the start URL's file has
+    ///   expired; nothing is sent then either.
     /// - `ProviderError(SsoFile)` around the file's error, where there is no session and no token:
     ///   `NoHomeDirectory` where `HOME` is not set to a text, `IoError` where the file could not be
     ///   read, or what is wrong with what it holds (`JsonError`, `Other`, `MissingField`, `InvalidField`).
@@ -355,6 +356,7 @@ impl SsoCredentialsProvider {
     {
         match self.follow(keeper, world) {
             Ok(outcome) => outcome,
+            // A world leaves no question open: a call over it stops for want of memory alone.
             Err(_) => Err(CredentialsError::OutOfMemory),
         }
     }

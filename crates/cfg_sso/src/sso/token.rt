@@ -1,5 +1,5 @@
 //! Bearer tokens of IAM Identity Center.
-ghost use Rattle.std.specs.Prelude.{◌≡◌, IfOk, IfSome, Some, None, true, false};
+ghost use Rattle.std.specs.Prelude.{◌≡◌, IfOk, IfSome, OnErr, Some, None, true, false};
 ghost use Rattle.std.specs.Option.{option_copied};
 ghost use Rattle.cfg_base.specs.Text.{characters};
 ghost use Rattle.cfg_token.specs.SsoTokens.{is_sso};
@@ -138,6 +138,7 @@ impl Builder {
         requires { is_named self ≡ true }
         ensures configuration { IfOk result (λ p. p.configuration ≡ self.configuration) }
         ensures key { IfOk result (λ p. IsKeyOf self p.key) }
+        ensures always { OnErr result ⊥ }
     {
         let Builder {
             alloc,
@@ -261,6 +262,7 @@ impl SsoTokenProvider {
     {
         match self.follow(keeper, world) {
             Ok(outcome) => outcome,
+            // A world leaves no question open: a call over it stops for want of memory alone.
             Err(_) => Err(TokenError::OutOfMemory),
         }
     }

@@ -12,18 +12,18 @@ ghost use Rattle.cfg_token_chain.specs.ChainSetups.{configuration_alone, setup_o
 ghost use Rattle.cfg_token_chain.specs.Provides.{ProvidesToken, InterruptedToken};
 ghost use Rattle.cfg_token_chain.specs.ProfileTokens.{default_token, DefaultTokenCause};
 ghost use Rattle.cfg_token_chain.specs.Sessions.{session_key};
-ghost use Rattle.cfg_token_chain.specs.Told.{none_loaded_by, chain_answer as told_by_chain, told_of_profile};
+ghost use Rattle.cfg_token_chain.specs.Told.{chain_answer as told_by_chain, told_of_profile};
 
 use crate::profile::token::ProfileFileTokenProvider;
 use crate::session::token_key_of;
 use cfg_kept::{Keeper, Kept};
+use cfg_meta::ChainError;
+use cfg_meta::steps::{Turn, note_attempt, turn_of};
 use cfg_profile::ProviderConfig;
 use cfg_region::RegionSource;
 use cfg_region::steps::{with_name, with_region_from};
 use cfg_token::TokenKey;
-use cfg_types::{
-    OutOfMemory, ProviderAttempt, ProviderChainError, Seq, Text, Token, TokenCause, TokenError,
-};
+use cfg_types::{OutOfMemory, ProviderChainError, Seq, Token, TokenError};
 use cfg_world::{Asking, Devices, Stop, World};
 use std::alloc::Global;
 use std::marker::Model;
@@ -156,6 +156,7 @@ impl DefaultTokenChain {
         kept.clear_found();
         match self.follow(kept, world) {
             Ok(outcome) => outcome,
+            // A world leaves no question open: a call over it stops for want of memory alone.
             Err(_) => Err(TokenError::OutOfMemory),
         }
     }
@@ -169,24 +170,15 @@ fn told(
 ) -> Result<Result<Token, TokenError>, OutOfMemory>
     ensures { IfOk result (λ r. told_by_chain given ≡ r) }
 {
-    match given {
-        Err(TokenError::TokenNotLoaded(cause)) => {
-            let error = TokenError::TokenNotLoaded(cause);
-            Ok(Err(none_loaded(alloc, error)?))
+    match turn_of(given) {
+        Turn::PassedOver(error) => {
+            let mut attempts = Vec::new(alloc);
+            note_attempt(alloc, &mut attempts, "Profile", error)?;
+            let attempts = ProviderChainError::new(Seq::of(attempts));
+            Ok(Err(TokenError::none_loaded(attempts)))
         }
-        answer => Ok(answer),
+        Turn::Answers(answer) => Ok(answer),
     }
-}
-
-// The error where the profile was not loaded, for this reason.
-fn none_loaded(alloc: Global, error: TokenError) -> Result<TokenError, OutOfMemory>
-    ensures { IfOk result (λ e. e ≡ none_loaded_by error) }
-{
-    let name = Text::of(alloc, "Profile")?;
-    let mut attempts = Vec::new(alloc);
-    attempts.push(ProviderAttempt::new(name, error))?;
-    let attempts = ProviderChainError::new(Seq::of(attempts));
-    Ok(TokenError::TokenNotLoaded(TokenCause::Chain(attempts)))
 }
 
 /// Sets up the default chain. Contracts see its configuration, the name of its profile where one was given,

@@ -11,7 +11,7 @@ ghost use Rattle.cfg_token_chain.specs.Chains.{members_of};
 ghost use Rattle.cfg_token_chain.specs.ChainSetups.{configuration_alone};
 ghost use Rattle.cfg_token_chain.specs.Members.{asked_of, name_in, IsTokenTree, needed_in};
 ghost use Rattle.cfg_token_chain.specs.Provides.{ProvidesTokens, InterruptedTokens};
-ghost use Rattle.cfg_token_chain.specs.TokenAnswers.{token_rules};
+ghost use Rattle.cfg_meta.specs.TokenAnswers.{token_rules};
 
 use crate::custom::CustomToken;
 use crate::default_provider::token::DefaultTokenChain;

@@ -1,5 +1,5 @@
 //! The token of the selected profile.
-ghost use Rattle.std.specs.Prelude.{◌≡◌, IfOk, Some, true, false, codes};
+ghost use Rattle.std.specs.Prelude.{◌≡◌, IfOk, true, false};
 ghost use Rattle.std.specs.Option.{option_copied};
 ghost use Rattle.cfg_kept.specs.Holds.{HoldsFollows};
 ghost use Rattle.cfg_kept.specs.KeptStates.{kept_holdings, kept_key, states_of};
@@ -12,8 +12,8 @@ ghost use Rattle.cfg_token_chain.specs.Sessions.{session_key};
 
 use crate::session::{session_of, token_key_of};
 use cfg_kept::{Keeper, Kept};
-use cfg_profile::{ProfileSource, ProviderConfig};
-use cfg_region::steps::ProfileBuilder;
+use cfg_profile::ProviderConfig;
+use cfg_region::steps::{FromProfile, ProfileBuilder};
 use cfg_sso::steps::follow_bearer;
 use cfg_token::TokenKey;
 use cfg_types::{OutOfMemory, Token, TokenError, copy_option};
@@ -60,7 +60,7 @@ impl ProfileFileTokenProvider {
     pub fn builder(alloc: Global) -> Result<Builder, OutOfMemory>
         ensures { IfOk result (λ b. b ≡ no_profile_set) }
     {
-        Builder::new(alloc)
+        ProfileBuilder::new(alloc)
     }
 
     // A provider over this configuration. Whose token it needs is read from the selected profile now.
@@ -163,76 +163,23 @@ impl ProfileFileTokenProvider {
         kept.clear_found();
         match self.follow(kept, world) {
             Ok(outcome) => outcome,
+            // A world leaves no question open: a call over it stops for want of memory alone.
             Err(_) => Err(TokenError::OutOfMemory),
         }
     }
 }
 
-/// Sets up a provider of a profile's token. Contracts see its configuration, and the name and the sections
-/// that are in place of the configuration's. A setter changes its field alone. A call that runs out of
-/// memory gives the builder up.
-#[derive(Drop)]
-pub struct Builder {
-    alloc: Global,
-    settings: ProfileBuilder,
-}
+impl FromProfile for ProfileFileTokenProvider {
+    ghost configuration = { λ p. p };
 
-impl Model for Builder {
-    ghost use Rattle.cfg_region.specs.ProfileSetups.{ProfileSetup, profile_setup_code};
-
-    ghost Value = { ProfileSetup };
-
-    ghost coded = { profile_setup_code };
-
-    ghost view = { λ b. b.settings };
-}
-
-impl Builder {
-    ghost use Rattle.cfg_region.specs.ProfileSetups.{no_profile_set, profile_configured};
-
-    /// A builder with no variables and no sections. `OutOfMemory` where memory runs out.
-    pub fn new(alloc: Global) -> Result<Builder, OutOfMemory>
-        ensures { IfOk result (λ b. b ≡ no_profile_set) }
-    {
-        let settings = ProfileBuilder::new(alloc)?;
-        Ok(Builder { alloc, settings })
-    }
-
-    /// With a copy of this configuration, in place of the one that it had. `OutOfMemory` where memory
-    /// runs out.
-    pub fn configure(self, config: &ProviderConfig) -> Result<Builder, OutOfMemory>
-        ensures { IfOk result (λ b. b ≡ record self { configuration = config.now }) }
-    {
-        let Builder { alloc, settings } = self;
-        let settings = settings.configure(config)?;
-        Ok(Builder { alloc, settings })
-    }
-
-    /// The profile of this name, whatever the configuration says. `OutOfMemory` where memory runs out.
-    pub fn profile_name(self, name: &str) -> Result<Builder, OutOfMemory>
-        ensures { IfOk result (λ b. b ≡ record self { profile_name = Some name.now }) }
-    {
-        let Builder { alloc, settings } = self;
-        let settings = settings.profile_name(name)?;
-        Ok(Builder { alloc, settings })
-    }
-
-    /// With these sections, or their refusal, whatever the configuration has.
-    pub fn profiles(self, profiles: ProfileSource) -> Builder
-        ensures { result ≡ record self { profiles = Some profiles } }
-    {
-        let Builder { alloc, settings } = self;
-        let settings = settings.profiles(profiles);
-        Builder { alloc, settings }
-    }
-
-    /// The provider. Whose token it needs is read from the selected profile now. An error of its path is
-    /// told by each call, and is none of this one. `OutOfMemory` where memory runs out.
-    pub fn build(self) -> Result<ProfileFileTokenProvider, OutOfMemory>
-        ensures { IfOk result (λ p. p ≡ profile_configured self) }
-    {
-        let Builder { alloc, settings } = self;
-        let config = settings.configured()?;
+    fn from_profile(
+        alloc: Global,
+        config: ProviderConfig,
+    ) -> Result<ProfileFileTokenProvider, OutOfMemory> {
         ProfileFileTokenProvider::of(alloc, config)
     }
 }
+
+/// Sets up a provider of a profile's token. Whose token it needs is read where it is built; an error of the profile's
+/// path is told by each call, and is none of `build`.
+pub type Builder = ProfileBuilder<ProfileFileTokenProvider>;

@@ -1,12 +1,13 @@
 //! Errors of the instance metadata service's client.
 ghost use Rattle.std.specs.Prelude.{◌≡◌};
-ghost use Rattle.cfg_types.specs.Metadata.{is_dispatch_failure as is_dispatch_failure_of};
+ghost use Rattle.cfg_types.specs.Metadata.{is_dispatch_failure as is_dispatch_failure_of, mode_in};
 ghost use Rattle.std.specs.Prelude.{◌++◌, codes};
 ghost use Rattle.std.specs.Fmt.{decimal, WritesOnOk, WritesStyledOnOk};
 
 use crate::errors::pieces::around;
 use crate::reply::{FailKind, HttpReply};
 use cfg_base::{OutOfMemory, Text};
+use std::alloc::Global;
 use std::error::Error;
 use std::fmt;
 
@@ -17,6 +18,46 @@ pub enum EndpointMode {
     IpV4,
     /// `http://[fd00:ec2::254]`.
     IpV6,
+}
+
+impl EndpointMode {
+    ghost use Rattle.std.specs.Prelude.{◌≢◌, IfOk, IfErr, Some, None};
+    ghost use Rattle.cfg_base.specs.Text.{characters};
+    ghost use Rattle.cfg_types.specs.declared.errors.imds.InvalidEndpointMode.TheVariants as invalid;
+
+    /// The mode that a text names: `IPv4` or `IPv6`, whatever the ASCII case of its letters. None where it is
+    /// neither.
+    pub fn named(text: &str) -> Option<EndpointMode>
+        ensures { result ≡ mode_in text.now }
+    {
+        if text.eq_ignore_ascii_case("IPv4") {
+            Some(EndpointMode::IpV4)
+        } else if text.eq_ignore_ascii_case("IPv6") {
+            Some(EndpointMode::IpV6)
+        } else {
+            None
+        }
+    }
+
+    /// The mode of a text: `IPv4` or `IPv6`, whatever the ASCII case of its letters.
+    ///
+    /// # Errors
+    ///
+    /// - `Mode`: exactly where the text is neither. It has the text.
+    /// - `OutOfMemory` where memory runs out.
+    pub fn from_text(alloc: Global, text: &str) -> Result<EndpointMode, InvalidEndpointMode>
+        ensures mode { IfOk result (λ mode. mode_in text.now ≡ Some mode) }
+        ensures none { IfErr result (λ e. e ≢ invalid.OutOfMemory → mode_in text.now ≡ None) }
+        ensures text { IfErr result (λ e. e ≢ invalid.OutOfMemory → e ≡ invalid.Mode (characters text.now)) }
+    {
+        match EndpointMode::named(text) {
+            Some(mode) => Ok(mode),
+            None => {
+                let text = Text::of(alloc, text)?;
+                Err(InvalidEndpointMode::Mode(text))
+            }
+        }
+    }
 }
 
 /// Why a text gives no mode.

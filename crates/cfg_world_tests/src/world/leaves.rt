@@ -1,13 +1,13 @@
-//! The leaves that no provider asks by: what they answer over a script.
-use crate::world::devices::scripted_by;
+//! What leaves answer over a script: those of the clock and the jitter, and those that no provider asks by.
+use crate::world::devices::{scripted, scripted_by};
 use crate::world::questions::TIMEOUTS;
 use cfg_types::{
-    Bytes, CallSettings, CreateOAuth2Token, CreateToken, Http, MetadataGet, MetadataToken,
+    Bytes, CallSettings, CreateOAuth2Token, CreateToken, Http, Instant, MetadataGet, MetadataToken,
     OutOfMemory, Text, TryCopy,
 };
 use cfg_world::{
     Asking, Stop, World, create_oauth2_token, create_token, fetch, fetch_metadata,
-    fetch_metadata_token, write_file,
+    fetch_metadata_token, read_clock, read_jitter, write_file,
 };
 use std::alloc::Global;
 use std::fmt;
@@ -125,6 +125,15 @@ const TABLE: &[(&str, &str)] = &[
     ("sign-in", "Ok(SignInReply { token: None })"),
     ("sign-in", "Err(Failed(Dispatch))"),
 ];
+
+#[test]
+fn leaves_read_their_answers(rt: HostRuntime) -> Result<(), Fail> {
+    let mut world = World::new(rt.alloc(), scripted(rt.alloc())?);
+    let moment = read_clock(&mut world);
+    let number = read_jitter(&mut world);
+    assert_eq!(rt; (moment, number), (Ok(Instant::epoch().plus(5)), Ok(8)));
+    Ok(())
+}
 
 #[test]
 fn leaves_over_a_script(rt: HostRuntime) -> Result<(), Fail> {

@@ -1,5 +1,6 @@
 -- A member stopped, answered, was passed over, or was passed over and memory ran out.
-use Rattle.std.proofs.Common.{◌∙◌}
+use Rattle.std.proofs.Common.{[], ◌∷◌, ◌++◌, ◌∙◌, ap}
+use Rattle.cfg_meta.specs.AnswerRules.{attempt_of}
 use Rattle.cfg_kept.proofs.ChainSteps.{chain_answers, chain_passed, chain_breaks_later}
 use Rattle.std.proofs.lemmas.Result.{err_from_is_err_and}
 use Rattle.cfg_chain.proofs.ChainHalts.{chain_halts}
@@ -19,7 +20,8 @@ returns-in-Answers-clause-follows g c =
 pub loop-member-preserved : goal.loop-member-preserved
 loop-member-preserved g c = record {
   leads = chain_passed _ c.args.members.now c.loop-member.member-index _ c.loop-member.attempts.items _ _
-      c.loop-member.invariant.leads c.loop-member-test.true c.in_ok-outcome.ensures.follows c.in-PassedOver.ensures c.in-Ok.ensures;
+      c.loop-member.invariant.leads c.loop-member-test.true c.in_ok-outcome.ensures.follows c.in-PassedOver.ensures
+      (c.in-Ok.ensures ∙ ap (λ name. c.loop-member.attempts.items ++ attempt_of name c.in-PassedOver.error ∷ []) c.name.ensures);
   key = c.in_ok-outcome.ensures.key ∙ c.loop-member.invariant.key;
 }
 

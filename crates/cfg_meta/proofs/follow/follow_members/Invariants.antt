@@ -7,6 +7,6 @@ use Rattle.cfg_meta.proofs.follow.follow_members.Given as goal
 
 abbrev pub invariant-loop-i : goal.invariant-loop-i
 invariant-loop-i g l = record {
-  led : MembersPassed g.A.Asking g.M.ChainMember.rules (λ m. g.M.ChainMember.named m) (λ m. g.M.ChainMember.is_tree m) l.members (map keeping_of l.fn.kept) l.fn.asking (map keeping_of l.kept) l.asking l.i l.attempts.items;
+  led : MembersPassed g.A.Asking g.M.Error.ChainError.rules (λ m. g.M.ChainMember.named m) (λ m. g.M.ChainMember.is_tree m) l.members (map keeping_of l.fn.kept) l.fn.asking (map keeping_of l.kept) l.asking l.i l.attempts.items;
   keys : map kept_key l.kept ≡ map kept_key l.fn.kept;
 }

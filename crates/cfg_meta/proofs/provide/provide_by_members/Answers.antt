@@ -10,6 +10,6 @@ returns-in-Ok-clause-stays g c = λ no_memory.
     record {
       part = e.part;
       stays = record { journal = e.grew.grows; fits = e.grew.fits; same = e.grew.same; counted = e.grew.counted };
-      begun = subst (λ olds. AreBegunParts g.M.ChainMember.rules (λ m. g.M.ChainMember.named m) (λ m. g.M.ChainMember.is_tree m) c.args.members.now olds (map keeping_of c.follow_members.new.kept) e.part) c.clear_found.ensures.found
-          (parts_begun g.M.ChainMember.rules (λ m. g.M.ChainMember.named m) (λ m. g.M.ChainMember.is_tree m) c.in-Ok.outcome c.args.members.now (map keeping_of c.clear_found.new.kept) (map keeping_of c.follow_members.new.kept) e.part e.parts);
+      begun = subst (λ olds. AreBegunParts g.M.Error.ChainError.rules (λ m. g.M.ChainMember.named m) (λ m. g.M.ChainMember.is_tree m) c.args.members.now olds (map keeping_of c.follow_members.new.kept) e.part) c.clear_found.ensures.found
+          (parts_begun g.M.Error.ChainError.rules (λ m. g.M.ChainMember.named m) (λ m. g.M.ChainMember.is_tree m) c.in-Ok.outcome c.args.members.now (map keeping_of c.clear_found.new.kept) (map keeping_of c.follow_members.new.kept) e.part e.parts);
     }

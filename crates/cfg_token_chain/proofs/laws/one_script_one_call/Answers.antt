@@ -2,7 +2,7 @@ use Rattle.std.proofs.Common.{sym, ◌∙◌}
 use Rattle.cfg_world.proofs.Agreeing.{given_alike}
 use Rattle.cfg_meta.proofs.OneCall.{one_call}
 use Rattle.cfg_token_chain.specs.Members.{name_in, IsTokenTree}
-use Rattle.cfg_token_chain.specs.TokenAnswers.{token_rules}
+use Rattle.cfg_meta.specs.TokenAnswers.{token_rules}
 use Rattle.cfg_token_chain.proofs.laws.one_script_one_call.Goals as goal
 
 pub returns : goal.returns

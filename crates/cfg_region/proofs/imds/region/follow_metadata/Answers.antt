@@ -5,4 +5,4 @@ use Rattle.cfg_region.proofs.imds.region.follow_metadata.Goals as goal
 
 pub returns : goal.returns
 unfolding metadata_region
-returns g c = token_left _ _ _ _ _ c.follow_region.result c.follow_region.ensures
+returns g c = token_left _ _ _ _ _ c.follow_region.result c.follow_region.ensures.follows

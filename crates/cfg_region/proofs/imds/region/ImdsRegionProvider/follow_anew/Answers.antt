@@ -5,4 +5,4 @@ use Rattle.cfg_region.proofs.imds.region.ImdsRegionProvider.follow_anew.Goals as
 
 pub returns : goal.returns
 unfolding metadata_region
-returns g c = token_left _ _ _ _ _ c.follow.result c.follow.ensures
+returns g c = token_left _ _ _ _ _ c.follow.result c.follow.ensures.follows

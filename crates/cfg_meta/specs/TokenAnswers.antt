@@ -1,18 +1,11 @@
 -- What chains of bearer tokens say of answers.
-use Rattle.std.specs.Prelude.{List, Bool, true, false}
-use Rattle.cfg_types.specs.TokenClasses.{token_class}
+use Rattle.std.specs.Prelude.{List, Bool}
+use Rattle.cfg_types.specs.TokenClasses.{token_class, is_not_loaded_class, is_memory_class}
 use Rattle.cfg_types.specs.declared.errors.ProviderAttempt.{ProviderAttempt}
 use Rattle.cfg_types.specs.declared.errors.token.TokenCause.TheVariants.{Chain}
-use Rattle.cfg_types.specs.declared.errors.token.TokenClass.{TokenClass}
-use Rattle.cfg_types.specs.declared.errors.token.TokenClass.TheVariants as class
 use Rattle.cfg_types.specs.declared.errors.token.TokenError.{TokenError}
 use Rattle.cfg_types.specs.declared.errors.token.TokenError.TheVariants.{TokenNotLoaded}
 use Rattle.cfg_meta.specs.AnswerRules.{AnswerRules}
-use Rattle.cfg_sso.specs.BearerTokens.{is_memory_class}
-
-abbrev pub is_not_loaded_class : TokenClass → Bool
-is_not_loaded_class class.TokenNotLoaded = true
-is_not_loaded_class _ = false
 
 -- the error of a provider that was not loaded
 abbrev pub is_not_loaded : TokenError → Bool

@@ -1,11 +1,8 @@
-//! What no clause says: worked examples of receipts that are handed out again, and of leaves.
+//! What no clause says: worked examples of receipts that are handed out again, and that an entry is made.
 use crate::world::devices::{answer_words, scripted};
 use crate::world::questions::question;
-use cfg_types::{Instant, OutOfMemory, Seq, TryCopy};
-use cfg_world::{
-    Answer, Answers, Asking, Entry, Question, Receipt, ScriptDevices, World, read_clock,
-    read_jitter,
-};
+use cfg_types::{OutOfMemory, Seq};
+use cfg_world::{Answer, Answers, Asking, Entry, Question, Receipt, ScriptDevices, World};
 use std::alloc::Global;
 use std::test::Fail;
 
@@ -44,16 +41,8 @@ fn a_receipt_answers_its_own_question_alone(rt: HostRuntime) -> Result<(), Fail>
 }
 
 #[test]
-fn leaves_read_their_answers(rt: HostRuntime) -> Result<(), Fail> {
-    let mut world = World::new(rt.alloc(), scripted(rt.alloc())?);
-    let moment = read_clock(&mut world);
-    let number = read_jitter(&mut world);
-    assert_eq!(rt; (moment, number), (Ok(Instant::epoch().plus(5)), Ok(8)));
+fn an_entry_is_made(rt: HostRuntime) -> Result<(), Fail> {
     let made = Entry::new(rt.alloc(), Question::Jitter, Answer::Jitter(7))?;
     assert!(rt; made.is_some());
-    for entry in world.journal() {
-        let copy = entry.copy(rt.alloc())?;
-        assert!(rt; copy.question() == entry.question());
-    }
     Ok(())
 }

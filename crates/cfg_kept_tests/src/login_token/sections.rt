@@ -24,7 +24,7 @@ const SCRIPTS: &[(&str, &str)] = &[
     ),
     (
         r#"{"variables":[["AWS_LOGIN_CACHE_DIRECTORY","/c"]],"clock":[700,700,1300,1300],"files":[["/c/ba7816bf8f01cfea414140de5dae2223b00361a396177a9cb410ff61f20015ad.json","{\"accessToken\":{\"accessKeyId\":\"AK\",\"secretAccessKey\":\"SK\",\"sessionToken\":\"ST\",\"accountId\":\"012345678901\",\"expiresAt\":\"1970-01-01T00:15:00Z\"},\"refreshToken\":\"rt\",\"clientId\":\"ci\",\"dpopKey\":\"dk\"}"]],"replies":{"sign-in":[{"id":"AK2","secret":"SK2","token":"ST2","refresh":"rt2","expires_in":900},{"refused":"TokenExpired","message":"m"}]}}"#,
-        "Ok(LoginToken { access_token: Credentials { provider_name: \"Login\", access_key_id: \"AK2\", secret_access_key: \"** redacted **\", expires_after: 1600 s 0 ns, account_id: \"012345678901\" }, secrets: \"** redacted **\" }) 5 1 Some(Instant { seconds: 700, nanos: 0 }) true; Err(RefreshFailed { message: Some(\"Your session has expired. Please reauthenticate.\") }) 9 1 Some(Instant { seconds: 700, nanos: 0 }) false",
+        "Ok(LoginToken { access_token: Credentials { provider_name: \"Login\", access_key_id: \"AK2\", secret_access_key: \"** redacted **\", expires_after: 1600 s 0 ns, account_id: \"012345678901\" }, secrets: \"** redacted **\" }) 5 1 Some(Instant { seconds: 700, nanos: 0 }) true; Err(RefreshFailed { message: Some(\"Your session has expired. Please reauthenticate.\") }) 9 1 Some(Instant { seconds: 1300, nanos: 0 }) false",
     ),
     (
         r#"{"clock":[5]}"#,
