@@ -23,7 +23,7 @@ impl<S: Source + Drop> KeepingSource<S> {
         ensures kept { kept_of result ≡ Some [] }
     {
         let mut kept = Vec::new(alloc);
-        // Where that is refused, a later growth may not be.
+        // Room for the longest script at once; without it the bytes take room as they come.
         let _ = kept.reserve(LIMIT + 1);
         KeepingSource {
             source,

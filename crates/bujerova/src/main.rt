@@ -8,7 +8,7 @@ mod fixed;
 mod keeping;
 
 use cfg_program::run::run;
-use cfg_program::{LIMIT, Status, USAGE};
+use cfg_program::{Command, LIMIT, Status, USAGE, command_of};
 use cfg_providers::CustomSource;
 use cfg_script::find_fault;
 use cfg_types::{EnvText, OutOfMemory, Text};
@@ -66,12 +66,17 @@ fn run_with<S: Source, K: Sink, D: Devices>(
     Ok(ended)
 }
 
-// The program's arguments, and the variables that are set.
+// The program's arguments, and the variables that are set where the command reads them. Asking the process
+// for them costs more than a whole call over a small script.
 fn arguments_and_variables(
     rt: &(impl std::rt::Env + AllocGlobal),
 ) -> Result<(Vec<String>, Vec<(String, EnvText)>), Status> {
     let arguments = arguments_of(rt)?;
-    match variables_of(rt) {
+    let variables = match command_of(&arguments) {
+        Some(Command::Local) => variables_of(rt),
+        _ => Ok(Vec::new(rt.alloc())),
+    };
+    match variables {
         Ok(variables) => Ok((arguments, variables)),
         Err(OutOfMemory) => Err(Status::OutOfMemory),
     }

@@ -6,6 +6,7 @@ use Rattle.cfg_providers.specs.CustomSources.{Answer}
 use Rattle.cfg_chain.specs.Settings.{ChainSetting, alone}
 use Rattle.cfg_chain.specs.Provides.{IsCall}
 use Rattle.cfg_chain.specs.Callers.{TellsWho}
+use Rattle.caller.specs.FileAnswers.{AllAnswered, token_path, token_content}
 use Rattle.caller.specs.Lines.{shown}
 use Rattle.caller.specs.Configured.{configured}
 
@@ -18,6 +19,7 @@ pub record TellsCall (over : ChainSetting) (old new : States) (before later : Li
   pub out : Answer
   pub call : IsCall over old new found journal out
   pub who : TellsWho over found [] journal out
+  pub answers : AllAnswered token_path token_content journal
   pub line : later ≡ before ++ shown out journal
 
 -- Three calls were made: two for the reader, the second on what the first one left kept, and one for the auditor,

@@ -3,6 +3,7 @@ ghost use Rattle.std.specs.Prelude.{◌≡◌, IfOk, OnOk, string_bytes};
 ghost use Rattle.cfg_kept.specs.KeptStates.{states_of, kept_key};
 ghost use Rattle.cfg_chain.specs.Views.{chain_of};
 ghost use Rattle.cfg_chain.specs.profile.Plans.{key_of};
+ghost use Rattle.caller.specs.FileAnswers.{HoldsToken};
 ghost use Rattle.caller.specs.Reports.{IsReport, TellsCall};
 
 use crate::configuration::{TOKEN, TOKEN_PATH, chain_for};
@@ -11,7 +12,7 @@ use crate::lines::call_line;
 use cfg_chain::DefaultCredentialsChain;
 use cfg_kept::Kept;
 use cfg_types::{OutOfMemory, Outcome};
-use cfg_world::{Devices, World};
+use cfg_world::World;
 use std::alloc::Global;
 
 /// The lines of three calls: two for the profile of a sign-in session, the second on what the first one left
@@ -42,17 +43,19 @@ pub fn report(alloc: Global) -> Result<String, OutOfMemory>
 
 // One call on what is kept, and its line behind the others: who gave its answer, and over which part of the
 // journal. The journal of the call before it is given up.
-fn call<D: Devices>(
+fn call(
     alloc: Global,
     chain: &DefaultCredentialsChain,
     kept: &mut Kept,
-    world: &mut World<D>,
+    world: &mut World<OneFile>,
     lines: &mut String,
 ) -> Result<(), OutOfMemory>
-    requires { kept_key kept.old ≡ key_of chain.now.core }
+    requires key { kept_key kept.old ≡ key_of chain.now.core }
+    requires holds { HoldsToken world.old.devices.path.now world.old.devices.content.now }
     ensures tells { OnOk result (TellsCall (chain_of value repeated chain.now) (states_of kept.old) (states_of kept.new)
         (string_bytes lines.old) (string_bytes lines.new)) }
     ensures key { kept_key kept.new ≡ kept_key kept.old }
+    ensures holds { OnOk result (HoldsToken world.new.devices.path.now world.new.devices.content.now) }
 {
     world.clear_journal();
     let outcome = Outcome {

@@ -6,6 +6,7 @@
 pub mod base;
 pub mod call;
 mod exchange;
+pub mod laws;
 pub mod sts;
 
 pub use base::RoleBase;

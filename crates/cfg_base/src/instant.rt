@@ -113,6 +113,7 @@ impl Instant {
     pub fn checked_plus(self, seconds: u64) -> Option<Instant>
         ensures there { IsSome result ↔ ((self.seconds +ℤ pos seconds) ≤ℤ pos 9223372036854775807) }
         ensures value { IfSome result (λ i. number i ≡ number self +ℤ nanos_in seconds) }
+        ensures fields { IfSome result (λ i. i ≡ record { seconds = self.seconds +ℤ pos seconds; nanos = self.nanos }) }
     {
         let seconds = self.seconds.checked_add_unsigned(seconds)?;
         Some(Instant {

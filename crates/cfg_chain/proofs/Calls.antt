@@ -66,7 +66,7 @@ begins_from over services old cleared new earlier found more part none same list
     (subst (λ f. Begins (default_chain (setting over services)) (Some cleared) f part (Some new)) (sym (list ∙ ap (λ t. t ++ found) none)) begins)
 
 -- and a call is such a run
-runs_call : (over : ChainSetting) (old new : States) (found : List Value) (part : List Pair) (out : Answer) (c : IsCall over old new found part out) →
+pub runs_call : (over : ChainSetting) (old new : States) (found : List Value) (part : List Pair) (out : Answer) (c : IsCall over old new found part out) →
     Runs (default_chain (setting over c.services)) (Some old) found part out (Some new)
 runs_call over old new found part out c =
     let s = setting over c.services in

@@ -15,7 +15,7 @@ use Rattle.cfg_chain.specs.Members.{member_tree}
 use Rattle.cfg_chain.specs.profile.Bases.{by_container}
 
 -- what has begun of a tree that finds and leaves nothing has begun of its inquiry
-begun_lowered : {R : Type 0} (p : Inquiry R) (old new : Option States) (found : List Value) (part : List Pair) → Begins (lift p) old found part new → low.Begun p part
+pub begun_lowered : {R : Type 0} (p : Inquiry R) (old new : Option States) (found : List Value) (part : List Pair) → Begins (lift p) old found part new → low.Begun p part
 begun_lowered (Done r) old new [] [] h = tt
 begun_lowered (Done r) old new [] (e ∷ part) h = absurd h
 begun_lowered (Done r) old new (f ∷ found) part h = absurd h

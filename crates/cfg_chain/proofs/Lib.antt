@@ -4,8 +4,8 @@ pub mod PlannedBases
 pub mod ProfileSteps
 pub mod ProfileCauses
 pub mod MemberCauses
+pub mod MemberErrors
 pub mod PassedByTable
-pub mod Stretches
 pub mod UsableEntries
 pub mod UsableReplies
 pub mod UsableContainer
@@ -13,10 +13,12 @@ pub mod UsableIdentities
 pub mod UsableEnvironment
 pub mod UsableProfile
 pub mod PassingErrors
+pub mod KeptSignOns
 pub mod UnsetContainer
 pub mod Validity
 pub mod Calls
 pub mod ProfileCalls
+pub mod WholeCalls
 pub mod WorldSteps
 pub mod SetRegions
 pub mod WhoAnswered
@@ -24,3 +26,8 @@ pub mod WithoutRoles
 pub mod SignOns
 pub mod Sessions
 pub mod ContainerTargets
+pub mod OtherBases
+pub mod OtherSessions
+pub mod NoHttp
+pub mod SafeCalls
+pub mod BegunCalls

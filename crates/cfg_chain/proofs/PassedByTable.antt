@@ -99,7 +99,7 @@ plan_loaded (Some e) role = refl
 plan_loaded None (Some e) = refl
 plan_loaded None None = refl
 
-planned_line : (s : Setting) (p : Planned) (found : List Value) (part : List Pair) (out : Answer) → kept.Reads (follows_plan s p) found part out → is_not_loaded_answer out ≡ plan_is_passed_over p
+pub planned_line : (s : Setting) (p : Planned) (found : List Value) (part : List Pair) (out : Answer) → kept.Reads (follows_plan s p) found part out → is_not_loaded_answer out ≡ plan_is_passed_over p
 planned_line s (Ok p) found part out h = let c = plan_fails s p found part out h in by_cause out ∙ ap is_unset c.cause ∙ plan_loaded (result_err c.given) (first_failure c.role_part)
 planned_line s (Err e) found part out h = ap is_not_loaded_answer (sym (given_is (Err (refusal e)) out found part h).2) ∙ refusal_line e
 

@@ -128,7 +128,7 @@ pub entry_stays : (entry : Option Pair) → passes (option_and_then why_entry en
 entry_stays None = refl
 entry_stays (Some e) = answer_stays e.0 e.1
 
-abbrev identity_by : Option (List ℕ) → Option (List ℕ) → Option (List ℕ) → Result WebIdentity CredentialsError
+abbrev pub identity_by : Option (List ℕ) → Option (List ℕ) → Option (List ℕ) → Result WebIdentity CredentialsError
 identity_by file role session =
     set_or_not (codes "AWS_WEB_IDENTITY_TOKEN_FILE") file >>= λ f. set_or_not (codes "AWS_ROLE_ARN") role >>= λ r. Ok (record { web_identity_token_file = f; role_arn = r; session_name = session })
 

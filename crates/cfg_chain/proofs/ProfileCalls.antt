@@ -22,11 +22,10 @@ use Rattle.cfg_chain.specs.profile.Profiles.{follows_plan, profile}
 use Rattle.cfg_chain.specs.profile.Provides.{PlanGives, IsUsable, IsProfileCall, FollowsProfile}
 use Rattle.cfg_chain.proofs.Calls.{some_is, set_alike}
 use Rattle.cfg_chain.proofs.ProfileCauses.{profile_fails}
-use Rattle.cfg_chain.proofs.Stretches.{all_of_it}
 use Rattle.cfg_chain.proofs.UsableProfile.{plan_succeeds}
 
 planned_gives : (s : Setting) (p : Planned) (found : List Value) (part : List Pair) (out : Answer) → Reads (follows_plan s p) found part out → AreOfUse (IsFile s.configuration.environment p) part → PlanGives s p found part → is_ok out ≡ true
-planned_gives s (Ok p) found part out h uses fine = plan_succeeds s p found found part part out (all_of_it found) (all_of_it part) h uses fine
+planned_gives s (Ok p) found part out h uses fine = plan_succeeds s p found part out h uses fine
 planned_gives s (Err e) found part out h uses fine = absurd fine
 
 -- where nothing stands in the way, the profile gives credentials

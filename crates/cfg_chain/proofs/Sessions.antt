@@ -1,18 +1,22 @@
 -- What a call reads of a sign-in session.
-use Rattle.std.proofs.Common.{◌≡◌, ◌⊎◌, inl, inr, ℕ, List, [], ◌∷◌, ◌++◌, Option, Some, None, Ok, Err, refl, sym, ap, ◌∙◌, subst, append-nil, append_assoc}
+use Rattle.std.proofs.Common.{◌≡◌, ◌⊎◌, inl, inr, ℕ, List, [], ◌∷◌, ◌++◌, Option, Some, None, Ok, Err, refl, sym, ap, ◌∙◌, subst, append-nil}
+use Rattle.cfg_types.specs.Classes.{is_not_loaded_answer}
 use Rattle.cfg_types.specs.Keys.{Keys}
 use Rattle.cfg_types.specs.declared.errors.CredentialsError.{CredentialsError}
-use Rattle.cfg_types.specs.declared.errors.ProviderAttempt.{ProviderAttempt}
 use Rattle.cfg_world.specs.declared.devices.Devices.{Ghosts}
 use Rattle.cfg_world.specs.Fits.{Pair, EachFits}
 use Rattle.cfg_world.specs.Held.{Held}
 use Rattle.cfg_world.specs.Inquiry as low
+use Rattle.cfg_world.specs.Inquiry.{Inquiry, Done, Ask}
 use Rattle.cfg_kept.specs.Kinds.{Value, States}
-use Rattle.cfg_kept.specs.Chains.{passed, go_on, chain}
-use Rattle.cfg_kept.specs.KeptInquiry.{KeptInquiry, Gives, Runs, Reads, Begins as Begun, lift, onwards, onwards_if_ok}
+use Rattle.cfg_kept.specs.Chains.{passed}
+use Rattle.cfg_kept.specs.KeptInquiry.{KeptInquiry, Gives, Reads, Begins, lift, onwards_if_ok}
 use Rattle.cfg_kept.proofs.Beginnings.{begins_splits}
-use Rattle.cfg_kept.proofs.Splits.{lowered, split_runs}
-use Rattle.cfg_kept.proofs.Told.{told}
+use Rattle.cfg_kept.proofs.CallParts.{given_then}
+use Rattle.cfg_kept.proofs.ChainParts.{chain_begun}
+use Rattle.cfg_kept.proofs.Splits.{lowered, split_onwards}
+use Rattle.cfg_kept.proofs.Told.{run_begins}
+use Rattle.cfg_imds_credentials.proofs.Given.{given_is, whole_part, run_reads}
 use Rattle.cfg_profile.specs.declared.chain.BaseProvider.{BaseProvider}
 use Rattle.cfg_profile.specs.declared.chain.BaseProvider.TheVariants as base
 use Rattle.cfg_providers.specs.CustomSources.{Answer}
@@ -21,21 +25,50 @@ use Rattle.cfg_login.specs.declared.asked_by.AskedBy.TheVariants as by
 use Rattle.cfg_login.specs.SignIns.{sign_in_credentials}
 use Rattle.cfg_login.proofs.SignInCauses.{sign_in_cause}
 use Rattle.cfg_login.proofs.LastReadings.{credentials_last}
-use Rattle.cfg_chain.specs.declared.member.Member.{Member}
-use Rattle.cfg_chain.specs.declared.member.Member.TheVariants.{Environment, Profile, WebIdentityToken, EcsContainer, Ec2InstanceMetadata}
-use Rattle.cfg_chain.specs.Settings.{Setting, ChainSetting, names_of, setting}
-use Rattle.cfg_chain.specs.Members.{member_tree, credentials_chain, default_chain}
+use Rattle.cfg_login.proofs.OtherSpots.{begins_elsewhere}
+use Rattle.cfg_chain.specs.declared.member.Member.TheVariants.{Environment, Profile}
+use Rattle.cfg_exchange.specs.Gains.{Gains}
+use Rattle.cfg_chain.specs.Settings.{Setting, ChainSetting, Services, names_of, setting}
+use Rattle.cfg_chain.specs.Members.{member_tree, credentials_chain, default_members, default_chain}
 use Rattle.cfg_chain.specs.Provides.{Provides, Interrupted}
-use Rattle.cfg_chain.specs.Resolves.{IsPart, Resolves}
-use Rattle.cfg_chain.specs.Sessions.{IsSession, PlansSession, BeginsUnexpired, BeginsSession, ReadsSession, StopsInSession}
-use Rattle.cfg_chain.specs.profile.Plans.{Planned, plan}
+use Rattle.cfg_chain.specs.Resolves.{Resolves}
+use Rattle.cfg_chain.specs.Sessions.{IsSession, PlansNoSession, PlansSession, BeginsUnexpired, GoesOn, HasGoneOn, HandsOn, PassesBySessions, ReadsSession, IsOfEnvironment, ChainReadsSession, StopsBehind, StopsWithin, StopsInSession}
+use Rattle.cfg_chain.specs.PassedOver.{plan_is_passed_over}
 use Rattle.cfg_chain.specs.profile.Bases.{base_tree, in_base, based}
-use Rattle.cfg_chain.specs.profile.Causes.{PlannedCause}
+use Rattle.cfg_chain.specs.profile.Causes.{of_base}
+use Rattle.cfg_chain.specs.profile.Plans.{plan}
 use Rattle.cfg_chain.specs.profile.Profiles.{assumed, follows_planned, follows_plan, profile}
+use Rattle.cfg_chain.specs.profile.Provides.{ProvidesByProfile, InterruptedProfile}
+use Rattle.cfg_chain.proofs.MemberCauses.{reads_resolved}
+use Rattle.cfg_chain.proofs.OtherSessions.{Elsewhere, planned_session, chain_elsewhere}
+use Rattle.cfg_chain.proofs.PassedByTable.{planned_line}
+use Rattle.cfg_chain.proofs.PassingErrors.{at_odds}
+use Rattle.cfg_chain.proofs.WhoAnswered.{passes_error}
 
-fits_first : (one other : List Pair) → EachFits (one ++ other) → EachFits one
+pub fits_first : (one other : List Pair) → EachFits (one ++ other) → EachFits one
 fits_first [] other h = tt
 fits_first (e ∷ one) other h = (h.0, fits_first one other h.1)
+
+-- what a tree that only asks has begun
+pub begun_lift : {R : Type 0} (p : Inquiry R) (old new : Option States) (found : List Value) (part : List Pair) → Begins (lift p) old found part new → (found ≡ []) × low.Begun p part
+begun_lift (Done r) old new [] [] h = (refl, tt)
+begun_lift (Done r) old new [] (e ∷ part) h = absurd h
+begun_lift (Done r) old new (f ∷ found) part h = absurd h
+begun_lift (Ask q next) old new [] [] h = (refl, tt)
+begun_lift (Ask q next) old new (f ∷ found) [] h = absurd h
+begun_lift (Ask q next) old new found (e ∷ part) h = let r = begun_lift (next e.1) old new found part h.1 in (r.0, (h.0, r.1))
+
+begun_nothing : {R : Type 0} (p : Inquiry R) → low.Begun p []
+begun_nothing (Done r) = tt
+begun_nothing (Ask q next) = tt
+
+-- what was said at once has begun
+pub begun_said : {R : Type 0} (said : R) (old new : Option States) (found : List Value) (part : List Pair) → Begins (Gives said) old found part new → (found ≡ []) × (part ≡ [])
+begun_said said old new [] [] h = (refl, refl)
+begun_said said old new [] (e ∷ part) h = absurd h
+begun_said said old new (f ∷ found) part h = absurd h
+
+-- ---- the environment
 
 nothing_asked : (s : Setting) (part : List Pair) (out : Answer) → low.Reads (by_environment s.configuration.environment) part out → (part ≡ []) × (out ≡ environment s.configuration.environment)
 nothing_asked s [] out h = (refl, sym h)
@@ -48,192 +81,246 @@ environment_asks s found part out h =
     let n = nothing_asked s part out r.1 in
     (r.0, n.0, n.1)
 
-module _ (s : Setting) (session : List ℕ) where
-  abbrev Begins : List Value → List Pair → Type 0
-  Begins found journal = BeginsUnexpired s.configuration session found journal
+environment_begun : (s : Setting) (old new : Option States) (found : List Value) (part : List Pair) → Begins (member_tree s Environment) old found part new → (found ≡ []) × (part ≡ [])
+unfolding member_tree
+environment_begun s old new found part h = begun_said (environment s.configuration.environment) old new found part h
 
-  of_base : (b : BaseProvider) → IsSession b session → (found : List Value) (part : List Pair) (given : Answer) → Reads (base_tree s b) found part given →
-      Reads (sign_in_credentials s.configuration session by.Profile) found part given
+-- what stands behind nothing
+behind_none : {A : Type 0} (whole first rest : List A) → whole ≡ first ++ rest → first ≡ [] → whole ≡ rest
+behind_none whole first rest parts none = parts ∙ ap (λ x. x ++ rest) none
+
+-- ---- a plan that begins with a session
+
+module _ (over : ChainSetting) (services : Services) (planned : PlansSession over) where
+  abbrev Based : KeptInquiry Answer
+  Based = base_tree (setting over services) planned.chain.base
+
+  abbrev next : Keys → KeptInquiry Answer
+  next keys = lift (assumed over.configuration planned.chain.roles keys)
+
+  base_is : (b : BaseProvider) → IsSession b planned.session → base_tree (setting over services) b ≡ sign_in_credentials over.configuration planned.session by.Profile
   unfolding base_tree
-  of_base (base.LoginSession named) is found part given h = subst (λ x. Reads (sign_in_credentials s.configuration x by.Profile) found part given) is h
-  of_base (base.AccessKey keys) is found part given h = absurd is
-  of_base (base.NamedSource name) is found part given h = absurd is
-  of_base (base.WebIdentityTokenRole arn file named) is found part given h = absurd is
-  of_base (base.CredentialProcess command account) is found part given h = absurd is
-  of_base (base.Sso named region url account role) is found part given h = absurd is
+  base_is (base.LoginSession named) is = ap (λ x. sign_in_credentials over.configuration x by.Profile) is
+  base_is (base.AccessKey keys) is = absurd is
+  base_is (base.NamedSource name) is = absurd is
+  base_is (base.WebIdentityTokenRole arn file named) is = absurd is
+  base_is (base.CredentialProcess command account) is = absurd is
+  base_is (base.Sso named region url account role) is = absurd is
 
-  of_plan : (planned : Planned) → PlansSession planned session → (found : List Value) (part : List Pair) (out : Answer) → EachFits part → PlannedCause s planned found part out → Begins found part
-  of_plan (Err e) is found part out fits c = absurd is
-  of_plan (Ok p) is found part out fits c =
-      let reads = of_base p.base is found c.base_part c.given c.base_reads in
-      let fit = fits_first c.base_part c.role_part (subst EachFits c.parts fits) in
+  based_is : Based ≡ sign_in_credentials over.configuration planned.session by.Profile
+  based_is = base_is planned.chain.base planned.begins
+
+  profile_is : profile (setting over services) ≡ follows_planned (setting over services) planned.chain
+  unfolding profile
+  profile_is = ap (λ p. follows_plan (setting over services) p) planned.plans
+
+  -- the part of the session, with what stands behind it
+  first_part : (found : List Value) (part rest journal : List Pair) (given : Answer) → EachFits journal → journal ≡ part ++ rest → Reads Based found part given → BeginsUnexpired over planned.session found journal
+  first_part found part rest journal given fits parts h =
+      let conf = over.configuration in
+      let reads = subst (λ t. Reads t found part given) based_is h in
       record {
-        found_first = found;
-        found_then = [];
-        part = c.base_part;
-        rest = c.role_part;
-        given = c.given;
-        finds = sym (append-nil found);
-        parts = c.parts;
+        part = part;
+        rest = rest;
+        given = given;
+        parts = parts;
         reads = reads;
-        unexpired = credentials_last s.configuration session by.Profile found c.base_part c.given fit (sign_in_cause s.configuration session by.Profile found c.base_part c.given reads);
+        unexpired = credentials_last conf planned.session by.Profile found part given (fits_first part rest (subst EachFits parts fits))
+            (sign_in_cause conf planned.session by.Profile found part given reads);
       }
 
-  -- what stands behind the first part
-  extended : (found first then : List Value) (journal part rest : List Pair) → found ≡ first ++ then → journal ≡ part ++ rest → Begins first part → Begins found journal
-  extended found first then journal part rest finds parts b = record {
-    found_first = b.found_first;
-    found_then = b.found_then ++ then;
-    part = b.part;
-    rest = b.rest ++ rest;
-    given = b.given;
-    finds = finds ∙ ap (λ t. t ++ then) b.finds ∙ append_assoc b.found_first b.found_then then;
-    parts = parts ∙ ap (λ t. t ++ rest) b.parts ∙ append_assoc b.part b.rest rest;
-    reads = b.reads;
-    unexpired = b.unexpired;
+  -- ---- a whole call
+
+  on_whole : (given out : Answer) (found : List Value) (rest : List Pair) → Reads (onwards_if_ok next (in_base given)) found rest out → (found ≡ []) × GoesOn over.configuration planned.chain.roles given rest out
+  unfolding in_base
+  on_whole (Ok keys) out found rest h = let r = lowered (assumed over.configuration planned.chain.roles keys) found rest out h in (r.0, r.1)
+  on_whole (Err e) out found rest h = let same = given_is (Err (of_base e)) out found rest h in (same.0, (same.1, sym same.2))
+
+  plan_hands_on : (found : List Value) (journal : List Pair) (out : Answer) → EachFits journal → Reads (follows_planned (setting over services) planned.chain) found journal out → HandsOn over found journal out
+  unfolding follows_planned based first_part
+  plan_hands_on found journal out fits h =
+      let r = split_onwards (based (setting over services) planned.chain.base) (onwards_if_ok next) found journal out h in
+      let b = given_then Based in_base r.found_first r.part r.middle r.first in
+      let behind = on_whole b.0 out r.found_then r.rest (subst (λ m. Reads (onwards_if_ok next m) r.found_then r.rest out) b.2 r.then) in
+      let all : found ≡ r.found_first = whole_part found r.found_first r.found_then r.finds behind.0 in
+      record {
+        planned = planned;
+        first = first_part found r.part r.rest journal b.0 fits r.parts (subst (λ f. Reads Based f r.part b.0) (sym all) b.1);
+        goes_on = behind.1;
+      }
+
+  profile_hands_on : (found : List Value) (journal : List Pair) (out : Answer) → EachFits journal → Reads (profile (setting over services)) found journal out → HandsOn over found journal out
+  profile_hands_on found journal out fits h = plan_hands_on found journal out fits (subst (λ t. Reads t found journal out) profile_is h)
+
+  -- ---- one that has begun
+
+  on_begun : (given : Answer) (old new : Option States) (found : List Value) (rest : List Pair) → Begins (onwards_if_ok next (in_base given)) old found rest new → (found ≡ []) × HasGoneOn over.configuration planned.chain.roles given rest
+  unfolding in_base
+  on_begun (Ok keys) old new found rest h = begun_lift (assumed over.configuration planned.chain.roles keys) old new found rest h
+  on_begun (Err e) old new found rest h = begun_said {R = Answer} (Err (of_base e)) old new found rest h
+
+  not_yet : (given : Answer) → HasGoneOn over.configuration planned.chain.roles given []
+  not_yet (Ok keys) = begun_nothing (assumed over.configuration planned.chain.roles keys)
+  not_yet (Err e) = refl
+
+  stops_behind : (found first then : List Value) (journal part rest : List Pair) (given : Answer) → EachFits journal → found ≡ first ++ then → journal ≡ part ++ rest → Reads Based first part given →
+      then ≡ [] → HasGoneOn over.configuration planned.chain.roles given rest → StopsBehind over found journal
+  unfolding first_part
+  stops_behind found first then journal part rest given fits finds parts h none on = record {
+    planned = planned;
+    first = first_part found part rest journal given fits parts (subst (λ f. Reads Based f part given) (sym (whole_part found first then finds none)) h);
+    goes_on = on;
   }
 
-  -- where the environment was passed over it asked nothing
-  behind_nothing : (found first then : List Value) (journal part rest : List Pair) → found ≡ first ++ then → journal ≡ part ++ rest → first ≡ [] → part ≡ [] → Begins then rest → Begins found journal
-  behind_nothing found first then journal part rest finds parts f p b =
-      let same_found : found ≡ then = finds ∙ ap (λ x. x ++ then) f in
-      let same : journal ≡ rest = parts ∙ ap (λ x. x ++ rest) p in
-      subst (λ x. Begins x journal) (sym same_found) (subst (λ x. Begins then x) (sym same) b)
-
-  module _ (plans : PlansSession (plan s.configuration (names_of s.sources)) session) where
-    of_profile : (found : List Value) (part : List Pair) (out : Answer) → EachFits part → IsPart s Profile found part out → Begins found part
-    of_profile found part out fits is = of_plan (plan s.configuration (names_of s.sources)) plans found part out fits is.cause
-
-    pub in_call : (found : List Value) (journal : List Pair) (out : Answer) → EachFits journal → Resolves s found journal out → Begins found journal ⊎ ((journal ≡ []) × (out ≡ environment s.configuration.environment))
-    in_call found journal out fits (inr h) = let nothing = environment_asks s found journal out h.0.reads in inr (nothing.1, nothing.2)
-    in_call found journal out fits (inl h) =
-        let nothing = environment_asks s h.0 h.2 h.4 h.8.reads in
-        let whole : journal ≡ h.3 = h.7 ∙ ap (λ x. x ++ h.3) nothing.1 in
-        let fit : EachFits h.3 = subst EachFits whole fits in
-        inl (behind_nothing found h.0 h.1 journal h.2 h.3 h.6 h.7 nothing.0 nothing.1 (elim h.10 [
-          | inl k ↦ extended h.1 k.0 k.1 h.3 k.2 k.3 k.6 k.7 (of_profile k.0 k.2 k.4 (fits_first k.2 k.3 (subst EachFits k.7 fit)) k.8)
-          | inr k ↦ of_profile h.1 h.3 out fit k.0
-        ]))
-
--- ---- a call for which memory ran out
-
-module _ (s : Setting) (session : List ℕ) (old : States) where
-  abbrev Stands : List Value → List Pair → Type 0
-  Stands found journal = BeginsUnexpired s.configuration session found journal ⊎ BeginsSession s.configuration session found journal ⊎ (journal ≡ [])
-
-  -- each whole run of the tree begins with a part of the session
-  abbrev Whole : {R : Type 0} → KeptInquiry R → Type 0
-  Whole {R} tree = (new : Option States) (found : List Value) (journal : List Pair) (out : R) → EachFits journal → Runs tree (Some old) found journal out new → BeginsUnexpired s.configuration session found journal
-
-  -- and each beginning of the tree, or it is one of such a part
-  abbrev Partial : {R : Type 0} → KeptInquiry R → Type 0
-  Partial tree = (new : Option States) (found : List Value) (journal : List Pair) → EachFits journal → Begun tree (Some old) found journal new → Stands found journal
-
-  whole_then : {A B : Type 0} (tree : KeptInquiry A) (f : A → KeptInquiry B) → Whole tree → Whole (onwards tree f)
-  whole_then tree f whole new found journal out fits h =
-      let r = split_runs tree f (Some old) new found journal out h in
-      let fit = fits_first r.part r.rest (subst EachFits r.parts fits) in
-      extended s session found r.found_first r.found_then journal r.part r.rest r.finds r.parts (whole r.kept r.found_first r.part r.middle fit r.first)
-
-  partial_then : {A B : Type 0} (tree : KeptInquiry A) (f : A → KeptInquiry B) → Whole tree → Partial tree → Partial (onwards tree f)
-  partial_then tree f whole partial new found journal fits h = elim (begins_splits tree f (Some old) new found journal h) [
-    | inl b ↦ partial new found journal fits b
+  base_stops : (old new : Option States) (found : List Value) (journal : List Pair) → EachFits journal → Begins (based (setting over services) planned.chain.base) old found journal new →
+      StopsBehind over found journal ⊎ StopsWithin over found journal
+  unfolding based
+  base_stops old new found journal fits h = elim (begins_splits Based (λ given. Gives (in_base given)) old new found journal h) [
+    | inl b ↦ inr (record { planned = planned; old = old; new = new; begins = subst (λ t. Begins t old found journal new) based_is b })
     | inr r ↦
-        let fit = fits_first r.part r.rest (subst EachFits r.parts fits) in
-        inl (extended s session found r.found_before r.found_behind journal r.part r.rest r.finds r.parts (whole r.middle r.found_before r.part r.outcome fit r.runs))
+        let said = begun_said (in_base r.outcome) r.middle new r.found_behind r.rest r.begins in
+        inl (stops_behind found r.found_before r.found_behind journal r.part r.rest r.outcome fits r.finds r.parts (run_reads Based old r.middle r.found_before r.part r.outcome r.runs) said.0
+        (subst (λ x. HasGoneOn over.configuration planned.chain.roles r.outcome x) (sym said.1) (not_yet r.outcome)))
   ]
 
-  whole_part : Whole (sign_in_credentials s.configuration session by.Profile)
-  whole_part new found journal out fits h =
-      let tree = sign_in_credentials s.configuration session by.Profile in
-      let r = told tree old new found journal out h in
-      let reads = subst (λ f. Reads tree f journal out) (sym r.0) r.2 in
-      record {
-        found_first = found;
-        found_then = [];
-        part = journal;
-        rest = [];
-        given = out;
-        finds = sym (append-nil found);
-        parts = sym (append-nil journal);
-        reads = reads;
-        unexpired = credentials_last s.configuration session by.Profile found journal out fits (sign_in_cause s.configuration session by.Profile found journal out reads);
-      }
-
-  abbrev Both : {R : Type 0} → KeptInquiry R → Type 0
-  Both tree = Whole tree × Partial tree
-
-  both_then : {A B : Type 0} (tree : KeptInquiry A) (f : A → KeptInquiry B) → Both tree → Both (onwards tree f)
-  both_then tree f both = (whole_then tree f both.0, partial_then tree f both.0 both.1)
-
-  base_both : (b : BaseProvider) → IsSession b session → Both (base_tree s b)
-  unfolding base_tree
-  base_both (base.LoginSession named) is =
-      subst (λ x. Both (sign_in_credentials s.configuration x by.Profile)) (sym is) (whole_part, λ new found journal fits h. inr (inl (Some old, new, h)))
-  base_both (base.AccessKey keys) is = absurd is
-  base_both (base.NamedSource name) is = absurd is
-  base_both (base.WebIdentityTokenRole arn file named) is = absurd is
-  base_both (base.CredentialProcess command account) is = absurd is
-  base_both (base.Sso named region url account role) is = absurd is
-
-  planned_both : (planned : Planned) → PlansSession planned session → Both (follows_plan s planned)
+  plan_stops : (old new : Option States) (found : List Value) (journal : List Pair) → EachFits journal → Begins (follows_planned (setting over services) planned.chain) old found journal new →
+      StopsBehind over found journal ⊎ StopsWithin over found journal
   unfolding follows_planned based
-  planned_both (Err e) is = absurd is
-  planned_both (Ok p) is =
-      let next : Keys → KeptInquiry Answer = λ keys. lift (assumed s.configuration p.roles keys) in
-      both_then (based s p.base) (onwards_if_ok next) (both_then (base_tree s p.base) (λ given. Gives (in_base given)) (base_both p.base is))
+  plan_stops old new found journal fits h =
+      let first = based (setting over services) planned.chain.base in
+      elim (begins_splits first (onwards_if_ok next) old new found journal h) [
+        | inl b ↦ base_stops old new found journal fits b
+        | inr r ↦
+            let b = given_then Based in_base r.found_before r.part r.outcome (run_reads first old r.middle r.found_before r.part r.outcome r.runs) in
+            let on = on_begun b.0 r.middle new r.found_behind r.rest (subst (λ m. Begins (onwards_if_ok next m) r.middle r.found_behind r.rest new) b.2 r.begins) in
+            inl (stops_behind found r.found_before r.found_behind journal r.part r.rest b.0 fits r.finds r.parts b.1 on.0 on.1)
+      ]
 
-  answer_alone : (out : Answer) → Partial (Gives out)
-  answer_alone out new [] [] fits h = inr (inr refl)
-  answer_alone out new [] (e ∷ journal) fits h = absurd h
-  answer_alone out new (f ∷ found) journal fits h = absurd h
+  profile_stops : (old new : Option States) (found : List Value) (journal : List Pair) → EachFits journal → Begins (profile (setting over services)) old found journal new →
+      StopsBehind over found journal ⊎ StopsWithin over found journal
+  profile_stops old new found journal fits h = plan_stops old new found journal fits (subst (λ t. Begins t old found journal new) profile_is h)
 
-  abbrev Attempts : Type 0
-  Attempts = List (ProviderAttempt CredentialsError)
+  -- ---- as a member of the chain, where it is not passed over
 
-  abbrev behind_profile : List Member
-  behind_profile = WebIdentityToken ∷ EcsContainer ∷ Ec2InstanceMetadata ∷ []
+  member_is : profile (setting over services) ≡ member_tree (setting over services) Profile
+  unfolding member_tree
+  member_is = refl
 
-  module _ (plans : PlansSession (plan s.configuration (names_of s.sources)) session) where
-    profile_both : Both (member_tree s Profile)
-    unfolding member_tree profile
-    profile_both = planned_both (plan s.configuration (names_of s.sources)) plans
+  never_passed : {X : Type 0} (found : List Value) (part : List Pair) (given : Answer) (e : CredentialsError) → Reads (member_tree (setting over services) Profile) found part given →
+      passed (credentials_chain (setting over services)) given ≡ Some e → X
+  unfolding member_tree profile
+  never_passed found part given e h k =
+      let s = setting over services in
+      let was = passes_error s given e k in
+      at_odds (is_not_loaded_answer given) (ap is_not_loaded_answer was.0 ∙ was.1)
+      (planned_line s (plan over.configuration (names_of over.sources)) found part given h ∙ ap plan_is_passed_over planned.plans)
 
-    from_profile : (attempts : Attempts) → Partial (chain (credentials_chain s) (Profile ∷ behind_profile) attempts)
-    unfolding chain
-    from_profile attempts =
-        partial_then (member_tree s Profile) (λ out. go_on (credentials_chain s) (chain (credentials_chain s) behind_profile) Profile attempts out (passed (credentials_chain s) out))
-        profile_both.0 profile_both.1
+  chain_hands_on : (found : List Value) (journal : List Pair) (out : Answer) → EachFits journal → Resolves (setting over services) found journal out → HandsOn over found journal out ⊎ IsOfEnvironment over found journal out
+  chain_hands_on found journal out fits (inr h) =
+      let nothing = environment_asks (setting over services) found journal out h.0.reads in
+      inr (record { finds = nothing.0; asks = nothing.1; answers = nothing.2 })
+  chain_hands_on found journal out fits (inl h) =
+      let nothing = environment_asks (setting over services) h.0 h.2 h.4 h.8.reads in
+      let all : found ≡ h.1 = behind_none found h.0 h.1 h.6 nothing.0 in
+      let whole : journal ≡ h.3 = behind_none journal h.2 h.3 h.7 nothing.1 in
+      elim h.10 [
+        | inl k ↦ never_passed k.0 k.2 k.4 k.5 k.8.reads k.9
+        | inr k ↦
+            let reads = subst (λ t. Reads t h.1 h.3 out) (sym member_is) k.0.reads in
+            inl (subst (λ f. HandsOn over f journal out) (sym all) (subst (λ j. HandsOn over h.1 j out) (sym whole) (profile_hands_on h.1 h.3 out (subst EachFits whole fits) reads)))
+      ]
 
-    behind_environment : (out : Answer) (o : Option CredentialsError) → Partial (go_on (credentials_chain s) (chain (credentials_chain s) (Profile ∷ behind_profile)) Environment [] out o)
-    behind_environment out (Some e) = from_profile _
-    behind_environment out None = answer_alone out
+  abbrev Stops : List Value → List Pair → Type 0
+  Stops found journal = StopsBehind over found journal ⊎ StopsWithin over found journal
 
-    pub in_beginning : Partial (default_chain s)
-    unfolding chain member_tree
-    in_beginning =
-        let out = environment s.configuration.environment in
-        behind_environment out (passed (credentials_chain s) out)
+  stopped : (found : List Value) (journal : List Pair) → Stops found journal → StopsInSession over found journal
+  stopped found journal (inl b) = inl b
+  stopped found journal (inr w) = inr (inl w)
+
+  chain_stops : (old new : Option States) (found : List Value) (journal : List Pair) → EachFits journal → Begins (default_chain (setting over services)) old found journal new → StopsInSession over found journal
+  chain_stops old new found journal fits h =
+      let s = setting over services in
+      elim (chain_begun (credentials_chain s) default_members [] old new found journal h) [
+        | inr b ↦ inr (inr (inr (environment_begun s old new found journal b).1))
+        | inl g ↦
+            let nothing = environment_asks s g.0 g.2 g.5 (run_reads (member_tree s Environment) old g.4 g.0 g.2 g.5 g.9) in
+            let all : found ≡ g.1 = behind_none found g.0 g.1 g.7 nothing.0 in
+            let whole : journal ≡ g.3 = behind_none journal g.2 g.3 g.8 nothing.1 in
+            elim g.11 [
+              | inl k ↦ never_passed k.0 k.2 k.5 k.6 (run_reads (member_tree s Profile) g.4 k.4 k.0 k.2 k.5 k.9) k.10
+              | inr b ↦
+                  let begins = subst (λ t. Begins t g.4 g.1 g.3 new) (sym member_is) b in
+                  stopped found journal
+                  (subst (λ f. Stops f journal) (sym all) (subst (λ j. Stops g.1 j) (sym whole) (profile_stops g.4 new g.1 g.3 (subst EachFits whole fits) begins)))
+            ]
+      ]
+
+-- ---- any plan
+
+module _ (over : ChainSetting) (services : Services) where
+  kind : (Elsewhere (profile (setting over services)) × PlansNoSession (plan over.configuration (names_of over.sources))) ⊎ PlansSession over
+  unfolding profile
+  kind = elim (planned_session (setting over services) (plan over.configuration (names_of over.sources))) [
+    | inl n ↦ inl n
+    | inr k ↦ inr (record { chain = k.0; session = k.1; plans = k.2; begins = k.3 })
+  ]
+
+  passes_by : (tree : KeptInquiry Answer) (old new : Option States) (found : List Value) (journal : List Pair) → Elsewhere tree → PlansNoSession (plan over.configuration (names_of over.sources)) →
+      Begins tree old found journal new → PassesBySessions over found
+  passes_by tree old new found journal n none h = record { plans = none; found_none = begins_elsewhere tree old new found journal n h }
+
+  pub profile_reads : (found : List Value) (journal : List Pair) (out : Answer) → EachFits journal → Reads (profile (setting over services)) found journal out → ReadsSession over found journal out
+  profile_reads found journal out fits h =
+      let tree = profile (setting over services) in
+      elim kind [
+        | inl n ↦ inr (passes_by tree None None found journal n.0 n.1 (run_begins tree None None found journal out h))
+        | inr planned ↦ inl (profile_hands_on over services planned found journal out fits h)
+      ]
+
+  in_order : (found : List Value) (journal : List Pair) (out : Answer) → HandsOn over found journal out ⊎ IsOfEnvironment over found journal out → ChainReadsSession over found journal out
+  in_order found journal out (inl h) = inl (inl h)
+  in_order found journal out (inr e) = inr e
+
+  pub chain_reads : (found : List Value) (journal : List Pair) (out : Answer) → EachFits journal → Resolves (setting over services) found journal out → ChainReadsSession over found journal out
+  chain_reads found journal out fits h =
+      let s = setting over services in
+      elim kind [
+        | inl n ↦ inl (inr (passes_by (default_chain s) None None found journal (chain_elsewhere s n.0) n.1
+            (run_begins (default_chain s) None None found journal out (reads_resolved s found journal out h))))
+        | inr planned ↦ in_order found journal out (chain_hands_on over services planned found journal out fits h)
+      ]
+
+  pub profile_begun : (old new : Option States) (found : List Value) (journal : List Pair) → EachFits journal → Begins (profile (setting over services)) old found journal new → StopsInSession over found journal
+  profile_begun old new found journal fits h = elim kind [
+    | inl n ↦ inr (inr (inl (passes_by (profile (setting over services)) old new found journal n.0 n.1 h)))
+    | inr planned ↦ stopped over services planned found journal (profile_stops over services planned old new found journal fits h)
+  ]
+
+  pub chain_begun_in : (old new : Option States) (found : List Value) (journal : List Pair) → EachFits journal → Begins (default_chain (setting over services)) old found journal new → StopsInSession over found journal
+  chain_begun_in old new found journal fits h = elim kind [
+    | inl n ↦ inr (inr (inl (passes_by (default_chain (setting over services)) old new found journal (chain_elsewhere (setting over services) n.0) n.1 h)))
+    | inr planned ↦ chain_stops over services planned old new found journal fits h
+  ]
 
 -- ---- a call
 
-pub answered : {D : Type 0} (d : Ghosts D) (over : ChainSetting) (session : List ℕ) (old new : States) (found : List Value) (before later : Held D) (out : Answer) →
-    PlansSession (plan over.configuration (names_of over.sources)) session → Provides d over old new found before later out → ReadsSession over.configuration session found before.journal later.journal out
-answered d over session old new found before later out plans h = record {
-  journal = h.part;
-  grows = h.grows.journal;
-  begins = in_call (setting over h.call.services) session plans found h.part out h.grows.fits h.call.resolves;
-}
+module _ {D : Type 0} (d : Ghosts D) (over : ChainSetting) (old new : States) (found : List Value) (before later : Held D) where
+  abbrev Stopped : Type 0
+  Stopped = Gains before.journal later.journal (StopsInSession over found)
 
-pub interrupted : {D : Type 0} (d : Ghosts D) (over : ChainSetting) (session : List ℕ) (old new : States) (found : List Value) (before later : Held D) →
-    PlansSession (plan over.configuration (names_of over.sources)) session → Interrupted d over old new found before later → StopsInSession over.configuration session found before.journal later.journal
-interrupted d over session old new found before later plans (inl h) = record {
-  journal = [];
-  grows = ap (λ x. x.journal) h.0 ∙ sym (append-nil before.journal);
-  begins = inr (inr refl);
-}
-interrupted d over session old new found before later plans (inr h) = record {
-  journal = h.part;
-  grows = h.stays.journal;
-  begins = in_beginning (setting over h.services) session old plans (Some new) found h.part h.stays.fits h.begins;
-}
+  nothing : later ≡ before → Stopped
+  nothing same = record { part = []; grows = ap (λ x. x.journal) same ∙ sym (append-nil before.journal); said = inr (inr (inr refl)) }
+
+  pub answered : (out : Answer) → Provides d over old new found before later out → Gains before.journal later.journal (λ part. ChainReadsSession over found part out)
+  answered out h = record { part = h.part; grows = h.grows.journal; said = chain_reads over h.call.services found h.part out h.grows.fits h.call.resolves }
+
+  pub interrupted : Interrupted d over old new found before later → Stopped
+  interrupted (inl h) = nothing h.0
+  interrupted (inr h) = record { part = h.part; grows = h.stays.journal; said = chain_begun_in over h.services (Some old) (Some new) found h.part h.stays.fits h.begins }
+
+  pub by_profile : (out : Answer) → ProvidesByProfile d over old new found before later out → Gains before.journal later.journal (λ part. ReadsSession over found part out)
+  by_profile out h = record { part = h.part; grows = h.grows.journal; said = profile_reads over h.call.services found h.part out h.grows.fits h.call.reads }
+
+  pub profile_interrupted : InterruptedProfile d over old new found before later → Stopped
+  profile_interrupted (inl h) = nothing h.0
+  profile_interrupted (inr h) = record { part = h.part; grows = h.stays.journal; said = profile_begun over h.services (Some old) (Some new) found h.part h.stays.fits h.begins }

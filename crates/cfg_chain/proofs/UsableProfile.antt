@@ -6,6 +6,7 @@ use Rattle.cfg_types.specs.Keys.{Keys}
 use Rattle.cfg_types.specs.declared.errors.CredentialsError.{CredentialsError}
 use Rattle.cfg_world.specs.Fits.{Pair}
 use Rattle.cfg_world.specs.Inquiry.{Inquiry}
+use Rattle.cfg_kept.specs.Beginnings.{IsPrefix}
 use Rattle.cfg_kept.specs.Kinds.{Value}
 use Rattle.cfg_kept.specs.KeptInquiry.{KeptInquiry, Gives, Reads, lift, onwards_if_ok}
 use Rattle.cfg_kept.proofs.Splits.{lowered, split_onwards}
@@ -36,16 +37,16 @@ use Rattle.cfg_chain.specs.Settings.{Setting, named_metadata}
 use Rattle.cfg_chain.specs.profile.Bases.{by_container, unknown_source, built_in_source, source_or, named_source, profile_session, signed_on, base_tree, in_base, based}
 use Rattle.cfg_chain.specs.profile.Causes.{of_base}
 use Rattle.cfg_chain.specs.profile.Profiles.{marked, assumed, follows_planned}
-use Rattle.cfg_chain.specs.Valid.{Contents, IsText, HoldsHeaderValue, AreOfUse, IsStretch, GivesMetadata, IsBuiltInBy, IsSource, IsBase, IsFileOfBase}
+use Rattle.cfg_chain.specs.Valid.{Contents, IsText, HoldsHeaderValue, AreOfUse, GivesMetadata, IsBuiltInBy, IsSource, IsBase, IsFileOfBase}
 use Rattle.cfg_chain.proofs.UsableEntries.{Succeeds, done_succeeds, read_succeeds, rest_of_use, no_success}
 use Rattle.cfg_chain.proofs.UsableContainer.{container_succeeds}
 use Rattle.cfg_chain.proofs.UsableEnvironment.{keys_given}
 use Rattle.cfg_chain.proofs.UsableIdentities.{identity_succeeds, process_succeeds, roles_succeed}
-use Rattle.cfg_chain.proofs.Stretches.{first_stretch}
 
--- over answers of use the tree comes to a success, where this is asked of files, and nothing else stands in its way
+-- over answers of use the tree comes to a success, where this is asked of files, and nothing else stands in its way;
+-- what it finds and asks begins these values and this journal
 abbrev pub KeptSucceeds : {E : Type 0} → (Contents → Type 0) → KeptInquiry (Result Keys E) → (List Value → List Pair → Type 0) → Type 0
-KeptSucceeds {E} Files p Fine = (found whole : List Value) (part journal : List Pair) (out : Result Keys E) → IsStretch found whole → IsStretch part journal → Reads p found part out → AreOfUse Files part → Fine whole journal → is_ok out ≡ true
+KeptSucceeds {E} Files p Fine = (found whole : List Value) (part journal : List Pair) (out : Result Keys E) → IsPrefix found whole → IsPrefix part journal → Reads p found part out → AreOfUse Files part → Fine whole journal → is_ok out ≡ true
 
 module _ (s : Setting) where
   abbrev env : Variables
@@ -67,48 +68,48 @@ module _ (s : Setting) where
   found_answers (Some e) None out there h = no_success there
 
   pub metadata_succeeds : (m : MetadataSetting) → KeptSucceeds HoldsHeaderValue (metadata m) (GivesMetadata m)
-  metadata_succeeds m found whole part journal out mine stretch h uses gives = elim (gives found part out mine stretch h) [
+  metadata_succeeds m found whole part journal out begins starts h uses gives = elim (gives found part out begins starts h) [
     | inl kept ↦ found_answers (why_nothing m part) (retrieved_in found) out kept (metadata_cause m found part out h)
     | inr valid ↦ valid_gives m found part out h valid
   ]
 
   -- ---- the sources
 
-  choose : (b d m : Bool) (name : List ℕ) (found whole : List Value) (part journal : List Pair) (out : Answer) → IsStretch found whole → IsStretch part journal →
+  choose : (b d m : Bool) (name : List ℕ) (found whole : List Value) (part journal : List Pair) (out : Answer) → IsPrefix found whole → IsPrefix part journal →
       Reads (if b then lift (by_environment env) else (if d then lift (by_container s.configuration s.container) else (if m then metadata (named_metadata s) else Gives (unknown_source name)))) found part out →
       AreOfUse HoldsHeaderValue part → IsBuiltInBy s b d m whole journal → is_ok out ≡ true
-  choose true d m name found whole part journal out mine stretch h uses fine =
+  choose true d m name found whole part journal out begins starts h uses fine =
       lifted_succeeds HoldsHeaderValue (by_environment env) found part out (done_succeeds HoldsHeaderValue (environment env) (keys_given env fine)) h uses
-  choose false true m name found whole part journal out mine stretch h uses fine = lifted_succeeds HoldsHeaderValue (by_container s.configuration s.container) found part out (container_succeeds s fine) h uses
-  choose false false true name found whole part journal out mine stretch h uses fine = metadata_succeeds (named_metadata s) found whole part journal out mine stretch h uses fine
-  choose false false false name found whole part journal out mine stretch h uses fine = absurd fine
+  choose false true m name found whole part journal out begins starts h uses fine = lifted_succeeds HoldsHeaderValue (by_container s.configuration s.container) found part out (container_succeeds s fine) h uses
+  choose false false true name found whole part journal out begins starts h uses fine = metadata_succeeds (named_metadata s) found whole part journal out begins starts h uses fine
+  choose false false false name found whole part journal out begins starts h uses fine = absurd fine
 
   source_succeeds : (name : List ℕ) (own : Option Answer) → KeptSucceeds HoldsHeaderValue (source_or (built_in_source s name) own) (IsSource s name own)
   unfolding built_in_source
-  source_succeeds name (Some given) found whole part journal out mine stretch h uses fine = quiet_succeeds given found part out fine h
-  source_succeeds name None found whole part journal out mine stretch h uses fine =
-      choose (is_alike name (codes "Environment")) (is_alike name (codes "EcsContainer")) (is_alike name (codes "Ec2InstanceMetadata")) name found whole part journal out mine stretch h uses fine
+  source_succeeds name (Some given) found whole part journal out begins starts h uses fine = quiet_succeeds given found part out fine h
+  source_succeeds name None found whole part journal out begins starts h uses fine =
+      choose (is_alike name (codes "Environment")) (is_alike name (codes "EcsContainer")) (is_alike name (codes "Ec2InstanceMetadata")) name found whole part journal out begins starts h uses fine
 
   -- ---- the bases
 
   base_succeeds : (b : BaseProvider) → KeptSucceeds (IsFileOfBase b) (base_tree s b) (IsBase s b)
   unfolding base_tree named_source
-  base_succeeds (base.AccessKey keys) found whole part journal out mine stretch h uses fine = quiet_succeeds (Ok keys) found part out refl h
-  base_succeeds (base.NamedSource name) found whole part journal out mine stretch h uses fine = source_succeeds name (last_named name s.sources) found whole part journal out mine stretch h uses fine
-  base_succeeds (base.WebIdentityTokenRole arn file session) found whole part journal out mine stretch h uses fine =
+  base_succeeds (base.AccessKey keys) found whole part journal out begins starts h uses fine = quiet_succeeds (Ok keys) found part out refl h
+  base_succeeds (base.NamedSource name) found whole part journal out begins starts h uses fine = source_succeeds name (last_named name s.sources) found whole part journal out begins starts h uses fine
+  base_succeeds (base.WebIdentityTokenRole arn file session) found whole part journal out begins starts h uses fine =
       let identity : WebIdentity = record { web_identity_token_file = file; role_arn = arn; session_name = session } in
       lifted_succeeds IsText (assumes_by_web_identity s.configuration profile_session identity no_policies) found part out (identity_succeeds s.configuration identity no_policies profile_session) h uses
-  base_succeeds (base.CredentialProcess command account) found whole part journal out mine stretch h uses fine =
+  base_succeeds (base.CredentialProcess command account) found whole part journal out begins starts h uses fine =
       lifted_succeeds (IsFileOfBase (base.CredentialProcess command account)) (credential_process command account) found part out (process_succeeds (IsFileOfBase (base.CredentialProcess command account)) command account) h uses
-  base_succeeds (base.Sso session region url (Some account) (Some role)) found whole part journal out mine stretch h uses fine =
+  base_succeeds (base.Sso session region url (Some account) (Some role)) found whole part journal out begins starts h uses fine =
       let sso = signed_on session region url account role in
       let cause = sso_cause s.configuration sso found part out h in
-      nothing_in_the_way s.configuration sso found part out cause (fine found part out mine stretch cause)
-  base_succeeds (base.Sso session region url (Some account) None) found whole part journal out mine stretch h uses fine = absurd fine
-  base_succeeds (base.Sso session region url None (Some role)) found whole part journal out mine stretch h uses fine = absurd fine
-  base_succeeds (base.Sso session region url None None) found whole part journal out mine stretch h uses fine = absurd fine
-  base_succeeds (base.LoginSession session) found whole part journal out mine stretch h uses fine =
-      sign_in_succeeds s.configuration session by.Profile found part out (sign_in_cause s.configuration session by.Profile found part out h) (fine found part out mine stretch h)
+      nothing_in_the_way s.configuration sso found part out cause (fine found part out begins starts cause)
+  base_succeeds (base.Sso session region url (Some account) None) found whole part journal out begins starts h uses fine = absurd fine
+  base_succeeds (base.Sso session region url None (Some role)) found whole part journal out begins starts h uses fine = absurd fine
+  base_succeeds (base.Sso session region url None None) found whole part journal out begins starts h uses fine = absurd fine
+  base_succeeds (base.LoginSession session) found whole part journal out begins starts h uses fine =
+      sign_in_succeeds s.configuration session by.Profile found part out (sign_in_cause s.configuration session by.Profile found part out h) (fine found part out begins starts h)
 
   in_base_fine : (keys : Keys) → is_ok (in_base (Ok keys)) ≡ true
   unfolding in_base
@@ -122,22 +123,21 @@ module _ (s : Setting) where
   unfolding assumed
   assumed_succeeds Files p keys = read_succeeds Files (assumes_roles (settings_of s.configuration) p.roles keys) marked (roles_succeed (settings_of s.configuration) Files p.roles keys) marked_fine
 
-  by_given : (p : ProfileChain) (given out : Answer) (found first_found then_found whole : List Value) (part first rest journal : List Pair) → found ≡ first_found ++ then_found → part ≡ first ++ rest →
-      IsStretch found whole → IsStretch part journal → Reads (base_tree s p.base) first_found first given → Reads (onwards_if_ok (λ keys. lift (assumed s.configuration p.roles keys)) (in_base given)) then_found rest out →
-      AreOfUse (IsFileOfBase p.base) part → IsBase s p.base whole journal → is_ok out ≡ true
+  by_given : (p : ProfileChain) (given out : Answer) (found first_found then_found : List Value) (part first rest : List Pair) → found ≡ first_found ++ then_found → part ≡ first ++ rest →
+      Reads (base_tree s p.base) first_found first given → Reads (onwards_if_ok (λ keys. lift (assumed s.configuration p.roles keys)) (in_base given)) then_found rest out →
+      AreOfUse (IsFileOfBase p.base) part → IsBase s p.base found part → is_ok out ≡ true
   unfolding in_base
-  by_given p (Ok keys) out found first_found then_found whole part first rest journal finds parts mine stretch reads behind uses fine =
+  by_given p (Ok keys) out found first_found then_found part first rest finds parts reads behind uses fine =
       lifted_succeeds (IsFileOfBase p.base) (assumed s.configuration p.roles keys) then_found rest out (assumed_succeeds (IsFileOfBase p.base) p keys) behind
       (rest_of_use (IsFileOfBase p.base) first rest (subst (AreOfUse (IsFileOfBase p.base)) parts uses))
-  by_given p (Err e) out found first_found then_found whole part first rest journal finds parts mine stretch reads behind uses fine =
+  by_given p (Err e) out found first_found then_found part first rest finds parts reads behind uses fine =
       let alone = whole_part part first rest parts (given_is (Err (of_base e)) out then_found rest behind).1 in
-      no_success (base_succeeds p.base first_found whole first journal (Err e) (first_stretch found first_found then_found whole finds mine) (first_stretch part first rest journal parts stretch) reads
-      (subst (AreOfUse (IsFileOfBase p.base)) alone uses) fine)
+      no_success (base_succeeds p.base first_found found first part (Err e) (then_found, finds) (rest, parts) reads (subst (AreOfUse (IsFileOfBase p.base)) alone uses) fine)
 
-  pub plan_succeeds : (p : ProfileChain) → KeptSucceeds (IsFileOfBase p.base) (follows_planned s p) (IsBase s p.base)
+  pub plan_succeeds : (p : ProfileChain) (found : List Value) (part : List Pair) (out : Answer) → Reads (follows_planned s p) found part out → AreOfUse (IsFileOfBase p.base) part → IsBase s p.base found part → is_ok out ≡ true
   unfolding follows_planned based
-  plan_succeeds p found whole part journal out mine stretch h uses fine =
+  plan_succeeds p found part out h uses fine =
       let r = split_onwards (based s p.base) (onwards_if_ok (λ keys. lift (assumed s.configuration p.roles keys))) found part out h in
       let b = given_then (base_tree s p.base) in_base r.found_first r.part r.middle r.first in
-      by_given p b.0 out found r.found_first r.found_then whole part r.part r.rest journal r.finds r.parts mine stretch b.1
+      by_given p b.0 out found r.found_first r.found_then part r.part r.rest r.finds r.parts b.1
       (subst (λ m. Reads (onwards_if_ok (λ keys. lift (assumed s.configuration p.roles keys)) m) r.found_then r.rest out) b.2 r.then) uses fine

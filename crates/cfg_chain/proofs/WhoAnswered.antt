@@ -34,7 +34,7 @@ same_error e f true h = (refl, cc)
 same_error e f false h = cc
 
 -- a member that is passed over gave an error, and was not loaded
-passes_error : (s : Setting) (out : Answer) (e : CredentialsError) → passed (credentials_chain s) out ≡ Some e → (out ≡ Err e) × (is_not_loaded e ≡ true)
+pub passes_error : (s : Setting) (out : Answer) (e : CredentialsError) → passed (credentials_chain s) out ≡ Some e → (out ≡ Err e) × (is_not_loaded e ≡ true)
 passes_error s (Ok keys) e h = cc
 passes_error s (Err f) e h = let p = same_error f e (is_not_loaded f) h in (ap Err p.1, ap is_not_loaded (sym p.1) ∙ p.0)
 

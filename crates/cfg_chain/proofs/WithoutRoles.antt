@@ -1,6 +1,7 @@
 -- What never asks IAM Identity Center for the credentials of a role.
 use Rattle.std.proofs.Common.{◌≡◌, ℕ, zero, suc, List, [], ◌∷◌, Bool, true, false, Option, Some, None, Result, Ok, Err, refl}
 use Rattle.std.specs.Prelude.{◌-◌, if◌then◌else◌}
+use Rattle.cfg_types.specs.Environment.{Variables}
 use Rattle.cfg_types.specs.Keys.{Keys}
 use Rattle.cfg_types.specs.declared.errors.CredentialsError.{CredentialsError}
 use Rattle.cfg_types.specs.declared.errors.imds.ImdsError.{ImdsError}
@@ -41,16 +42,15 @@ use Rattle.cfg_profile.specs.declared.chain.RoleArn.{RoleArn}
 use Rattle.cfg_profile.specs.Configuration.{Configuration}
 use Rattle.cfg_profile.specs.Settings.{settings_of}
 use Rattle.cfg_providers.specs.declared.web_identity_token.SessionPolicies.{SessionPolicies}
+use Rattle.cfg_providers.specs.declared.web_identity_token.StaticConfiguration.{StaticConfiguration}
 use Rattle.cfg_providers.specs.declared.web_identity_token.WebIdentity.{WebIdentity}
 use Rattle.cfg_providers.specs.AssumeRole.{role_session, exchange, assumes, assumes_roles}
 use Rattle.cfg_providers.specs.CustomSources.{Answer}
 use Rattle.cfg_providers.specs.SessionNames.{session_name}
 use Rattle.cfg_providers.specs.WebIdentities as identities
-use Rattle.cfg_providers.specs.WebIdentities.{no_policies, identity_of, identity_token, with_name, assumes_by_web_identity, by_identity, web_identity}
+use Rattle.cfg_providers.specs.WebIdentities.{identity_of, identity_token, with_name, assumes_by_web_identity, by_identity, web_identity}
 use Rattle.cfg_sso.specs.RoleRequests.{is_role_request}
 use Rattle.cfg_sso.proofs.NoRoleAsked.{NeverAsks, onwards_without, after_without, bound_without, asked_bound_without, holding_without}
-use Rattle.cfg_chain.specs.Settings.{container_settings}
-use Rattle.cfg_chain.specs.profile.Bases.{by_container}
 use Rattle.cfg_chain.specs.profile.Profiles.{marked, assumed}
 
 -- ---- attempts
@@ -100,7 +100,7 @@ module _ (conf : Configuration) (policies : SessionPolicies) where
   unfolding identity_token reading_file
   file_without file = (refl, λ a. tt)
 
-  assumed_without : (base : List ℕ) (identity : WebIdentity) → NeverAsks (lift (assumes_by_web_identity conf base identity policies))
+  pub assumed_without : (base : List ℕ) (identity : WebIdentity) → NeverAsks (lift (assumes_by_web_identity conf base identity policies))
   unfolding assumes_by_web_identity
   assumed_without base identity =
       after_without (session_name base identity.session_name) (with_name conf identity policies) (name_without base identity.session_name) (λ name.
@@ -110,9 +110,9 @@ module _ (conf : Configuration) (policies : SessionPolicies) where
   identity_without (Ok identity) = assumed_without _ identity
   identity_without (Err e) = tt
 
-pub web_identity_without : (conf : Configuration) → NeverAsks (lift (web_identity conf None no_policies))
+pub web_identity_without : (conf : Configuration) (given : Option StaticConfiguration) (policies : SessionPolicies) → NeverAsks (lift (web_identity conf given policies))
 unfolding web_identity
-web_identity_without conf = identity_without conf no_policies (identity_of conf.environment None)
+web_identity_without conf given policies = identity_without conf policies (identity_of conf.environment given)
 
 -- ---- a container
 
@@ -149,11 +149,9 @@ keys_without settings token target =
     after_without (credentials_attempts settings call) (λ last. Done (answer_keys last.1))
     (attempts_without (attempt_limit settings.sleep - 1) (Send (request.Http call)) (is_repeated kind.Document credentials_repeats) refl) (λ last. tt)
 
-pub container_without : (conf : Configuration) (place : ContainerUri) → NeverAsks (lift (by_container conf place))
+pub container_without : (env : Variables) (settings : ContainerSettings) (place : ContainerUri) → NeverAsks (lift (container env settings place))
 unfolding container auth_token
-container_without conf place =
-    let env = conf.environment in
-    let settings = container_settings conf in
+container_without env settings place =
     asked_bound_without (auth_token env) (with_token settings place) (token_by_without (token_file env) (token_text env)) (λ token.
     asked_bound_without (container_target settings.dns place) (fetched_keys settings token) (target_without settings.dns place) (keys_without settings token))
 
@@ -221,7 +219,7 @@ module _ (client : ClientRules) (place : Place) where
   settled_without (Ok keys) = tt
   settled_without (Err e) = λ found. tt
 
-choice_without : {R : Type 0} (b : Bool) (p q : KeptInquiry R) → NeverAsks p → NeverAsks q → NeverAsks (if b then p else q)
+pub choice_without : {R : Type 0} (b : Bool) (p q : KeptInquiry R) → NeverAsks p → NeverAsks q → NeverAsks (if b then p else q)
 choice_without true p q n m = n
 choice_without false p q n m = m
 

@@ -7,9 +7,12 @@ pub mod Members
 pub mod Resolves
 pub mod PassedOver
 pub mod Causes
+pub mod MemberErrors
 pub mod Valid
 pub mod Provides
 pub mod Setups
 pub mod Callers
 pub mod SignOns
 pub mod Sessions
+pub mod SafeCalls
+pub mod BegunCalls

@@ -7,7 +7,8 @@ use Rattle.cfg_profile.specs.declared.chain.BaseProvider.TheVariants as base
 use Rattle.cfg_profile.specs.Configuration.{Configuration}
 use Rattle.cfg_sso.specs.declared.config.SsoProviderConfig.{SsoProviderConfig}
 use Rattle.cfg_sso.specs.RoleRequests.{AsksNoRole, SendsOnce}
-use Rattle.cfg_chain.specs.profile.Plans.{Planned}
+use Rattle.cfg_chain.specs.Settings.{ChainSetting, names_of}
+use Rattle.cfg_chain.specs.profile.Plans.{Planned, plan}
 use Rattle.cfg_chain.specs.profile.Bases.{signed_on}
 
 -- The base is this role of an account, of IAM Identity Center.
@@ -32,8 +33,12 @@ pub record AsksOnce (conf : Configuration) (sso : SsoProviderConfig) (found : Li
   pub sends : SendsOnce conf sso found_first part
   pub alone : AsksNoRole rest
 
--- The same of the stretch by which the journal grew, or it has no such request at all.
-pub record SignsOn (conf : Configuration) (sso : SsoProviderConfig) (found : List Value) (before later : List Pair) : Type 0 where
-  pub journal : List Pair
-  pub grows : later ≡ before ++ journal
-  pub asks : AsksOnce conf sso found journal ⊎ AsksNoRole journal
+-- The plan of the selected profile begins with a role, and this role is asked for once.
+pub record AsksForRole (over : ChainSetting) (found : List Value) (journal : List Pair) : Type 0 where
+  pub sso : SsoProviderConfig
+  pub plans : PlansSignOn (plan over.configuration (names_of over.sources)) sso
+  pub asks : AsksOnce over.configuration sso found journal
+
+-- So it is, or there is no such request at all.
+abbrev pub SignsOn : ChainSetting → List Value → List Pair → Type 0
+SignsOn over found journal = AsksForRole over found journal ⊎ AsksNoRole journal

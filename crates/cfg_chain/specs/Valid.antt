@@ -28,6 +28,7 @@ use Rattle.cfg_exchange.specs.declared.full_uri.FullUri.TheVariants.{Secure, AtA
 use Rattle.cfg_exchange.specs.Addresses.{is_allowed}
 use Rattle.cfg_exchange.specs.Containers.{token_file, token_text, answer_keys}
 use Rattle.cfg_exchange.specs.HeaderValues.{is_header_value}
+use Rattle.cfg_kept.specs.Beginnings.{IsPrefix}
 use Rattle.cfg_kept.specs.Kinds.{Value}
 use Rattle.cfg_kept.specs.KeptInquiry.{Reads}
 use Rattle.cfg_imds_credentials.specs.Settings.{MetadataSetting}
@@ -161,24 +162,23 @@ pub record IsContainer (s : Setting) : Type 0 where
   pub address : IsAddress s.container
   pub token : HasToken (token_file s.configuration.environment) (token_text s.configuration.environment)
 
--- A stretch of a list.
-abbrev pub IsStretch : {A : Type 0} → List A → List A → Type 0
-IsStretch {A} stretch whole = (before : List A) × (behind : List A) × (whole ≡ before ++ (stretch ++ behind))
+-- What a base finds and asks begins the values that a call finds and its journal: the environment and the plan find
+-- and ask nothing. Over one call a base comes to its end over one such beginning alone, which is its own part.
 
--- Over the stretch of the journal in which the instance metadata service is asked, nothing stands in the
--- way, or retrieved credentials are found there.
+-- Over the part in which the instance metadata service is asked, nothing stands in the way, or retrieved
+-- credentials are found there.
 abbrev pub GivesMetadata : MetadataSetting → List Value → List Pair → Type 0
-GivesMetadata m found journal = (mine : List Value) (part : List Pair) (given : Answer) → IsStretch mine found → IsStretch part journal → Reads (metadata m) mine part given →
+GivesMetadata m found journal = (mine : List Value) (part : List Pair) (given : Answer) → IsPrefix mine found → IsPrefix part journal → Reads (metadata m) mine part given →
     IsSome (retrieved_in mine) ⊎ usable.IsValid m part
 
--- Over the stretch in which IAM Identity Center is asked, nothing stands in the way.
+-- Over the part in which IAM Identity Center is asked, nothing stands in the way.
 abbrev pub GivesSignOn : Configuration → SsoProviderConfig → List Value → List Pair → Type 0
-GivesSignOn conf sso found journal = (mine : List Value) (part : List Pair) (given : Answer) → IsStretch mine found → IsStretch part journal → (cause : SsoCause conf sso mine part given) →
+GivesSignOn conf sso found journal = (mine : List Value) (part : List Pair) (given : Answer) → IsPrefix mine found → IsPrefix part journal → (cause : SsoCause conf sso mine part given) →
     NothingInTheWay conf sso mine cause.token_part cause.role_part
 
--- Over the stretch in which the token of a sign-in session is looked at, nothing stands in the way.
+-- Over the part in which the token of a sign-in session is looked at, nothing stands in the way.
 abbrev pub GivesSignIn : Configuration → List ℕ → List Value → List Pair → Type 0
-GivesSignIn conf session found journal = (mine : List Value) (part : List Pair) (given : Answer) → IsStretch mine found → IsStretch part journal → Reads (sign_in_credentials conf session by.Profile) mine part given →
+GivesSignIn conf session found journal = (mine : List Value) (part : List Pair) (given : Answer) → IsPrefix mine found → IsPrefix part journal → Reads (sign_in_credentials conf session by.Profile) mine part given →
     sign_in.NothingInTheWay conf mine part
 
 -- by whether the name is that of the environment, of a container, of instance metadata
@@ -204,10 +204,22 @@ IsBase s (base.Sso session region url (Some account) (Some role)) found journal 
 IsBase s (base.LoginSession session) found journal = GivesSignIn s.configuration session found journal
 IsBase s _ found journal = ⊥
 
+-- what is asked behind a container that the variables do not name: where a file holds its token, this is read
+-- before, and nothing else
+abbrev pub behind_container : Option (List ℕ) → List Pair → List Pair
+behind_container (Some path) (read ∷ rest) = rest
+behind_container _ journal = journal
+
+-- The variables name no container, its token is fine, and behind it the instance metadata service gives something.
+pub record GivesBehindContainer (s : Setting) (found : List Value) (journal : List Pair) : Type 0 where
+  pub unset : s.container ≡ uri.NotSet
+  pub token : HasToken (token_file s.configuration.environment) (token_text s.configuration.environment)
+  pub metadata : GivesMetadata (chain_metadata s) found (behind_container (token_file s.configuration.environment) journal)
+
 -- The variables name a web identity, or a container that can be asked; or no container, and the instance
 -- metadata service gives something.
 abbrev pub GivesBehindProfile : Setting → List Value → List Pair → Type 0
-GivesBehindProfile s found journal = IsOk (identity_in s.configuration.environment) ⊎ (IsContainer s ⊎ ((s.container ≡ uri.NotSet) × HasToken (token_file s.configuration.environment) (token_text s.configuration.environment) × GivesMetadata (chain_metadata s) found journal))
+GivesBehindProfile s found journal = IsOk (identity_in s.configuration.environment) ⊎ (IsContainer s ⊎ GivesBehindContainer s found journal)
 
 -- The selected profile has a base with something to give; or it is passed over, and a member behind it
 -- has.

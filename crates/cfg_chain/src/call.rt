@@ -26,7 +26,8 @@ pub struct ChainCall<'a> {
 
 /// The client that the chain was given, and else the configuration's.
 pub(crate) fn given_or<'a>(given: Option<&'a Client>, own: &'a Client) -> &'a Client
-    ensures { client_rules repeated result.now ≡ given_or_own (option_map (λ c. client_rules repeated c) (option_copied given.entry)) (client_rules repeated own.now) }
+    ensures { client_rules repeated result.now ≡
+        given_or_own (option_map (λ c. client_rules repeated c) (option_copied given.entry)) (client_rules repeated own.now) }
 {
     match given {
         Some(client) => client,

@@ -1,12 +1,17 @@
 //! Laws of chains, each on a call that carries it.
-ghost use Rattle.std.specs.Prelude.{◌≡◌, ◌↔◌, ℕ, List, true, is_ok, Option, Result, Ok};
+ghost use Rattle.std.specs.Prelude.{◌≡◌, ◌≢◌, ◌↔◌, ◌⊎◌, ◌++◌, ◌∷◌, [], ℕ, List, true, false, is_ok, Option, Some, Result, Ok, Err};
+ghost use Rattle.cfg_types.specs.Classes.{is_memory};
+ghost use Rattle.cfg_types.specs.declared.errors.CredentialsError.{CredentialsError};
+ghost use Rattle.cfg_types.specs.declared.errors.CredentialsError.TheVariants.{ProviderTimedOut};
 ghost use Rattle.cfg_types.specs.declared.errors.ProviderAttempt.{ProviderAttempt};
 ghost use Rattle.cfg_world.specs.Fits.{Pair};
+ghost use Rattle.cfg_world.specs.Agreeing.{AnswerAlike};
 ghost use Rattle.cfg_world.specs.Held.{Held};
 ghost use Rattle.cfg_world.specs.declared.script.DeviceLists.{DeviceLists as Lists};
 ghost use Rattle.cfg_world.specs.Script.{Place, Given};
 ghost use Rattle.cfg_kept.specs.Kinds.{Value, States};
 ghost use Rattle.cfg_kept.specs.KeptInquiry.{Reads, Begins};
+ghost use Rattle.cfg_kept.specs.Beginnings.{GoesOn};
 ghost use Rattle.cfg_profile.specs.Configuration.{Configuration};
 ghost use Rattle.cfg_profile.specs.declared.chain.ProfileChain.{ProfileChain};
 ghost use Rattle.cfg_profile.specs.NamedSources.{IsPlan};
@@ -22,16 +27,29 @@ ghost use Rattle.cfg_chain.specs.declared.member.Member.TheVariants.{EcsContaine
 ghost use Rattle.cfg_exchange.specs.ContainerRequests.{IsSafeQuestion, look_ups};
 ghost use Rattle.cfg_exchange.specs.Containers.{IsContainerUri};
 ghost use Rattle.cfg_chain.specs.Causes.{Cause};
+ghost use Rattle.cfg_chain.specs.MemberErrors.{IsErrorOf, IsErrorOfCall};
 ghost use Rattle.cfg_chain.specs.PassedOver.{IsPassedOver, PassesByTable};
 ghost use Rattle.cfg_chain.specs.Resolves.{Resolves};
-ghost use Rattle.cfg_chain.specs.Valid.{IsValid};
+ghost use Rattle.cfg_chain.specs.Valid.{IsValid, GivesSignOn};
+ghost use Rattle.cfg_types.specs.Replies.{role_in};
+ghost use Rattle.cfg_world.specs.Leaves.{granted_of};
+ghost use Rattle.cfg_token.specs.declared.token_key.TokenKey.{TokenKey};
+ghost use Rattle.cfg_token.specs.Readings.{IsHit};
+ghost use Rattle.cfg_token.specs.SsoTokens.{sso_rules};
+ghost use Rattle.cfg_kept.specs.SsoHoldings.{sso_spot};
+ghost use Rattle.cfg_sso.specs.InNoWay.{IsGranted};
+ghost use Rattle.cfg_sso.specs.Tokens.{sso_key};
 ghost use Rattle.cfg_chain.specs.Provides.{IsCall, Provides, Interrupted};
+ghost use Rattle.cfg_chain.specs.BegunCalls.{IsBegunCall, HasBegun, HasEnded, CallAsksOne};
 ghost use Rattle.cfg_chain.specs.Callers.{TellsWho};
-ghost use Rattle.cfg_chain.specs.SignOns.{PlansSignOn, SignsOn};
-ghost use Rattle.cfg_chain.specs.Sessions.{PlansSession, ReadsSession, StopsInSession};
+ghost use Rattle.cfg_exchange.specs.Gains.{Gains};
 ghost use Rattle.cfg_sso.specs.declared.config.SsoProviderConfig.{SsoProviderConfig as SignOn};
+ghost use Rattle.cfg_chain.specs.SignOns.{SignsOn};
+ghost use Rattle.cfg_chain.specs.Sessions.{ReadsSession, ChainReadsSession, StopsInSession};
+ghost use Rattle.cfg_chain.specs.profile.Provides.{ProvidesByProfile, InterruptedProfile};
 ghost use Rattle.cfg_chain.specs.profile.Bases.{CanBeAsked};
 ghost use Rattle.cfg_chain.specs.profile.Plans.{Planned, profile_plan, plan, key_of_plan, key_of};
+ghost use Rattle.cfg_chain.specs.SafeCalls.{ChainAsksSafely};
 
 use cfg_world::Devices;
 
@@ -55,6 +73,21 @@ pub fn members_have_causes()
         Reads (member_tree s member) found part out → Cause s member found part out }
 {}
 
+/// An error of a member is one of its line, by the cause that stands outermost, unless memory ran out.
+pub fn members_have_errors_of_their_own()
+    ensures { (s : Setting) (member : Member) (found : List Value) (part : List Pair) (e : CredentialsError) →
+        Reads (member_tree s member) found part (Err e) → is_memory (Err e) ≡ false → IsErrorOf member e }
+{}
+
+/// The error of a call is that none of the members was loaded, or one of the line of a member, unless memory ran
+/// out. It is never that a provider timed out.
+pub fn a_call_has_no_other_errors<D: Devices>()
+    ensures of_members { (over : ChainSetting) (old new : States) (found : List Value) (before later : Held D) (e : CredentialsError) →
+        Provides ⟦<D as Devices>⟧ over old new found before later (Err e) → is_memory (Err e) ≡ false → IsErrorOfCall e }
+    ensures in_time { (over : ChainSetting) (old new : States) (found : List Value) (before later : Held D) (out : Answer) →
+        Provides ⟦<D as Devices>⟧ over old new found before later out → out ≢ Err ProviderTimedOut }
+{}
+
 /// A member is passed over by its line of the table, and by nothing else, where the address of a
 /// container is the one that the variables name.
 pub fn members_are_passed_over_by_the_table()
@@ -72,6 +105,34 @@ pub fn a_container_member_asks_safe_targets()
         AllByRecursion (λ e. IsSafeQuestion s.configuration.environment (look_ups part) e.0) part }
 {}
 
+/// Over one setting of a chain and from one kept state there is one journal: two calls of the default chain
+/// whose answers agree as far as both ask the same have the same journal, find the same values, come to the
+/// same outcome, and leave the same.
+pub fn one_journal()
+    ensures { (over : ChainSetting) (old new newer : States) (found more : List Value) (one other : List Pair) (x y : Answer) →
+        IsCall over old new found one x → IsCall over old newer more other y → AnswerAlike one other →
+        (one ≡ other) × (found ≡ more) × (x ≡ y) × (new ≡ newer) }
+{}
+
+/// A call that has begun, as one for which memory ran out, is a prefix of each call from the same kept state
+/// whose answers agree.
+pub fn a_beginning_is_a_prefix()
+    ensures { (over : ChainSetting) (old new newer : States) (found more : List Value) (one other : List Pair) (x : Answer) →
+        IsBegunCall over old new found one → IsCall over old newer more other x → AnswerAlike one other → GoesOn found one more other }
+{}
+
+/// Each prefix of a call's journal is that of a call that has begun.
+pub fn a_prefix_is_a_beginning()
+    ensures { (over : ChainSetting) (old new : States) (found : List Value) (one rest : List Pair) (out : Answer) →
+        IsCall over old new found (one ++ rest) out → HasBegun over old one }
+{}
+
+/// A call that has begun came to its end, or asks exactly one question next, and never both.
+pub fn one_question_is_next()
+    ensures { (over : ChainSetting) (old new : States) (found : List Value) (part : List Pair) →
+        IsBegunCall over old new found part → HasEnded over old part ⊎ CallAsksOne over old part }
+{}
+
 /// Over one setting of a chain, one kept state and one script of devices, from one place, the call of the
 /// default chain has one journal and one answer, finds the same values, and leaves the same.
 pub fn one_script_one_call()
@@ -86,6 +147,15 @@ pub fn one_script_one_call()
 pub fn nothing_in_the_way_gives_credentials()
     ensures { (s : Setting) (found : List Value) (journal : List Pair) (out : Answer) →
         IsContainerUri s.configuration.environment s.container → Resolves s found journal out → IsValid s found journal → is_ok out ≡ true }
+{}
+
+/// Where the token of a session is found kept, and is not to be refreshed yet by the first reading of the clock,
+/// nothing stands in the way of IAM Identity Center where its one request is granted, whatever is found and asked
+/// behind that.
+pub fn a_kept_token_is_enough()
+    ensures { (conf : Configuration) (sso : SignOn) (key : TokenKey) (value : Value) (found : List Value) (reading reply : Pair) (rest : List Pair) →
+        sso_key sso ≡ Some key → IsHit sso_rules (sso_spot.token_in value).token (reading ∷ []) → IsGranted (granted_of role_in reply.1) →
+        GivesSignOn conf sso (value ∷ found) (reading ∷ (reply ∷ rest)) }
 {}
 
 /// The plan of a profile is what its path gives, where the caller has sources of these names. There is
@@ -116,28 +186,55 @@ pub fn a_call_tells_who_answered<D: Devices>()
         Provides ⟦<D as Devices>⟧ over old new found before later out → TellsWho over found before.journal later.journal out }
 {}
 
-/// Where the selected profile's plan begins with a role of IAM Identity Center, a call sends at most one
-/// `GetRoleCredentials`, with the token that the part before it gave, which ends after the last reading of
-/// the clock in this part. It holds of a call for which memory ran out, too.
+/// A call sends no `GetRoleCredentials`; or the selected profile's plan begins with a role of IAM Identity Center, and
+/// the call sends one, with the token that the part before it gave, which ends after the last reading of the clock in
+/// this part. It holds of the default chain and of the provider of a profile, and of a call for which memory ran out,
+/// too.
 pub fn a_call_sends_no_expired_token<D: Devices>()
-    ensures answered { (over : ChainSetting) (sso : SignOn) (old new : States) (found : List Value) (before later : Held D) (out : Answer) →
-        PlansSignOn (plan over.configuration (names_of over.sources)) sso → Provides ⟦<D as Devices>⟧ over old new found before later out →
-        SignsOn over.configuration sso found before.journal later.journal }
-    ensures interrupted { (over : ChainSetting) (sso : SignOn) (old new : States) (found : List Value) (before later : Held D) →
-        PlansSignOn (plan over.configuration (names_of over.sources)) sso → Interrupted ⟦<D as Devices>⟧ over old new found before later →
-        SignsOn over.configuration sso found before.journal later.journal }
+    ensures answered { (over : ChainSetting) (old new : States) (found : List Value) (before later : Held D) (out : Answer) →
+        Provides ⟦<D as Devices>⟧ over old new found before later out → Gains before.journal later.journal (SignsOn over found) }
+    ensures interrupted { (over : ChainSetting) (old new : States) (found : List Value) (before later : Held D) →
+        Interrupted ⟦<D as Devices>⟧ over old new found before later → Gains before.journal later.journal (SignsOn over found) }
+    ensures by_profile { (over : ChainSetting) (old new : States) (found : List Value) (before later : Held D) (out : Answer) →
+        ProvidesByProfile ⟦<D as Devices>⟧ over old new found before later out → Gains before.journal later.journal (SignsOn over found) }
+    ensures profile_interrupted { (over : ChainSetting) (old new : States) (found : List Value) (before later : Held D) →
+        InterruptedProfile ⟦<D as Devices>⟧ over old new found before later → Gains before.journal later.journal (SignsOn over found) }
 {}
 
-/// Where the selected profile's plan begins with a sign-in session, a call asks nothing, and is answered by the
-/// environment; or its journal begins with the session's part. Credentials that this part gives end after its
-/// last reading of the clock. A call for which memory ran out may also have stopped within this part.
+/// A call looks at no sign-in session; or the selected profile's plan begins with one, and the call's journal is the
+/// part of this session and what comes of it: credentials that the part gives end after its last reading of the clock,
+/// and the roles are assumed with them; an error is told as that of the base. Or the environment answered, and nothing
+/// was asked. Of the provider of a profile the same holds without the environment. A call for which memory ran out
+/// may also have stopped within the session's part, or before anything was asked.
 pub fn a_call_reads_no_expired_session<D: Devices>()
-    ensures answered { (over : ChainSetting) (session : List ℕ) (old new : States) (found : List Value) (before later : Held D) (out : Answer) →
-        PlansSession (plan over.configuration (names_of over.sources)) session →
+    ensures answered { (over : ChainSetting) (old new : States) (found : List Value) (before later : Held D) (out : Answer) →
         Provides ⟦<D as Devices>⟧ over old new found before later out →
-        ReadsSession over.configuration session found before.journal later.journal out }
-    ensures interrupted { (over : ChainSetting) (session : List ℕ) (old new : States) (found : List Value) (before later : Held D) →
-        PlansSession (plan over.configuration (names_of over.sources)) session →
-        Interrupted ⟦<D as Devices>⟧ over old new found before later →
-        StopsInSession over.configuration session found before.journal later.journal }
+        Gains before.journal later.journal (λ part. ChainReadsSession over found part out) }
+    ensures interrupted { (over : ChainSetting) (old new : States) (found : List Value) (before later : Held D) →
+        Interrupted ⟦<D as Devices>⟧ over old new found before later → Gains before.journal later.journal (StopsInSession over found) }
+    ensures by_profile { (over : ChainSetting) (old new : States) (found : List Value) (before later : Held D) (out : Answer) →
+        ProvidesByProfile ⟦<D as Devices>⟧ over old new found before later out →
+        Gains before.journal later.journal (λ part. ReadsSession over found part out) }
+    ensures profile_interrupted { (over : ChainSetting) (old new : States) (found : List Value) (before later : Held D) →
+        InterruptedProfile ⟦<D as Devices>⟧ over old new found before later → Gains before.journal later.journal (StopsInSession over found) }
+{}
+
+/// All `Http` requests of a call stand in the part of one container, which the chain's own member asks, or a
+/// source that the profile names. Each goes to the agent of Amazon ECS, or to the target of the full address that
+/// the variable holds: HTTPS, an allowed address, or a name that has allowed addresses alone by a look-up in that
+/// part. It holds of a call for which memory ran out, too.
+pub fn a_call_asks_safe_targets<D: Devices>()
+    ensures answered { (over : ChainSetting) (old new : States) (found : List Value) (before later : Held D) (out : Answer) →
+        Provides ⟦<D as Devices>⟧ over old new found before later out → Gains before.journal later.journal (ChainAsksSafely over) }
+    ensures interrupted { (over : ChainSetting) (old new : States) (found : List Value) (before later : Held D) →
+        Interrupted ⟦<D as Devices>⟧ over old new found before later → Gains before.journal later.journal (ChainAsksSafely over) }
+{}
+
+/// The same of a call of the provider of a profile's credentials: a source that the profile names asks the
+/// container.
+pub fn a_profile_asks_safe_targets<D: Devices>()
+    ensures answered { (over : ChainSetting) (old new : States) (found : List Value) (before later : Held D) (out : Answer) →
+        ProvidesByProfile ⟦<D as Devices>⟧ over old new found before later out → Gains before.journal later.journal (ChainAsksSafely over) }
+    ensures interrupted { (over : ChainSetting) (old new : States) (found : List Value) (before later : Held D) →
+        InterruptedProfile ⟦<D as Devices>⟧ over old new found before later → Gains before.journal later.journal (ChainAsksSafely over) }
 {}

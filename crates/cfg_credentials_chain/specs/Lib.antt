@@ -4,3 +4,6 @@ pub mod Causes
 pub mod Views
 pub mod Provides
 pub mod Builds
+pub mod SafeCalls
+pub mod SignOns
+pub mod Sessions

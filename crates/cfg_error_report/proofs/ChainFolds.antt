@@ -12,8 +12,8 @@ use Rattle.cfg_types.specs.declared.errors.token.TokenCause.TheVariants as token
 use Rattle.cfg_types.specs.declared.errors.token.TokenError.{TokenError}
 use Rattle.cfg_types.specs.declared.errors.token.TokenCause.TheOpen.{TokenCause-F}
 use Rattle.cfg_types.specs.declared.errors.token.TokenCause.TheFolds.{fold-roll-TokenCause}
-use Rattle.cfg_error_report.specs.Lines.{Line, cause_line}
-use Rattle.cfg_error_report.specs.CredentialsCauses.{Telling, chain_words, chain_lines, members_lines, member_lines, error_level, not_loaded_level, provider_level, error_lines, not_loaded_lines}
+use Rattle.cfg_error_report.specs.Lines.{Line, Telling, cause_line}
+use Rattle.cfg_error_report.specs.CredentialsCauses.{chain_words, chain_lines, members_lines, member_lines, error_level, not_loaded_level, provider_level, error_lines, not_loaded_lines}
 use Rattle.cfg_error_report.specs.TokenCauses.{token_cause_level, token_level, token_lines, token_cause_lines}
 
 -- an attempt with the lines of its error in the error's place

@@ -1,2 +1,5 @@
 pub mod ChainFolds
 pub mod ShownNames
+pub mod Cuts
+pub mod BlankCauses
+pub mod Told

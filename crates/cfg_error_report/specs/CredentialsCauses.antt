@@ -3,7 +3,6 @@ use Rattle.std.specs.Prelude.{ℕ, ◌+◌, List, [], ◌∷◌, codes}
 use Rattle.std.specs.List.{flat_map}
 use Rattle.std.specs.Str.{encode_utf8_all}
 use Rattle.cfg_types.specs.ChainTexts.{credentials_text, not_loaded_text}
-use Rattle.cfg_types.specs.ErrorTexts.{cached_token_text}
 use Rattle.cfg_types.specs.ProviderTexts.{provider_text}
 use Rattle.cfg_types.specs.declared.errors.ProviderAttempt.{ProviderAttempt}
 use Rattle.cfg_types.specs.declared.errors.NotLoadedCause.{NotLoadedCause, fold-NotLoadedCause}
@@ -13,17 +12,9 @@ use Rattle.cfg_types.specs.declared.errors.ProviderCause.TheVariants as provider
 use Rattle.cfg_types.specs.declared.errors.CredentialsError.{CredentialsError, fold-CredentialsError}
 use Rattle.cfg_types.specs.declared.errors.CredentialsError.TheVariants as error
 use Rattle.cfg_types.specs.declared.errors.CredentialsError.TheOpen.{CredentialsError-F, NotLoadedCause-F, ProviderCause-F}
-use Rattle.cfg_error_report.specs.Lines.{Line, cause_line, member_line, lines_at}
-use Rattle.cfg_error_report.specs.Words.{known, profile_words, refusal_words}
-use Rattle.cfg_error_report.specs.Parts.{config_causes, imds_causes, login_token_causes, sso_token_causes, unhandled_causes}
-
--- the lines of an error, by the depth that the first one stands at
-abbrev pub Telling : Type 0
-Telling = ℕ → List Line
-
--- one text, and nothing below it
-abbrev pub just : List ℕ → Telling
-just text depth = lines_at depth (text ∷ [])
+use Rattle.cfg_error_report.specs.Lines.{Line, Telling, followed, just, detailed, cause_line, detail_line, member_line}
+use Rattle.cfg_error_report.specs.Words.{known, process_lines, profile_lines, refusal_lines, variable_words}
+use Rattle.cfg_error_report.specs.Parts.{cached_token_lines, config_lines, imds_lines, login_token_lines, sso_token_lines, unhandled_lines}
 
 -- that no member of a chain was loaded
 abbrev pub chain_words : {E : Type 0} → List E → List ℕ
@@ -43,36 +34,36 @@ abbrev pub chain_lines : {E : Type 0} → (E → Telling) → ℕ → List (Prov
 chain_lines tells depth attempts = cause_line depth (chain_words attempts) ∷ members_lines tells depth attempts
 
 abbrev pub not_loaded_level : NotLoadedCause-F Telling Telling Telling → Telling
-not_loaded_level (NotLoadedCause-F.NotSet name) = just (known (not_loaded_text (cause.NotSet name)))
-not_loaded_level (NotLoadedCause-F.Profile e) = just (profile_words e)
+not_loaded_level (NotLoadedCause-F.NotSet name) = detailed (known (not_loaded_text (cause.NotSet name))) (variable_words name)
+not_loaded_level (NotLoadedCause-F.Profile e) = profile_lines e
 not_loaded_level NotLoadedCause-F.NotConfigured = just (known (not_loaded_text cause.NotConfigured))
 not_loaded_level NotLoadedCause-F.MetadataDisabled = just (known (not_loaded_text cause.MetadataDisabled))
 not_loaded_level NotLoadedCause-F.MetadataNoRole = just (known (not_loaded_text cause.MetadataNoRole))
-not_loaded_level NotLoadedCause-F.MetadataUnreachable = just (known (not_loaded_text cause.MetadataUnreachable))
+not_loaded_level NotLoadedCause-F.MetadataUnreachable = detailed (known (not_loaded_text cause.MetadataUnreachable)) (codes "the request for a session token could not be sent")
 not_loaded_level (NotLoadedCause-F.NotLoadedCause::Custom text) = just (encode_utf8_all text)
 not_loaded_level (NotLoadedCause-F.Chain chain) = λ depth. chain_lines (λ tells. tells) depth chain.attempts
 
 abbrev pub provider_level : ProviderCause-F Telling Telling Telling → Telling
-provider_level (ProviderCause-F.Base tells) = tells
-provider_level (ProviderCause-F.Role tells) = tells
+provider_level (ProviderCause-F.Base tells) = λ depth. detail_line depth (codes "the base gave no credentials") ∷ tells depth
+provider_level (ProviderCause-F.Role tells) = λ depth. detail_line depth (codes "a role could not be assumed") ∷ tells depth
 provider_level (ProviderCause-F.File path) = just (provider_text (provider.File path))
 provider_level (ProviderCause-F.Sent kind) = just (provider_text (provider.Sent kind))
-provider_level (ProviderCause-F.Refused refusal) = λ depth. lines_at depth (provider_text (provider.Refused refusal) ∷ refusal_words refusal.kind)
+provider_level (ProviderCause-F.Refused refusal) = followed (provider_text (provider.Refused refusal)) (refusal_lines refusal.kind)
 provider_level (ProviderCause-F.Status status) = just (provider_text (provider.Status status))
 provider_level (ProviderCause-F.ErrorDocument code m) = just (provider_text (provider.ErrorDocument code m))
-provider_level (ProviderCause-F.Process e) = just (provider_text (provider.Process e))
-provider_level (ProviderCause-F.Metadata e) = λ depth. lines_at depth (imds_causes e)
-provider_level (ProviderCause-F.SsoToken e) = λ depth. lines_at depth (sso_token_causes e)
-provider_level (ProviderCause-F.SsoFile e) = just (cached_token_text e)
-provider_level (ProviderCause-F.LoginToken e) = λ depth. lines_at depth (login_token_causes e)
+provider_level (ProviderCause-F.Process e) = process_lines e
+provider_level (ProviderCause-F.Metadata e) = imds_lines e
+provider_level (ProviderCause-F.SsoToken e) = sso_token_lines e
+provider_level (ProviderCause-F.SsoFile e) = cached_token_lines e
+provider_level (ProviderCause-F.LoginToken e) = login_token_lines e
 provider_level (ProviderCause-F.ProviderCause::Custom text) = just (encode_utf8_all text)
 
 abbrev pub error_level : CredentialsError-F Telling Telling Telling → Telling
-error_level (CredentialsError-F.CredentialsNotLoaded tells) = λ depth. cause_line depth (codes "not loaded") ∷ tells depth
+error_level (CredentialsError-F.CredentialsNotLoaded tells) = followed (codes "not loaded") tells
 error_level CredentialsError-F.ProviderTimedOut = just (credentials_text error.ProviderTimedOut)
-error_level (CredentialsError-F.InvalidConfiguration config) = λ depth. lines_at depth (credentials_text (error.InvalidConfiguration config) ∷ config_causes config)
-error_level (CredentialsError-F.ProviderError tells) = λ depth. cause_line depth (codes "provider error") ∷ tells depth
-error_level (CredentialsError-F.Unhandled unhandled) = λ depth. lines_at depth (credentials_text (error.Unhandled unhandled) ∷ unhandled_causes unhandled)
+error_level (CredentialsError-F.InvalidConfiguration config) = followed (codes "invalid configuration") (config_lines config)
+error_level (CredentialsError-F.ProviderError tells) = followed (codes "provider error") tells
+error_level (CredentialsError-F.Unhandled unhandled) = followed (codes "unhandled error") (unhandled_lines unhandled)
 error_level CredentialsError-F.OutOfMemory = just (credentials_text error.OutOfMemory)
 
 -- an error and what it comes of, from this depth on

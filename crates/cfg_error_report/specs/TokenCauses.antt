@@ -1,5 +1,5 @@
 -- What an error of tokens tells, from the outside in.
-use Rattle.std.specs.Prelude.{List, [], ◌∷◌, codes}
+use Rattle.std.specs.Prelude.{List, codes}
 use Rattle.std.specs.Str.{encode_utf8_all}
 use Rattle.cfg_types.specs.TokenChainTexts.{token_cause_text, token_text}
 use Rattle.cfg_types.specs.declared.errors.token.TokenCause.{TokenCause, fold-TokenCause}
@@ -7,10 +7,10 @@ use Rattle.cfg_types.specs.declared.errors.token.TokenCause.TheVariants as cause
 use Rattle.cfg_types.specs.declared.errors.token.TokenError.{TokenError, fold-TokenError}
 use Rattle.cfg_types.specs.declared.errors.token.TokenError.TheVariants as error
 use Rattle.cfg_types.specs.declared.errors.token.TokenCause.TheOpen.{TokenCause-F, TokenError-F}
-use Rattle.cfg_error_report.specs.Lines.{Line, cause_line, lines_at}
-use Rattle.cfg_error_report.specs.Words.{known, profile_words}
-use Rattle.cfg_error_report.specs.Parts.{sso_token_causes}
-use Rattle.cfg_error_report.specs.CredentialsCauses.{Telling, chain_lines, just}
+use Rattle.cfg_error_report.specs.Lines.{Line, Telling, followed, just}
+use Rattle.cfg_error_report.specs.Words.{known, profile_lines}
+use Rattle.cfg_error_report.specs.Parts.{sso_token_lines}
+use Rattle.cfg_error_report.specs.CredentialsCauses.{chain_lines}
 
 abbrev pub token_cause_level : TokenCause-F Telling Telling → Telling
 token_cause_level TokenCause-F.NoSession = just (known (token_cause_text cause.NoSession))
@@ -18,11 +18,11 @@ token_cause_level (TokenCause-F.Custom text) = just (encode_utf8_all text)
 token_cause_level (TokenCause-F.Chain chain) = λ depth. chain_lines (λ tells. tells) depth chain.attempts
 
 abbrev pub token_level : TokenError-F Telling Telling → Telling
-token_level (TokenError-F.TokenNotLoaded tells) = λ depth. cause_line depth (codes "not loaded") ∷ tells depth
+token_level (TokenError-F.TokenNotLoaded tells) = followed (codes "not loaded") tells
 token_level TokenError-F.ProviderTimedOut = just (token_text error.ProviderTimedOut)
-token_level (TokenError-F.InvalidConfiguration e) = λ depth. lines_at depth (token_text (error.InvalidConfiguration e) ∷ profile_words e ∷ [])
-token_level (TokenError-F.ProviderError e) = λ depth. lines_at depth (token_text (error.ProviderError e) ∷ sso_token_causes e)
-token_level (TokenError-F.Unhandled text) = λ depth. lines_at depth (token_text (error.Unhandled text) ∷ encode_utf8_all text ∷ [])
+token_level (TokenError-F.InvalidConfiguration e) = followed (token_text (error.InvalidConfiguration e)) (profile_lines e)
+token_level (TokenError-F.ProviderError e) = followed (token_text (error.ProviderError e)) (sso_token_lines e)
+token_level (TokenError-F.Unhandled text) = followed (token_text (error.Unhandled text)) (just (encode_utf8_all text))
 token_level TokenError-F.OutOfMemory = just (token_text error.OutOfMemory)
 
 -- an error and what it comes of, from this depth on

@@ -1,11 +1,13 @@
 //! What an error of credentials comes of.
 ghost use Rattle.std.specs.Prelude.{◌≡◌, ◌++◌, ◌∷◌, [], IfOk, OnOk};
-ghost use Rattle.cfg_error_report.specs.Lines.{cause_line};
+ghost use Rattle.cfg_error_report.specs.Lines.{detail_line};
 ghost use Rattle.cfg_error_report.specs.CredentialsCauses.{causes_of as causes_of_error, error_lines, not_loaded_lines, provider_lines, members_lines, chain_words as chain_words_of};
 
 use crate::lines::Causes;
-use crate::parts::{tell_config, tell_imds, tell_login_token, tell_sso_token, tell_unhandled};
-use crate::words::{tell_profile, tell_refusal};
+use crate::parts::{
+    tell_cached_token, tell_config, tell_imds, tell_login_token, tell_sso_token, tell_unhandled,
+};
+use crate::words::{tell_process, tell_profile, tell_refused, variable_words};
 use cfg_types::{CredentialsError, NotLoadedCause, OutOfMemory, ProviderAttempt, ProviderCause};
 use std::alloc::Global;
 
@@ -50,7 +52,19 @@ fn tell_not_loaded(
     ensures { OnOk result (causes.new ≡ causes.old ++ not_loaded_lines cause.now depth) }
 {
     match cause {
+        NotLoadedCause::NotSet(name) => {
+            causes.tell(depth, cause)?;
+            let detail = variable_words(causes.alloc(), name)?;
+            causes.tell_detail(depth, detail.as_str())
+        }
         NotLoadedCause::Profile(error) => tell_profile(causes, depth, error),
+        NotLoadedCause::MetadataUnreachable => {
+            causes.tell_detailed(
+                depth,
+                cause,
+                "the request for a session token could not be sent",
+            )
+        }
         // The members stand in place of the chain's own text, which ends at the first cause of each.
         NotLoadedCause::Chain(chain) => {
             causes.tell_words(depth, chain_words(chain.attempts.as_slice()))?;
@@ -69,17 +83,34 @@ fn tell_provider(
     ensures { OnOk result (causes.new ≡ causes.old ++ provider_lines cause.now depth) }
 {
     match cause {
-        ProviderCause::Base(error) => tell_error(causes, depth, error.get()),
-        ProviderCause::Role(error) => tell_error(causes, depth, error.get()),
-        ProviderCause::Refused(refusal) => {
-            causes.tell(depth, cause)?;
-            tell_refusal(causes, depth, refusal.kind)
+        ProviderCause::Base(error) => {
+            tell_step(causes, depth, "the base gave no credentials", error.get())
         }
+        ProviderCause::Role(error) => {
+            tell_step(causes, depth, "a role could not be assumed", error.get())
+        }
+        ProviderCause::Refused(refusal) => tell_refused(causes, depth, cause, refusal.kind),
+        ProviderCause::Process(cause) => tell_process(causes, depth, cause),
         ProviderCause::Metadata(error) => tell_imds(causes, depth, error),
         ProviderCause::SsoToken(error) => tell_sso_token(causes, depth, error),
+        ProviderCause::SsoFile(error) => tell_cached_token(causes, depth, error),
         ProviderCause::LoginToken(error) => tell_login_token(causes, depth, error),
         _ => causes.tell(depth, cause),
     }
+}
+
+// Which step failed, and its error.
+#[cycle(tells)]
+fn tell_step(
+    causes: &mut Causes,
+    depth: usize,
+    words: &str,
+    error: &CredentialsError,
+) -> Result<(), OutOfMemory>
+    ensures { OnOk result (causes.new ≡ causes.old ++ detail_line depth words.now ∷ error_lines error.now depth) }
+{
+    causes.tell_detail(depth, words)?;
+    tell_error(causes, depth, error)
 }
 
 // The members of a chain, each by its name, and what it answered. Memory runs out too where they stand too

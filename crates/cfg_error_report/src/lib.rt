@@ -2,7 +2,9 @@
 //! outside in. It stands on cfg_types. The layers above may write [`Causes`] in one line, or line by line.
 #![tactic(auto)]
 
+mod addresses;
 mod credentials;
+mod kind;
 pub mod laws;
 mod lines;
 mod parts;
@@ -11,5 +13,6 @@ mod words;
 
 pub use cfg_types::OutOfMemory;
 pub use credentials::causes_of;
+pub use kind::LineKind;
 pub use lines::{CauseLine, Causes};
 pub use tokens::token_causes_of;

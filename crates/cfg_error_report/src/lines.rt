@@ -2,18 +2,20 @@
 ghost use Rattle.std.specs.Prelude.{◌≡◌, ◌∷◌, ◌++◌, [], IfSome, OnOk, string_bytes};
 ghost use Rattle.std.specs.List.{flat_map};
 ghost use Rattle.std.specs.Fmt.{WritesOnOk};
-ghost use Rattle.cfg_error_report.specs.Lines.{Line, cause_line, member_line, joint as joint_of, joined};
+ghost use Rattle.cfg_error_report.specs.Lines.{Line, cause_line, detail_line, detailed, member_line, joint as joint_of, closing as closing_of, joined};
 
+use crate::kind::LineKind;
 use cfg_types::OutOfMemory;
 use std::alloc::Global;
 use std::fmt;
 use std::marker::Model;
 use std::string::ToString;
 
-/// One line of what an error tells: the text of an error or of a cause, or the name of a chain's member.
+/// One line of what an error tells: the text of an error or of a cause, a detail of it, or the name of a chain's
+/// member.
 #[derive(Drop)]
 pub struct CauseLine {
-    is_member: bool,
+    kind: LineKind,
     depth: usize,
     text: String,
 }
@@ -24,19 +26,19 @@ impl Model for CauseLine {
 
     ghost Value = { Line };
 
-    ghost view = { λ l. record { is_member = l.is_member; depth = l.depth; text = string_bytes l.text } };
+    ghost view = { λ l. record { kind = l.kind; depth = l.depth; text = string_bytes l.text } };
 }
 
 impl CauseLine {
-    /// Whether it is the name of a chain's member. What the member answered follows, deeper by one.
-    pub fn is_member(&self) -> bool
-        ensures { result ≡ self.now.is_member }
+    /// What it is.
+    pub fn kind(&self) -> LineKind
+        ensures { result ≡ self.now.kind }
     {
-        self.is_member
+        self.kind
     }
 
     /// How deep it stands: 0 for the error itself and what it comes of, and for the members of a chain one more
-    /// than for the chain.
+    /// than for the chain. A detail stands as deep as the text that it belongs to.
     pub fn depth(&self) -> usize
         ensures { result ≡ self.now.depth }
     {
@@ -52,7 +54,7 @@ impl CauseLine {
 }
 
 /// An error and what it comes of, from the outside in. Contracts see the list of its lines. It is shown in one
-/// line: a cause behind `: `, and a chain's member behind `; `.
+/// line: a cause behind `: `, a chain's member behind `; `, and a detail in parentheses.
 #[derive(Drop)]
 pub struct Causes {
     alloc: Global,
@@ -95,7 +97,7 @@ impl Causes {
         ensures { OnOk result (self.new ≡ self.old ++ cause_line depth (string_bytes text) ∷ []) }
     {
         self.lines.push(CauseLine {
-            is_member: false,
+            kind: LineKind::Cause,
             depth,
             text,
         })?;
@@ -108,6 +110,45 @@ impl Causes {
     {
         let text = String::from_str(self.alloc, words)?;
         self.tell_text(depth, text)
+    }
+
+    /// The line of a detail in these words.
+    pub(crate) fn tell_detail(&mut self, depth: usize, words: &str) -> Result<(), OutOfMemory>
+        ensures { OnOk result (self.new ≡ self.old ++ detail_line depth words.now ∷ []) }
+    {
+        let text = String::from_str(self.alloc, words)?;
+        self.lines.push(CauseLine {
+            kind: LineKind::Detail,
+            depth,
+            text,
+        })?;
+        Ok(())
+    }
+
+    /// The line of an error or a cause of this text, and a detail of it in these words.
+    pub(crate) fn tell_text_detailed(
+        &mut self,
+        depth: usize,
+        text: String,
+        detail: &str,
+    ) -> Result<(), OutOfMemory>
+        ensures { OnOk result (self.new ≡ self.old ++ detailed (string_bytes text) detail.now depth) }
+    {
+        self.tell_text(depth, text)?;
+        self.tell_detail(depth, detail)
+    }
+
+    /// The line of an error or a cause as it is shown, and a detail of it in these words.
+    pub(crate) fn tell_detailed<T: fmt::Display>(
+        &mut self,
+        depth: usize,
+        shown: &T,
+        detail: &str,
+    ) -> Result<(), OutOfMemory>
+        ensures { OnOk result (IfSome (T.output shown.now) (λ t. self.new ≡ self.old ++ detailed t detail.now depth)) }
+    {
+        let text = shown.to_string(self.alloc)?;
+        self.tell_text_detailed(depth, text, detail)
     }
 
     /// The line of an error or a cause as it is shown.
@@ -128,7 +169,7 @@ impl Causes {
     {
         let text = String::from_str(self.alloc, name)?;
         self.lines.push(CauseLine {
-            is_member: true,
+            kind: LineKind::Member,
             depth,
             text,
         })?;
@@ -158,14 +199,34 @@ fn write_later<W: fmt::Write>(f: &mut fmt::Formatter<W>, lines: &[CauseLine]) ->
     ensures { WritesOnOk W.write_str_gives f.old result (flat_map joined lines.now) f.new }
 {
     for line in lines {
-        f.write_str(joint(line))?;
-        f.write_str(line.text())?;
+        write_joined(f, line)?;
     }
     Ok(())
 }
 
-fn joint(line: &CauseLine) -> &'static str
-    ensures { result.now ≡ joint_of line.now }
+fn write_joined<W: fmt::Write>(f: &mut fmt::Formatter<W>, line: &CauseLine) -> fmt::Result
+    ensures { WritesOnOk W.write_str_gives f.old result (joined line.now) f.new }
 {
-    if line.is_member() { "; " } else { ": " }
+    f.write_str(joint(line.kind()))?;
+    f.write_str(line.text())?;
+    f.write_str(closing(line.kind()))
+}
+
+fn joint(kind: LineKind) -> &'static str
+    ensures { result.now ≡ joint_of kind }
+{
+    match kind {
+        LineKind::Cause => ": ",
+        LineKind::Member => "; ",
+        LineKind::Detail => " (",
+    }
+}
+
+fn closing(kind: LineKind) -> &'static str
+    ensures { result.now ≡ closing_of kind }
+{
+    match kind {
+        LineKind::Detail => ")",
+        _ => "",
+    }
 }

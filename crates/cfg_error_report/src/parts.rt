@@ -1,16 +1,19 @@
 //! Errors that hold no error of their own kind: each, and then what it comes of. A call adds its lines at this
 //! depth. Where memory runs out it is `OutOfMemory`, and some of them may have been added.
-ghost use Rattle.std.specs.Prelude.{◌≡◌, ◌++◌, OnOk};
-ghost use Rattle.cfg_error_report.specs.Lines.{lines_at};
-ghost use Rattle.cfg_error_report.specs.Parts.{build_causes, below_build, unexpected_causes, below_imds, imds_causes, below_sso_token, sso_token_causes, below_login_token, login_token_causes, config_causes, unhandled_causes};
+ghost use Rattle.std.specs.Prelude.{◌≡◌, ◌++◌, OnOk, codes};
+ghost use Rattle.cfg_types.specs.ErrorTexts.{full_uri_text};
+ghost use Rattle.cfg_error_report.specs.Words.{address_lines};
+ghost use Rattle.cfg_error_report.specs.Parts.{build_lines, below_build, unexpected_lines, below_imds, imds_lines, cached_token_lines, below_sso_token, sso_token_lines, below_login_token, login_token_lines, config_lines, unhandled_lines};
 
 use crate::lines::Causes;
 use crate::words::{
-    json_fault, lifetime, tell_profile, tell_quoted, tell_refusal, tell_session_token,
+    json_fault, lifetime, tell_address, tell_endpoint, tell_profile, tell_refusal,
+    tell_session_token,
 };
 use cfg_types::imds::{BuildError, ImdsError, UnexpectedCause};
 use cfg_types::{
-    ConfigCause, FailKind, LoginTokenError, OutOfMemory, SsoTokenProviderError, UnhandledCause,
+    CachedSsoTokenError, ConfigCause, FailKind, InvalidFullUriError, LoginTokenError, OutOfMemory,
+    SsoTokenProviderError, Text, UnhandledCause,
 };
 
 /// What is wrong with the configuration.
@@ -19,10 +22,19 @@ pub fn tell_config(
     depth: usize,
     cause: &ConfigCause,
 ) -> Result<(), OutOfMemory>
-    ensures { OnOk result (causes.new ≡ causes.old ++ lines_at depth (config_causes cause.now)) }
+    ensures { OnOk result (causes.new ≡ causes.old ++ config_lines cause.now depth) }
 {
     match cause {
         ConfigCause::Profile(error) => tell_profile(causes, depth, error),
+        ConfigCause::RelativeUri(uri) => {
+            tell_address(
+                causes,
+                depth,
+                uri,
+                "` is no path of the container's endpoint",
+            )
+        }
+        ConfigCause::FullUri { error, uri } => tell_full_uri(causes, depth, *error, uri),
         ConfigCause::AssumeRole(kind) => {
             causes.tell(depth, cause)?;
             tell_refusal(causes, depth, *kind)
@@ -32,15 +44,31 @@ pub fn tell_config(
     }
 }
 
+fn tell_full_uri(
+    causes: &mut Causes,
+    depth: usize,
+    error: InvalidFullUriError,
+    uri: &Text,
+) -> Result<(), OutOfMemory>
+    ensures { OnOk result (causes.new ≡ causes.old ++ address_lines uri.now (codes "`: " ++ full_uri_text error) depth) }
+{
+    let behind = format!(in causes.alloc(); "`: {error}")?;
+    tell_endpoint(causes, depth, uri, behind.as_str())
+}
+
 /// What no rule allows for.
 pub fn tell_unhandled(
     causes: &mut Causes,
     depth: usize,
     cause: &UnhandledCause,
 ) -> Result<(), OutOfMemory>
-    ensures { OnOk result (causes.new ≡ causes.old ++ lines_at depth (unhandled_causes cause.now)) }
+    ensures { OnOk result (causes.new ≡ causes.old ++ unhandled_lines cause.now depth) }
 {
     match cause {
+        // The ARN is what a reply gave.
+        UnhandledCause::StsArn(_) => {
+            causes.tell_words(depth, "the ARN in the reply of STS names no account")
+        }
         UnhandledCause::LoginToken(error) => tell_login_token(causes, depth, error),
         _ => causes.tell(depth, cause),
     }
@@ -52,7 +80,7 @@ pub fn tell_login_token(
     depth: usize,
     error: &LoginTokenError,
 ) -> Result<(), OutOfMemory>
-    ensures { OnOk result (causes.new ≡ causes.old ++ lines_at depth (login_token_causes error.now)) }
+    ensures { OnOk result (causes.new ≡ causes.old ++ login_token_lines error.now depth) }
 {
     causes.tell(depth, error)?;
     tell_below_login_token(causes, depth, error)
@@ -63,10 +91,14 @@ fn tell_below_login_token(
     depth: usize,
     error: &LoginTokenError,
 ) -> Result<(), OutOfMemory>
-    ensures { OnOk result (causes.new ≡ causes.old ++ lines_at depth (below_login_token error.now)) }
+    ensures { OnOk result (causes.new ≡ causes.old ++ below_login_token error.now depth) }
 {
     match error {
         LoginTokenError::JsonError(fault) => causes.tell_words(depth, json_fault(*fault)),
+        LoginTokenError::NoHomeDirectory => causes.tell_detail(
+            depth,
+            "neither `AWS_LOGIN_CACHE_DIRECTORY` nor `HOME` can be read",
+        ),
         _ => Ok(()),
     }
 }
@@ -77,7 +109,7 @@ pub fn tell_sso_token(
     depth: usize,
     error: &SsoTokenProviderError,
 ) -> Result<(), OutOfMemory>
-    ensures { OnOk result (causes.new ≡ causes.old ++ lines_at depth (sso_token_causes error.now)) }
+    ensures { OnOk result (causes.new ≡ causes.old ++ sso_token_lines error.now depth) }
 {
     causes.tell(depth, error)?;
     tell_below_sso_token(causes, depth, error)
@@ -88,29 +120,45 @@ fn tell_below_sso_token(
     depth: usize,
     error: &SsoTokenProviderError,
 ) -> Result<(), OutOfMemory>
-    ensures { OnOk result (causes.new ≡ causes.old ++ lines_at depth (below_sso_token error.now)) }
+    ensures { OnOk result (causes.new ≡ causes.old ++ below_sso_token error.now depth) }
 {
     match error {
         SsoTokenProviderError::BadExpirationTimeFromSsoOidc(seconds) => {
             let words = lifetime(causes.alloc(), *seconds)?;
             causes.tell_text(depth, words)
         }
-        SsoTokenProviderError::FailedToLoadToken(error) => causes.tell(depth, error),
+        SsoTokenProviderError::FailedToLoadToken(error) => tell_cached_token(causes, depth, error),
         SsoTokenProviderError::ExpiredToken => Ok(()),
         SsoTokenProviderError::OutOfMemory => Ok(()),
     }
 }
 
+/// Why the file of a token of IAM Identity Center gives none, or takes none.
+pub fn tell_cached_token(
+    causes: &mut Causes,
+    depth: usize,
+    error: &CachedSsoTokenError,
+) -> Result<(), OutOfMemory>
+    ensures { OnOk result (causes.new ≡ causes.old ++ cached_token_lines error.now depth) }
+{
+    match error {
+        CachedSsoTokenError::NoHomeDirectory => {
+            causes.tell_detailed(depth, error, "the variable `HOME` cannot be read")
+        }
+        _ => causes.tell(depth, error),
+    }
+}
+
 /// Why the instance metadata service gives nothing.
 pub fn tell_imds(causes: &mut Causes, depth: usize, error: &ImdsError) -> Result<(), OutOfMemory>
-    ensures { OnOk result (causes.new ≡ causes.old ++ lines_at depth (imds_causes error.now)) }
+    ensures { OnOk result (causes.new ≡ causes.old ++ imds_lines error.now depth) }
 {
     causes.tell(depth, error)?;
     tell_below_imds(causes, depth, error)
 }
 
 fn tell_below_imds(causes: &mut Causes, depth: usize, error: &ImdsError) -> Result<(), OutOfMemory>
-    ensures { OnOk result (causes.new ≡ causes.old ++ lines_at depth (below_imds error.now)) }
+    ensures { OnOk result (causes.new ≡ causes.old ++ below_imds error.now depth) }
 {
     match error {
         ImdsError::FailedToLoadToken(error) => tell_session_token(causes, depth, *error),
@@ -126,18 +174,19 @@ fn tell_unexpected(
     depth: usize,
     cause: &UnexpectedCause,
 ) -> Result<(), OutOfMemory>
-    ensures { OnOk result (causes.new ≡ causes.old ++ lines_at depth (unexpected_causes cause.now)) }
+    ensures { OnOk result (causes.new ≡ causes.old ++ unexpected_lines cause.now depth) }
 {
     match cause {
         UnexpectedCause::NotUtf8 => causes.tell_words(depth, "the reply is not UTF-8"),
         UnexpectedCause::Dispatch => causes.tell(depth, &FailKind::Dispatch),
         UnexpectedCause::Endpoint(error) => tell_build(causes, depth, error),
-        UnexpectedCause::Path(path) => tell_quoted(causes, depth, path, "` is no path"),
+        // The listing of roles gave the path's end.
+        UnexpectedCause::Path(_) => causes.tell_words(depth, "the path is no path of a URI"),
     }
 }
 
 fn tell_build(causes: &mut Causes, depth: usize, error: &BuildError) -> Result<(), OutOfMemory>
-    ensures { OnOk result (causes.new ≡ causes.old ++ lines_at depth (build_causes error.now)) }
+    ensures { OnOk result (causes.new ≡ causes.old ++ build_lines error.now depth) }
 {
     causes.tell(depth, error)?;
     tell_below_build(causes, depth, error)
@@ -148,11 +197,13 @@ fn tell_below_build(
     depth: usize,
     error: &BuildError,
 ) -> Result<(), OutOfMemory>
-    ensures { OnOk result (causes.new ≡ causes.old ++ lines_at depth (below_build error.now)) }
+    ensures { OnOk result (causes.new ≡ causes.old ++ below_build error.now depth) }
 {
     match error {
         BuildError::InvalidEndpointMode(error) => causes.tell(depth, error),
-        BuildError::InvalidEndpointUri(uri) => tell_quoted(causes, depth, uri, "` is no URI"),
+        BuildError::InvalidEndpointUri(uri) => {
+            tell_endpoint(causes, depth, uri, "` is no URI with a scheme and a host")
+        }
         BuildError::OutOfMemory => Ok(()),
     }
 }

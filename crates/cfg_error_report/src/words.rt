@@ -1,15 +1,21 @@
 //! Words for causes that have no text of their own, and for those whose text std leaves open. Where memory runs
 //! out it is `OutOfMemory`.
-ghost use Rattle.std.specs.Prelude.{◌≡◌, ◌++◌, ◌∷◌, [], IfOk, OnOk, string_bytes, codes};
-ghost use Rattle.std.specs.List.{flat_map, list_all};
+ghost use Rattle.std.specs.Prelude.{◌≡◌, ◌++◌, ◌∷◌, [], IfOk, OnOk, string_bytes, codes, option_map};
 ghost use Rattle.std.specs.Str.{encode_utf8_all};
+ghost use Rattle.std.specs.List.{flat_map, list_all};
 ghost use Rattle.std.specs.Char.{is_ascii as is_ascii_byte};
-ghost use Rattle.cfg_error_report.specs.Lines.{lines_at, cause_line};
-ghost use Rattle.cfg_error_report.specs.Words.{quoted, later_quoted, quoted_names, loop_words as loop_words_of, profile_words, refusal_words, session_token_words, json_fault_words, lifetime_words};
+ghost use Rattle.cfg_types.specs.CauseTexts.{ended_text};
+ghost use Rattle.cfg_error_report.specs.Lines.{cause_line, detailed, followed};
+ghost use Rattle.cfg_types.specs.ProviderTexts.{provider_text};
+ghost use Rattle.cfg_error_report.specs.Words.{quoted, later_quoted, quoted_names, loop_words as loop_words_of, profile_lines, refusal_lines, session_token_lines, json_fault_words, lifetime_words, quoted_address, address_lines, scheme_lines, variable_words as variable_words_of, blank_words as blank_words_of, process_lines};
 
+use crate::addresses::{has_scheme, write_address};
 use crate::lines::Causes;
-use cfg_types::imds::FailedToLoadToken;
-use cfg_types::{LoginJsonFault, OutOfMemory, ProfileFileError, RefusalKind, Text};
+use cfg_types::imds::{FailedToLoadToken, TokenError};
+use cfg_types::{
+    LoginJsonFault, OutOfMemory, ProcessCause, ProfileFileError, ProviderCause, RefusalKind, Text,
+    is_blank,
+};
 use std::alloc::Global;
 
 /// Why a profile gives no credentials, or no token.
@@ -18,9 +24,16 @@ pub fn tell_profile(
     depth: usize,
     error: &ProfileFileError,
 ) -> Result<(), OutOfMemory>
-    ensures { OnOk result (causes.new ≡ causes.old ++ lines_at depth (profile_words error.now ∷ [])) }
+    ensures { OnOk result (causes.new ≡ causes.old ++ profile_lines error.now depth) }
 {
     match error {
+        ProfileFileError::NoProfilesDefined => {
+            causes.tell_detailed(
+                depth,
+                error,
+                "there are no profiles, or `default` is selected and is not there",
+            )
+        }
         ProfileFileError::CredentialLoop { profiles, next } => {
             let words = loop_words(causes.alloc(), profiles.as_slice(), next)?;
             causes.tell_text(depth, words)
@@ -87,7 +100,7 @@ fn is_ascii(name: &str) -> bool
 
 /// What a service refused a call for, where it says so. `Other` adds no line.
 pub fn tell_refusal(causes: &mut Causes, depth: usize, kind: RefusalKind) -> Result<(), OutOfMemory>
-    ensures { OnOk result (causes.new ≡ causes.old ++ lines_at depth (refusal_words kind)) }
+    ensures { OnOk result (causes.new ≡ causes.old ++ refusal_lines kind depth) }
 {
     match kind {
         RefusalKind::RegionDisabled => causes.tell_words(depth, "the region is disabled"),
@@ -111,10 +124,24 @@ pub fn tell_session_token(
     depth: usize,
     error: FailedToLoadToken,
 ) -> Result<(), OutOfMemory>
-    ensures { OnOk result (causes.new ≡ causes.old ++ lines_at depth (session_token_words error ∷ [])) }
+    ensures { OnOk result (causes.new ≡ causes.old ++ session_token_lines error depth) }
 {
     match error {
         FailedToLoadToken::Sent(kind) => causes.tell(depth, &kind),
+        FailedToLoadToken::Token(TokenError::InvalidParameters) => {
+            causes.tell_detailed(
+                depth,
+                &TokenError::InvalidParameters,
+                "the reply has the status 400",
+            )
+        }
+        FailedToLoadToken::Token(TokenError::Forbidden) => {
+            causes.tell_detailed(
+                depth,
+                &TokenError::Forbidden,
+                "the reply has the status 403",
+            )
+        }
         FailedToLoadToken::Token(error) => causes.tell(depth, &error),
     }
 }
@@ -138,17 +165,127 @@ pub fn lifetime(alloc: Global, seconds: i64) -> Result<String, OutOfMemory>
     Ok(format!(in alloc; "the lifetime is {seconds} seconds")?)
 }
 
-/// A text in backquotes, and what is wrong with it: `behind` begins with the closing backquote.
-pub fn tell_quoted(
+/// An address in backquotes, without user information and query, and what is wrong with it: `behind` begins with
+/// the closing backquote.
+pub fn tell_address(
     causes: &mut Causes,
     depth: usize,
-    text: &Text,
+    address: &Text,
     behind: &str,
 ) -> Result<(), OutOfMemory>
-    ensures { OnOk result (causes.new ≡ causes.old ++ cause_line depth (codes "`" ++ (encode_utf8_all text.now ++ behind.now)) ∷ []) }
+    ensures { OnOk result (causes.new ≡ causes.old ++ cause_line depth (quoted_address address.now behind.now) ∷ []) }
 {
     let mut words = String::from_str(causes.alloc(), "`")?;
-    words.push_str(text.as_str())?;
+    write_address(&mut words, address.as_str())?;
     words.push_str(behind)?;
     causes.tell_text(depth, words)
+}
+
+/// The same of an address that has to have a scheme, and whether it has none.
+pub fn tell_endpoint(
+    causes: &mut Causes,
+    depth: usize,
+    address: &Text,
+    behind: &str,
+) -> Result<(), OutOfMemory>
+    ensures { OnOk result (causes.new ≡ causes.old ++ address_lines address.now behind.now depth) }
+{
+    tell_address(causes, depth, address, behind)?;
+    tell_scheme(causes, depth, address)
+}
+
+fn tell_scheme(causes: &mut Causes, depth: usize, address: &Text) -> Result<(), OutOfMemory>
+    ensures { OnOk result (causes.new ≡ causes.old ++ scheme_lines address.now depth) }
+{
+    if has_scheme(address.as_str()) {
+        Ok(())
+    } else {
+        causes.tell_detail(depth, "the scheme is missing")
+    }
+}
+
+/// Why the variable of this name gives nothing.
+pub fn variable_words(alloc: Global, name: &Text) -> Result<String, OutOfMemory>
+    ensures { IfOk result (λ words. string_bytes words ≡ variable_words_of name.now) }
+{
+    if name.is("SECRET_ACCESS_KEY") {
+        // It is the last one that is looked at.
+        Ok(String::from_str(
+            alloc,
+            "neither `AWS_SECRET_ACCESS_KEY` nor `SECRET_ACCESS_KEY` has a key",
+        )?)
+    } else if name.is("AWS_WEB_IDENTITY_TOKEN_FILE") || name.is("AWS_ROLE_ARN") {
+        backquoted(alloc, name, "` is not set, or not Unicode")
+    } else {
+        backquoted(alloc, name, "` is not set, or blank")
+    }
+}
+
+// A text in backquotes, and words that begin with the closing one.
+fn backquoted(alloc: Global, text: &Text, behind: &str) -> Result<String, OutOfMemory>
+    ensures { IfOk result (λ words. string_bytes words ≡ codes "`" ++ (encode_utf8_all text.now ++ behind.now)) }
+{
+    let mut words = String::from_str(alloc, "`")?;
+    words.push_str(text.as_str())?;
+    words.push_str(behind)?;
+    Ok(words)
+}
+
+/// Why a command gives no credentials.
+pub fn tell_process(
+    causes: &mut Causes,
+    depth: usize,
+    cause: &ProcessCause,
+) -> Result<(), OutOfMemory>
+    ensures { OnOk result (causes.new ≡ causes.old ++ process_lines cause.now depth) }
+{
+    match cause {
+        ProcessCause::Status { code, errors } => match blank_words(errors) {
+            Some(detail) => tell_ended(causes, depth, *code, detail),
+            None => causes.tell(depth, cause),
+        },
+        _ => causes.tell(depth, cause),
+    }
+}
+
+// Why what a command wrote to standard error tells nothing, where that is so.
+fn blank_words(errors: &Option<Text>) -> Option<&'static str>
+    ensures { option_map (λ words. words.now) result ≡ blank_words_of errors.now }
+{
+    match errors {
+        None => Some("what it wrote to standard error is not UTF-8"),
+        Some(errors) => {
+            if is_blank(errors.as_str()) {
+                Some("what it wrote to standard error is blank")
+            } else {
+                None
+            }
+        }
+    }
+}
+
+fn tell_ended(causes: &mut Causes, depth: usize, code: i32, detail: &str) -> Result<(), OutOfMemory>
+    ensures { OnOk result (causes.new ≡ causes.old ++ detailed (ended_text code) detail.now depth) }
+{
+    let words = ended_words(causes.alloc(), code)?;
+    causes.tell_text_detailed(depth, words, detail)
+}
+
+fn ended_words(alloc: Global, code: i32) -> Result<String, OutOfMemory>
+    ensures { IfOk result (λ words. string_bytes words ≡ ended_text code) }
+{
+    Ok(format!(in alloc; "the command ended with status {code}")?)
+}
+
+/// A refusal as it is shown, and what the call was refused for, where the service says so.
+pub fn tell_refused(
+    causes: &mut Causes,
+    depth: usize,
+    cause: &ProviderCause,
+    kind: RefusalKind,
+) -> Result<(), OutOfMemory>
+    ensures { OnOk result (causes.new ≡ causes.old ++ followed (provider_text cause.now) (refusal_lines kind) depth) }
+{
+    causes.tell(depth, cause)?;
+    tell_refusal(causes, depth, kind)
 }

@@ -14,3 +14,5 @@ pub mod OneUri
 pub mod OnePlace
 pub mod Unset
 pub mod SafeRequests
+pub mod NoHttp
+pub mod SafeJournals

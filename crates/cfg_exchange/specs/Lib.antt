@@ -14,3 +14,5 @@ pub mod Containers
 pub mod ContainerCauses
 pub mod ContainerUnset
 pub mod ContainerRequests
+pub mod SafeJournals
+pub mod Gains

@@ -37,7 +37,6 @@ pub fn exchange<D: Devices, C: ClassifyRetry>(
 {
     match follow_exchange(alloc, request, limit, kind, classifier, world) {
         Ok(receipt) => Ok(receipt),
-        // A world leaves no question open: a call over it stops for want of memory alone.
         Err(_) => Err(OutOfMemory),
     }
 }

@@ -1,5 +1,5 @@
 //! Which attempts are repeated.
-ghost use Rattle.std.specs.Prelude.{◌≡◌, Option, Bool, option_map, codes};
+ghost use Rattle.std.specs.Prelude.{◌≡◌, List, ℕ, Option, Bool, option_map, codes};
 ghost use Rattle.cfg_types.specs.declared.reply.http.HttpReply.{HttpReply as ReplyGiven};
 ghost use Rattle.cfg_exchange.specs.declared.reading.Reading.{Reading as ReadingGiven};
 ghost use Rattle.cfg_exchange.specs.Classifiers.{credentials_repeats, metadata_repeats, is_passing as is_passing_of};
@@ -14,8 +14,12 @@ pub trait ClassifyRetry: Send + Sync {
     /// Whether an attempt with this reply and this reading is repeated.
     ghost repeated: { Self → Option ReplyGiven → ReadingGiven → Bool };
 
+    /// The bytes of its name.
+    ghost named: { Self → List ℕ };
+
     /// The name of the classifier.
-    fn name(&self) -> &str;
+    fn name(&self) -> &str
+        ensures { result.now ≡ named self.now };
 
     /// Whether an attempt with this reply and this reading is repeated.
     fn repeats(&self, reply: Option<&HttpReply>, reading: Reading) -> bool
@@ -37,9 +41,9 @@ pub struct HttpCredentialRetryClassifier;
 impl ClassifyRetry for HttpCredentialRetryClassifier {
     ghost repeated = { λ _. credentials_repeats };
 
-    fn name(&self) -> &str
-        ensures { result.now ≡ codes "HttpCredentialRetryClassifier" }
-    {
+    ghost named = { λ _. codes "HttpCredentialRetryClassifier" };
+
+    fn name(&self) -> &str {
         "HttpCredentialRetryClassifier"
     }
 
@@ -79,9 +83,9 @@ impl ImdsResponseRetryClassifier {
 impl ClassifyRetry for ImdsResponseRetryClassifier {
     ghost repeated = { metadata_repeats };
 
-    fn name(&self) -> &str
-        ensures { result.now ≡ codes "ImdsResponseRetryClassifier" }
-    {
+    ghost named = { λ _. codes "ImdsResponseRetryClassifier" };
+
+    fn name(&self) -> &str {
         "ImdsResponseRetryClassifier"
     }
 

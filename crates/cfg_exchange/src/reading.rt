@@ -77,17 +77,17 @@ fn read_document(alloc: Global, reply: &HttpReply) -> Result<(Reading, Option<Sa
 }
 
 #[tactic(auto, unfolding(crate::specs::Readings::token_reading))]
-fn token_reading(alloc: Global, reply: &HttpReply) -> Result<Reading, OutOfMemory>
-    ensures { IfOk result (λ r. r ≡ token_reading_of reply.now) }
+fn token_reading(reply: &HttpReply) -> Reading
+    ensures { result ≡ token_reading_of reply.now }
 {
     if reply.status == 400 || reply.status == 403 {
-        return Ok(Reading::Refused);
+        return Reading::Refused;
     }
-    let is_timed = lifetime(alloc, reply)?.is_some();
+    let is_timed = lifetime(reply).is_some();
     if is_header_value(reply.body.as_slice()) && is_timed {
-        Ok(Reading::Fine)
+        Reading::Fine
     } else {
-        Ok(Reading::Unreadable)
+        Reading::Unreadable
     }
 }
 
@@ -133,10 +133,7 @@ impl ReplyKind {
     {
         match self {
             ReplyKind::Document => read_document(alloc, reply),
-            ReplyKind::MetadataToken => {
-                let reading = token_reading(alloc, reply)?;
-                Ok((reading, None))
-            }
+            ReplyKind::MetadataToken => Ok((token_reading(reply), None)),
             ReplyKind::MetadataText => Ok((text_reading(reply), None)),
         }
     }

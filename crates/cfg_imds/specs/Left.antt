@@ -11,6 +11,6 @@ use Rattle.cfg_imds.specs.Tokens.{ReceiptedToken, bare_kept}
 unfoldable pub LeftBy : {A : Type 0} → Ghosts A → ClientRules → A → Option ReceiptedToken → Option ReceiptedToken → Type 0
 LeftBy {A} a client old was is = (is ≡ was) ⊎ ((mid : A) × (token : List ℕ) × Ends a (settle client (bare_kept was)) old mid (Ok token, bare_kept is))
 
--- what a get of the region left that was stopped; or what it left where it had come to its end
+-- What is kept where a question for the region stopped: what a stopped get leaves, or what a finished get left.
 unfoldable pub RegionLeftBy : {A : Type 0} → Ghosts A → ClientRules → A → A → Option ReceiptedToken → Option ReceiptedToken → Type 0
 RegionLeftBy {A} a client old new was is = LeftBy a client old was is ⊎ ((got : Given) × Ends a (get client (bare_kept was) region_path) old new (got, bare_kept is))

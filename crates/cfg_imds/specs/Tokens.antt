@@ -1,5 +1,5 @@
 -- A session token of the instance metadata service, and the rule by which it is read from two receipts.
-use Rattle.std.specs.Prelude.{◌≡◌, ℕ, pos, ◌+ℤ◌, List, nat_eq, int_lt, Option, Some, None, ok_or, option_and_then, option_map, Result, Ok, Err, if◌then◌else◌}
+use Rattle.std.specs.Prelude.{◌≡◌, ℕ, pos, ◌+ℤ◌, List, Bool, true, false, nat_eq, int_lt, Option, Some, None, ok_or, option_and_then, option_map, Result, Ok, Err, if◌then◌else◌}
 use Rattle.cfg_base.specs.Moment.{Moment}
 use Rattle.cfg_types.specs.Headers.{header}
 use Rattle.cfg_types.specs.declared.errors.imds.TokenError.{TokenError}
@@ -8,7 +8,9 @@ use Rattle.cfg_types.specs.declared.errors.imds.FailedToLoadToken.{FailedToLoadT
 use Rattle.cfg_types.specs.declared.errors.imds.FailedToLoadToken.TheVariants as failed
 use Rattle.cfg_types.specs.declared.reply.FailKind.{FailKind}
 use Rattle.cfg_types.specs.declared.reply.http.HttpReply.{HttpReply}
-use Rattle.cfg_world.specs.declared.ask.Question.TheVariants.{Now}
+use Rattle.cfg_types.specs.declared.request.Request.TheVariants.{MetadataToken}
+use Rattle.cfg_world.specs.declared.ask.Question.{Question}
+use Rattle.cfg_world.specs.declared.ask.Question.TheVariants.{Send, Now}
 use Rattle.cfg_world.specs.Fits.{Pair}
 use Rattle.cfg_world.specs.Leaves.{http_of, moment_of}
 use Rattle.cfg_exchange.specs.HeaderValues.{is_header_value}
@@ -72,9 +74,16 @@ sent_token (Err kind) now = Err (failed.Sent kind)
 unfoldable pub read_token : Pair → Pair → Result Token FailedToLoadToken
 read_token reply reading = sent_token (http_of reply.1) (moment_of reading.1)
 
--- The token is what the rule reads from its receipts, and the second one is a reading of the clock.
+-- a request for a session token
+abbrev pub is_token_request : Question → Bool
+is_token_request (Send (MetadataToken call)) = true
+is_token_request _ = false
+
+-- The token is what the rule reads from its receipts. The first is of a request for a session token, and
+-- the second is a reading of the clock.
 pub record IsRead (t : ReceiptedToken) : Type 0 where
   pub reads : read_token t.reply t.reading ≡ Ok (bare_token t)
+  pub sends : is_token_request t.reply.0 ≡ true
   pub asks : t.reading.0 ≡ Now
 
 -- an Ok, changed by f

@@ -17,9 +17,11 @@ pub enum Classifier {
 }
 
 impl ClassifyRetry for Classifier {
-    ghost use Rattle.cfg_imds.specs.Classifiers.{repeated_by};
+    ghost use Rattle.cfg_imds.specs.Classifiers.{repeated_by, named_by};
 
     ghost repeated = { repeated_by (λ b. (ClassifyRetry-box b).repeated b.value) };
+
+    ghost named = { named_by (λ b. (ClassifyRetry-box b).named b.value) };
 
     fn name(&self) -> &str {
         match self {

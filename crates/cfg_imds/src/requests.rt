@@ -3,6 +3,7 @@ ghost use Rattle.std.specs.Prelude.{◌≡◌, IfOk, true};
 ghost use Rattle.cfg_world.specs.declared.ask.Question.TheVariants.{Send};
 ghost use Rattle.cfg_world.specs.Follows.{Follows};
 ghost use Rattle.cfg_imds.specs.Fetches.{is_get};
+ghost use Rattle.cfg_imds.specs.Tokens.{is_token_request};
 ghost use Rattle.cfg_imds.specs.Requests.{service, tries as tries_of, token_request, get_request, token_attempts, get_attempts};
 
 use cfg_exchange::steps::follow_exchange;
@@ -92,7 +93,8 @@ pub fn ask_token<A: Asking, C: ClassifyRetry>(
     endpoint: &Text,
     asking: &mut A,
 ) -> Result<Receipt, Stop>
-    ensures { Follows ⟦<A as Asking>⟧ (token_attempts (service settings.now (C.repeated classifier.now)) endpoint.now) asking.old asking.new result }
+    ensures follows { Follows ⟦<A as Asking>⟧ (token_attempts (service settings.now (C.repeated classifier.now)) endpoint.now) asking.old asking.new result }
+    ensures sends { IfOk result (λ e. is_token_request e.0 ≡ true) }
 {
     let request = make_token_request(alloc, settings, endpoint)?;
     let kind = ReplyKind::MetadataToken;

@@ -1,10 +1,10 @@
 //! How a session token is had: a kept one, or a new one.
-ghost use Rattle.std.specs.Prelude.{◌≡◌, IfOk, OnErr};
+ghost use Rattle.std.specs.Prelude.{◌≡◌, IfOk, OnErr, true};
 ghost use Rattle.cfg_world.specs.Follows.{Follows};
 ghost use Rattle.cfg_exchange.specs.Attempts.{asked};
 ghost use Rattle.cfg_world.specs.declared.ask.Question.TheVariants.{Now};
 ghost use Rattle.cfg_imds.specs.Requests.{service};
-ghost use Rattle.cfg_imds.specs.Tokens.{bare_kept};
+ghost use Rattle.cfg_imds.specs.Tokens.{bare_kept, is_token_request};
 ghost use Rattle.cfg_imds.specs.Settles.{has_time_left as has_time_left_of, kept_value as kept_value_of, renewal, renew as renew_of, settle_at as settle_at_of, FollowsKept};
 
 use crate::requests::{ImdsSettings, ask_token};
@@ -45,7 +45,8 @@ fn keep_read(
     reply: Receipt,
     reading: Receipt,
 ) -> Result<Result<Bytes, ImdsError>, OutOfMemory>
-    requires { reading.0 ≡ Now }
+    requires sends { is_token_request reply.0 ≡ true }
+    requires reads { reading.0 ≡ Now }
     ensures kept { IfOk result (λ r. renewal reply reading ≡ (r, bare_kept kept.new)) }
     ensures stays { OnErr result (kept.new ≡ kept.old) }
 {

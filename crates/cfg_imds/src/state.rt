@@ -2,6 +2,8 @@
 ghost use Rattle.std.specs.Prelude.{◌≡◌, None as none, option_map};
 
 use crate::token::MetadataToken;
+use cfg_types::{OutOfMemory, TryCopy, copy_option};
+use std::alloc::Global;
 use std::marker::Model;
 
 /// The session token that is kept between the calls of a client, if one is.
@@ -32,5 +34,12 @@ impl ImdsTokenState {
         ensures { option_map (λ t. t.now) result ≡ self.now }
     {
         self.kept.as_ref()
+    }
+}
+
+impl TryCopy for ImdsTokenState {
+    fn copy(&self, alloc: Global) -> Result<ImdsTokenState, OutOfMemory> {
+        let kept = copy_option(alloc, &self.kept)?;
+        Ok(ImdsTokenState { kept })
     }
 }

@@ -1,21 +1,21 @@
 //! Session tokens of the instance metadata service, with the receipts that they were read from.
-ghost use Rattle.std.specs.Prelude.{◌≡◌, ok_or, option_and_then, IfOk};
+ghost use Rattle.std.specs.Prelude.{◌≡◌, ok_or, option_and_then, IfOk, true};
 ghost use Rattle.cfg_types.specs.declared.errors.imds.TokenError.TheVariants.{InvalidTtl};
 ghost use Rattle.cfg_world.specs.declared.ask.Question.TheVariants.{Now};
 ghost use Rattle.cfg_exchange.specs.Lifetimes.{number as number_of};
-ghost use Rattle.cfg_imds.specs.Tokens.{bare_token, in_ok, later as later_of, reply_expiry as reply_expiry_of, reply_token as reply_token_of, sent_token, read_token, IsRead};
+ghost use Rattle.cfg_imds.specs.Tokens.{bare_token, in_ok, is_token_request, later, reply_expiry as reply_expiry_of, reply_token as reply_token_of, sent_token, read_token, IsRead};
 
 use cfg_exchange::is_header_value;
 use cfg_exchange::steps::number;
 use cfg_types::imds::{FailedToLoadToken, TokenError};
-use cfg_types::{Bytes, FailKind, HttpReply, Instant, OutOfMemory, Reply, Text, TryCopy};
+use cfg_types::{Bytes, FailKind, HttpReply, Instant, OutOfMemory, Reply, TryCopy};
 use cfg_world::{Answer, Receipt};
 use std::alloc::Global;
 use std::fmt;
 use std::marker::Model;
 
 /// A session token of the instance metadata service. Its value and its expiry are those that the rule
-/// reads from its reply and from the reading of the clock after it.
+/// reads from the reply to a request for one, and from the reading of the clock after it.
 pub struct MetadataToken {
     value: Bytes,
     expiry: Instant,
@@ -60,7 +60,8 @@ impl Model for ReadToken {
 }
 
 impl MetadataToken {
-    /// The token of a reply and of the reading of the clock after it, or why there is none.
+    /// The token of the reply to a request for one, and of the reading of the clock after it, or why there
+    /// is none.
     ///
     /// # Errors
     ///
@@ -77,7 +78,8 @@ impl MetadataToken {
         reply: Receipt,
         reading: Receipt,
     ) -> Result<Result<MetadataToken, FailedToLoadToken>, OutOfMemory>
-        requires { reading.0 ≡ Now }
+        requires sends { is_token_request reply.0 ≡ true }
+        requires reads { reading.0 ≡ Now }
         ensures { IfOk result (λ r. in_ok bare_token r ≡ read_token reply reading) }
     {
         match read_receipts(alloc, &reply, &reading)? {
@@ -152,42 +154,25 @@ impl fmt::Debug for MetadataToken {
     }
 }
 
-// So many seconds later, unless that is past the last moment of all.
-fn later(moment: Instant, seconds: u64) -> Option<Instant>
-    ensures { result ≡ later_of moment seconds }
-{
-    match moment.seconds().checked_add_unsigned(seconds) {
-        Some(seconds) => Instant::new(seconds, moment.nanos()),
-        None => None,
-    }
-}
-
 fn expiry_after(now: Instant, text: &str) -> Result<Instant, TokenError>
-    ensures { result ≡ ok_or (option_and_then (later_of now) (number_of text.now)) InvalidTtl }
+    ensures { result ≡ ok_or (option_and_then (later now) (number_of text.now)) InvalidTtl }
 {
     let Some(seconds) = number(text) else {
         return Err(TokenError::InvalidTtl);
     };
-    match later(now, seconds) {
+    match now.checked_plus(seconds) {
         Some(expiry) => Ok(expiry),
         None => Err(TokenError::InvalidTtl),
     }
 }
 
 // When the token of a reply ends.
-fn reply_expiry(
-    alloc: Global,
-    reply: &HttpReply,
-    now: Instant,
-) -> Result<Result<Instant, TokenError>, OutOfMemory>
-    ensures { IfOk result (λ expiry. expiry ≡ reply_expiry_of reply.now now) }
+fn reply_expiry(reply: &HttpReply, now: Instant) -> Result<Instant, TokenError>
+    ensures { result ≡ reply_expiry_of reply.now now }
 {
     match reply.header("x-aws-ec2-metadata-token-ttl-seconds") {
-        None => Ok(Err(TokenError::NoTtl)),
-        Some(text) => {
-            let text = Text::of(alloc, text)?;
-            Ok(expiry_after(now, text.as_str()))
-        }
+        None => Err(TokenError::NoTtl),
+        Some(text) => expiry_after(now, text),
     }
 }
 
@@ -208,7 +193,7 @@ fn reply_token(
     if !is_header_value(reply.body.as_slice()) {
         return Ok(Err(TokenError::InvalidToken));
     }
-    match reply_expiry(alloc, reply, now)? {
+    match reply_expiry(reply, now) {
         Ok(expiry) => {
             let value = reply.body.copy(alloc)?;
             Ok(Ok(ReadToken { value, expiry }))

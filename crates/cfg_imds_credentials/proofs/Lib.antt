@@ -7,3 +7,4 @@ pub mod Validity
 pub mod Over
 pub mod Found
 pub mod ReadSteps
+pub mod NoHttp

@@ -1,5 +1,6 @@
 -- A holding of a token of any kind, by the section that it makes.
-use Rattle.std.proofs.Common.{◌≡◌, List, [], ◌∷◌, ◌++◌, Option, IfSome, Result, Ok, Err, refl, sym, ◌∙◌, ap, subst, append-nil}
+use Rattle.std.proofs.Common.{◌≡◌, true, false, List, [], ◌∷◌, ◌++◌, Option, Some, None, IfSome, Result, Ok, Err, refl, sym, ◌∙◌, ap, subst, append-nil}
+use Rattle.std.specs.Prelude.{option_map}
 use Rattle.cfg_types.specs.Environment.{Variables}
 use Rattle.cfg_types.specs.declared.settings.CallSettings.{CallSettings}
 use Rattle.cfg_world.specs.declared.asking.Asking.{Ghosts}
@@ -11,15 +12,20 @@ use Rattle.cfg_world.specs.Follows.{Ends, Halts}
 use Rattle.cfg_world.proofs.Inquiries.{reads_after, waits_first, breaks_first}
 use Rattle.cfg_login_token.specs.declared.login_token.LoginToken.{LoginToken}
 use Rattle.cfg_token.specs.declared.sso_token.CachedSsoToken.{CachedSsoToken}
+use Rattle.cfg_token.specs.declared.state.TokenState.{TokenState}
 use Rattle.cfg_token.specs.declared.token_key.TokenKey.{TokenKey}
 use Rattle.cfg_token.specs.declared.sections.Sectioned.{Sectioned}
 use Rattle.cfg_token.specs.declared.sections.Sectioned.TheVariants.{Hit, Load}
-use Rattle.cfg_token.specs.Rules.{Rules}
+use Rattle.cfg_token.specs.Rules.{Rules, Tells}
 use Rattle.cfg_token.specs.Sections.{answer_of, ok_of}
-use Rattle.cfg_token.specs.Histories.{FinishedLoad, TokenLoad, History, token_in, kept_in, load_in, kept_by, with_section}
-use Rattle.cfg_token.specs.SectionCalls.{section_on, SectionEnds}
+use Rattle.cfg_token.specs.Histories.{FinishedLoad, TokenLoad, History, token_in, kept_in, last_in, load_in, kept_by, trimmed, with_section}
+use Rattle.cfg_token.specs.SectionCalls.{section_on, is_memory, SectionEnds}
 use Rattle.cfg_token.proofs.HistorySteps.{noted_by-more, token_of_load}
+use Rattle.cfg_token.proofs.Outcomes.{section_tells}
+use Rattle.cfg_kept.specs.declared.keyed.EitherState.{EitherState}
+use Rattle.cfg_kept.specs.declared.keyed.EitherState.TheVariants as either
 use Rattle.cfg_kept.specs.Kinds.{Value, KeptToken, States, with_value}
+use Rattle.cfg_kept.specs.KeyedStates.{key_of, sso_kept, login_kept, StateAnswers, trimmed_state, HasNoRecords}
 use Rattle.cfg_kept.specs.Holds.{Holdings, HoldsFollows, HoldsOne}
 use Rattle.cfg_kept.specs.SectionHoldings.{kept_of, section_leaves, settled, TokenSpot, IsSpot, kept_section, section_holding}
 use Rattle.cfg_kept.specs.SsoHoldings.{sso_at}
@@ -40,6 +46,42 @@ history_keeps {T} {E} h receipts (Load l) =
 -- the load that was found has the token that is kept
 pub found_value : {T E : Type 0} (h : History T E) (load : Option (TokenLoad T E)) → load ≡ load_in h → token_in load ≡ kept_in h
 found_value h load is = ap token_in is ∙ token_of_load h.load h.last h.records
+
+-- a trimmed history keeps the same
+pub trimmed_keeps : {T E : Type 0} (h : History T E) → kept_of (trimmed h) ≡ kept_of h
+trimmed_keeps {T} {E} h = ap (λ (token : Option T). let kept : KeptToken T = record { token = token; last = last_in h } in kept) (token_of_load h.load h.last h.records)
+
+pub trimmed_sso : (state : Option EitherState) → sso_kept (option_map trimmed_state state) ≡ sso_kept state
+trimmed_sso None = refl
+trimmed_sso (Some (either.Sso state)) = trimmed_keeps state.loads
+trimmed_sso (Some (either.Login state)) = refl
+
+pub trimmed_login : (state : Option EitherState) → login_kept (option_map trimmed_state state) ≡ login_kept state
+trimmed_login None = refl
+trimmed_login (Some (either.Sso state)) = refl
+trimmed_login (Some (either.Login state)) = trimmed_keeps state.loads
+
+pub trimmed_key : (state : Option EitherState) → key_of (option_map trimmed_state state) ≡ key_of state
+trimmed_key None = refl
+trimmed_key (Some (either.Sso state)) = refl
+trimmed_key (Some (either.Login state)) = refl
+
+pub trimmed_records : (state : Option EitherState) → IfSome (option_map trimmed_state state) HasNoRecords
+trimmed_records None = tt
+trimmed_records (Some (either.Sso state)) = refl
+trimmed_records (Some (either.Login state)) = refl
+
+-- a section that answered did not want memory
+pub answered_stays : {A T E : Type 0} (t : Rules T E) → Tells t → (a : Ghosts A) (env : Variables) (settings : CallSettings) (old : A) (before : Option (TokenState T E)) (new : A) (later : Option (TokenState T E)) (answer : Result T E) →
+    StateAnswers t a env settings old before new later answer → is_memory t answer ≡ true → later ≡ before
+answered_stays t tells a env settings old None new None answer h memory = refl
+answered_stays t tells a env settings old None new (Some later) answer h memory = absurd h
+answered_stays t tells a env settings old (Some before) new None answer h memory = absurd h
+answered_stays t tells a env settings old (Some before) new (Some later) answer h memory =
+    absurd (no (sym memory ∙ ap (is_memory t) h.answers ∙ section_tells t tells before.key env settings (kept_in before.loads) (last_in before.loads) h.ends.part h.made h.ends.reads))
+  where
+    no : true ≡ false → ⊥
+    no e = cc
 
 module _ {W : Type 0} (w : Ghosts W) where
   halts_first : {A B : Type 0} (p : Inquiry A) (f : A → Inquiry B) (old new : W) (stop : Stop) → Halts w p old new stop → Halts w (after p f) old new stop

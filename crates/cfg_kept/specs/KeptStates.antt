@@ -3,6 +3,7 @@ use Rattle.std.specs.Prelude.{Option, Some, map, option_map}
 use Rattle.cfg_token.specs.declared.token_key.TokenKey.{TokenKey}
 use Rattle.cfg_imds.specs.Tokens.{bare_token}
 use Rattle.cfg_kept.specs.declared.kept.Kept.{Kept}
+use Rattle.cfg_kept.specs.declared.keyed.EitherState.{EitherState}
 use Rattle.cfg_kept.specs.declared.metadata.PlaceState.{PlaceState}
 use Rattle.cfg_kept.specs.Kinds.{States, PlaceStates}
 use Rattle.cfg_kept.specs.FoundValues.{bare}
@@ -25,3 +26,7 @@ kept_holdings kept = held (map bare kept.found.items) (Some (states_of kept))
 -- the key of the token, where there is one
 abbrev pub kept_key : Kept → Option TokenKey
 kept_key kept = key_of kept.token
+
+-- the state of the token of the key, with its loads
+abbrev pub kept_token : Kept → Option EitherState
+kept_token kept = kept.token

@@ -1,5 +1,5 @@
 -- The state of the token of one key.
-use Rattle.std.specs.Prelude.{◌≡◌, Bool, true, false, List, map, Option, Some, None, IfSome, option_map, Result}
+use Rattle.std.specs.Prelude.{◌≡◌, Bool, true, false, List, [], map, Option, Some, None, IfSome, option_map, Result}
 use Rattle.cfg_types.specs.Environment.{Variables}
 use Rattle.cfg_types.specs.declared.settings.CallSettings.{CallSettings}
 use Rattle.cfg_types.specs.declared.errors.login.LoginTokenError.{LoginTokenError}
@@ -10,6 +10,8 @@ use Rattle.cfg_token.specs.declared.token_key.TokenKey.{TokenKey}
 use Rattle.cfg_token.specs.declared.sso_token.CachedSsoToken.{CachedSsoToken}
 use Rattle.cfg_token.specs.declared.state.TokenState.{TokenState}
 use Rattle.cfg_token.specs.Rules.{Rules}
+use Rattle.cfg_token.specs.Histories.{History, trimmed}
+use Rattle.cfg_token.specs.SectionCalls.{Answers}
 use Rattle.cfg_token.specs.SsoTokens.{Given as GivenSso, is_sso, sso_rules}
 use Rattle.cfg_login_token.specs.declared.login_token.LoginToken.{LoginToken}
 use Rattle.cfg_login_token.specs.LoginTokens.{Given as GivenLogin, is_login, login_rules}
@@ -82,3 +84,37 @@ HoldsSso a env settings old found before new more later result =
 abbrev pub HoldsLogin : {A : Type 0} → Ghosts A → Variables → CallSettings → A → List Found → Option EitherState → A → List Found → Option EitherState → Result (GivenLogin LoginToken) Stop → Type 0
 HoldsLogin a env settings old found before new more later result =
     IfSome (key_of before) (λ key. HoldsOne a (login_holding key env settings) old new (map bare found) (map bare more) (login_at (login_kept before)) (login_at (login_kept later)) result)
+
+-- A section of the token in this state gave this answer. A load that it finished added one record, whose
+-- receipts are what the journal gained, and a hit added none. Where no state is told before, none is after.
+abbrev pub StateAnswers : {A T E : Type 0} → Rules T E → Ghosts A → Variables → CallSettings → A → Option (TokenState T E) → A → Option (TokenState T E) → Result T E → Type 0
+StateAnswers t a env settings old (Some before) new (Some later) answer = Answers t a before.key env settings old before.loads new later.loads answer
+StateAnswers t a env settings old None new None answer = Unit {0}
+StateAnswers t a env settings old (Some before) new None answer = ⊥
+StateAnswers t a env settings old None new (Some later) answer = ⊥
+
+-- the same of the token of IAM Identity Center, and of that of a sign-in session
+abbrev pub SsoAnswers : {A : Type 0} → Ghosts A → Variables → CallSettings → A → Option EitherState → A → Option EitherState → GivenSso CachedSsoToken → Type 0
+SsoAnswers a env settings old before new later answer = StateAnswers sso_rules a env settings old (sso_state_in before) new (sso_state_in later) answer
+
+abbrev pub LoginAnswers : {A : Type 0} → Ghosts A → Variables → CallSettings → A → Option EitherState → A → Option EitherState → GivenLogin LoginToken → Type 0
+LoginAnswers a env settings old before new later answer = StateAnswers login_rules a env settings old (login_state_in before) new (login_state_in later) answer
+
+-- no load was made, and no attempt is noted
+abbrev pub no_loads : {T E : Type 0} → History T E
+no_loads = record { load = None; last = None; records = [] }
+
+-- No load was made of the token of this state, and no attempt is noted.
+abbrev pub HasNoLoads : EitherState → Type 0
+HasNoLoads (Sso state) = state.loads ≡ no_loads
+HasNoLoads (Login state) = state.loads ≡ no_loads
+
+-- the state with what is kept now as its origin, and without records
+abbrev pub trimmed_state : EitherState → EitherState
+trimmed_state (Sso state) = Sso (record state { loads = trimmed state.loads })
+trimmed_state (Login state) = Login (record state { loads = trimmed state.loads })
+
+-- No record of a load is in this state.
+abbrev pub HasNoRecords : EitherState → Type 0
+HasNoRecords (Sso state) = state.loads.records ≡ []
+HasNoRecords (Login state) = state.loads.records ≡ []

@@ -1,13 +1,14 @@
 //! What a holding of a kept value found.
-ghost use Rattle.std.specs.Prelude.{◌≡◌, ◌++◌, ◌∷◌, [], OnOk, OnErr, map};
+ghost use Rattle.std.specs.Prelude.{◌≡◌, ◌++◌, ◌∷◌, [], IfOk, OnOk, OnErr, map};
 ghost use Rattle.cfg_kept.specs.FoundValues.{bare};
 
 use crate::place::Place;
 use crate::retrieved::Retrieved;
 use cfg_imds::MetadataToken;
 use cfg_login_token::LoginToken;
-use cfg_token::{CachedSsoToken, Load};
-use cfg_types::{Instant, OutOfMemory};
+use cfg_token::{CachedSsoToken, FileToken, Load};
+use cfg_types::{Instant, OutOfMemory, TryCopy, copy_option};
+use std::alloc::Global;
 
 /// A value that a holding found, with the receipts that it carries.
 pub enum Found {
@@ -46,6 +47,62 @@ impl Drop for Found {
             Found::Login { load: _, last: _ } => {}
         }
     }
+}
+
+impl TryCopy for Found {
+    fn copy(&self, alloc: Global) -> Result<Found, OutOfMemory> {
+        match self {
+            Found::ImdsToken { place, token } => {
+                let token = copy_option(alloc, token)?;
+                Ok(Found::ImdsToken {
+                    place: *place,
+                    token,
+                })
+            }
+            Found::Retrieved { place, retrieved } => {
+                let retrieved = copy_option(alloc, retrieved)?;
+                Ok(Found::Retrieved {
+                    place: *place,
+                    retrieved,
+                })
+            }
+            Found::Sso { load, last } => {
+                let load = copy_load(alloc, load)?;
+                Ok(Found::Sso { load, last: *last })
+            }
+            Found::Login { load, last } => {
+                let load = copy_load(alloc, load)?;
+                Ok(Found::Login { load, last: *last })
+            }
+        }
+    }
+}
+
+// A copy of a load, none of none.
+fn copy_load<T: FileToken>(
+    alloc: Global,
+    load: &Option<Load<T>>,
+) -> Result<Option<Load<T>>, OutOfMemory>
+    ensures { IfOk result (λ l. l ≡ load.now) }
+{
+    match load {
+        None => Ok(None),
+        Some(load) => {
+            let load = load.copy(alloc)?;
+            Ok(Some(load))
+        }
+    }
+}
+
+/// A copy of the values that were found. `OutOfMemory` where memory runs out.
+pub(crate) fn copy_found(alloc: Global, found: &Vec<Found>) -> Result<Vec<Found>, OutOfMemory>
+    ensures { IfOk result (λ f. f.items ≡ found.now.items) }
+{
+    let mut copies = Vec::with_capacity(alloc, found.len())?;
+    for value in found {
+        copies.push(value.copy(alloc)?)?;
+    }
+    Ok(copies)
 }
 
 /// One value more that was found. `OutOfMemory` where memory runs out, and the list stays as it was.

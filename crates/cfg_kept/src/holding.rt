@@ -1,5 +1,6 @@
 //! One holding of a token that is kept, of any kind.
-ghost use Rattle.std.specs.Prelude.{◌≡◌, IfOk, true};
+ghost use Rattle.std.specs.Prelude.{◌≡◌, IfOk, OnErr, true};
+ghost use Rattle.cfg_token.specs.SectionCalls.{Answers};
 ghost use Rattle.cfg_kept.specs.FoundValues.{bare};
 ghost use Rattle.cfg_kept.specs.LoginHoldings.{login_at};
 ghost use Rattle.cfg_kept.specs.SectionHoldings.{kept_of, HoldsSection};
@@ -15,12 +16,17 @@ use std::alloc::Global;
 
 /// A kind of token that is kept, and the section of it that a keeper has.
 pub trait KeptToken: FileToken {
-    ghost use Rattle.std.specs.Prelude.{◌≡◌, IfSome, true};
+    ghost use Rattle.std.specs.Prelude.{◌≡◌, Option, IfSome, IfOk, OnErr, true};
+    ghost use Rattle.cfg_token.specs.declared.state.TokenState.{TokenState as StateHeld};
+    ghost use Rattle.cfg_kept.specs.declared.keyed.EitherState.{EitherState};
     ghost use Rattle.cfg_kept.specs.Holds.{HoldsFollows};
-    ghost use Rattle.cfg_kept.specs.KeyedStates.{is_key_of};
+    ghost use Rattle.cfg_kept.specs.KeyedStates.{is_key_of, StateAnswers};
     ghost use Rattle.cfg_kept.specs.SectionHoldings.{TokenSpot, IsSpot, section_holding};
 
     ghost spot: { TokenSpot Self };
+
+    /// The state, where it is that of a token of this kind.
+    ghost state_in: { Option EitherState → Option (StateHeld Self Self.Error) };
 
     /// The keeper's section of such a token.
     fn section<P: Keeper, A: Asking>(
@@ -34,15 +40,21 @@ pub trait KeptToken: FileToken {
         ensures follows { IfSome (P.key_held keeper.old) (λ key.
             HoldsFollows ⟦<A as Asking>⟧ (section_holding Self.rules spot key env.now settings.now)
             asking.old (P.holdings keeper.old) asking.new (P.holdings keeper.new) result) }
+        ensures records { IfOk result (λ answer. StateAnswers Self.rules ⟦<A as Asking>⟧ env.now settings.now
+            asking.old (state_in (P.token_held keeper.old)) asking.new (state_in (P.token_held keeper.new)) answer) }
+        ensures stays { OnErr result (P.token_held keeper.new ≡ P.token_held keeper.old) }
         ensures key { P.key_held keeper.new ≡ P.key_held keeper.old };
 
     ghost is_spot: { IsSpot spot };
 }
 
 impl KeptToken for CachedSsoToken {
+    ghost use Rattle.cfg_kept.specs.KeyedStates.{sso_state_in};
     ghost use Rattle.cfg_kept.specs.SsoHoldings.{sso_spot, sso_is_spot};
 
     ghost spot = { sso_spot };
+
+    ghost state_in = { sso_state_in };
 
     ghost is_spot = { sso_is_spot };
 
@@ -58,9 +70,12 @@ impl KeptToken for CachedSsoToken {
 }
 
 impl KeptToken for LoginToken {
+    ghost use Rattle.cfg_kept.specs.KeyedStates.{login_state_in};
     ghost use Rattle.cfg_kept.specs.LoginHoldings.{login_spot, login_is_spot};
 
     ghost spot = { login_spot };
+
+    ghost state_in = { login_state_in };
 
     ghost is_spot = { login_is_spot };
 
@@ -76,12 +91,14 @@ impl KeptToken for LoginToken {
 }
 
 /// One holding of a token, wherever its state is kept. The value is what is found there, as
-/// [`find_sso`] and [`find_login`] give it. It is added to the list, before anything is asked.
+/// [`find_sso`] and [`find_login`] give it. It is added to the list, before anything is asked. A load that
+/// was finished adds one record to the state, whose receipts are what the journal gained, and a hit adds
+/// none.
 ///
 /// # Errors
 ///
 /// The outer error says why it was stopped: memory ran out, or a question was left open. The state is
-/// then as it was. The inner one is the load's.
+/// then as it was, its records included. The inner one is the load's.
 pub fn hold<T: KeptToken, A: Asking>(
     found: &mut Vec<Found>,
     value: Found,
@@ -94,6 +111,9 @@ pub fn hold<T: KeptToken, A: Asking>(
     requires found { bare value ≡ T.spot.at (kept_of state.old.loads) }
     ensures one { HoldsSection T.rules T.spot ⟦<A as Asking>⟧ state.old.key env.now settings.now
         asking.old found.old.items state.old.loads asking.new found.new.items state.new.loads result }
+    ensures records { IfOk result (λ answer. Answers T.rules ⟦<A as Asking>⟧ state.old.key env.now settings.now
+        asking.old state.old.loads asking.new state.new.loads answer) }
+    ensures stays { OnErr result (state.new ≡ state.old) }
     ensures key { state.new.key ≡ state.old.key }
 {
     note_found(found, value)?;

@@ -7,7 +7,8 @@ ghost use Rattle.cfg_imds.specs.Calls.{is_memory as is_metadata_memory};
 ghost use Rattle.cfg_imds.specs.Clients.{endpoint_fault, client_rules};
 ghost use Rattle.cfg_kept.specs.Kinds.{RetrievedAt};
 ghost use Rattle.cfg_kept.specs.FoundValues.{bare};
-ghost use Rattle.cfg_kept.specs.KeyedStates.{is_key_of, is_sso_key, is_login_key};
+ghost use Rattle.cfg_kept.specs.declared.keyed.EitherState.{EitherState};
+ghost use Rattle.cfg_kept.specs.KeyedStates.{is_key_of, is_sso_key, is_login_key, StateAnswers, SsoAnswers, LoginAnswers};
 ghost use Rattle.cfg_kept.specs.Holds.{Holdings, HoldsFollows, HoldsEnds, HoldsBreaks, HoldsFound, leaves_in};
 ghost use Rattle.cfg_kept.specs.LoginHoldings.{login_holding};
 ghost use Rattle.cfg_kept.specs.MetadataHoldings.{token_holding};
@@ -37,10 +38,13 @@ pub trait Keeper {
     /// Whose token is kept.
     ghost key_held: { Self → Option KeyHeld };
 
+    /// The state of the token that is kept, with the records of its loads, where it is told.
+    ghost token_held: { Self → Option EitherState };
+
     /// A section of the token of IAM Identity Center, on what is kept of it, as [`kept_section`] is
-    /// one. A finished section leaves what comes of it in its place, and one that was stopped before
-    /// its end leaves it as it was. The outer error says why it was stopped, and the inner one is the
-    /// section's.
+    /// one. A finished section leaves what comes of it in its place, a finished load with its record, and
+    /// one that was stopped before its end leaves all as it was. The outer error says why it was stopped,
+    /// and the inner one is the section's.
     fn sso_section<A: Asking>(
         &mut self,
         alloc: Global,
@@ -51,12 +55,15 @@ pub trait Keeper {
         requires { is_sso_key (key_held self.old) ≡ true }
         ensures follows { IfSome (key_held self.old) (λ key.
             HoldsFollows ⟦<A as Asking>⟧ (sso_holding key env.now settings.now) asking.old (holdings self.old) asking.new (holdings self.new) result) }
+        ensures records { IfOk result (λ answer. SsoAnswers ⟦<A as Asking>⟧ env.now settings.now
+            asking.old (token_held self.old) asking.new (token_held self.new) answer) }
+        ensures stays { OnErr result (token_held self.new ≡ token_held self.old) }
         ensures key { key_held self.new ≡ key_held self.old };
 
     /// A section of the token of a sign-in session, on what is kept of it, as [`kept_section`] is
-    /// one. A finished section leaves what comes of it in its place, and one that was stopped before
-    /// its end leaves it as it was. The outer error says why it was stopped, and the inner one is the
-    /// section's.
+    /// one. A finished section leaves what comes of it in its place, a finished load with its record, and
+    /// one that was stopped before its end leaves all as it was. The outer error says why it was stopped,
+    /// and the inner one is the section's.
     fn login_section<A: Asking>(
         &mut self,
         alloc: Global,
@@ -67,6 +74,9 @@ pub trait Keeper {
         requires { is_login_key (key_held self.old) ≡ true }
         ensures follows { IfSome (key_held self.old) (λ key.
             HoldsFollows ⟦<A as Asking>⟧ (login_holding key env.now settings.now) asking.old (holdings self.old) asking.new (holdings self.new) result) }
+        ensures records { IfOk result (λ answer. LoginAnswers ⟦<A as Asking>⟧ env.now settings.now
+            asking.old (token_held self.old) asking.new (token_held self.new) answer) }
+        ensures stays { OnErr result (token_held self.new ≡ token_held self.old) }
         ensures key { key_held self.new ≡ key_held self.old };
 
     /// A session token of a metadata client, on the one that is kept for the place: that one while more
@@ -83,6 +93,7 @@ pub trait Keeper {
         requires { endpoint_fault (client_rules repeated client.now).endpoint ≡ none }
         ensures follows { HoldsFollows ⟦<A as Asking>⟧ (token_holding (client_rules repeated client.now) place)
             asking.old (holdings self.old) asking.new (holdings self.new) result }
+        ensures token { token_held self.new ≡ token_held self.old }
         ensures key { key_held self.new ≡ key_held self.old };
 
     /// A copy of the credentials that were retrieved for the place, if any were. Nothing is asked, and
@@ -90,12 +101,14 @@ pub trait Keeper {
     fn retrieved(&mut self, alloc: Global, place: Place) -> Result<Option<Retrieved>, OutOfMemory>
         ensures found { IfOk result (λ r. HoldsFound (holdings self.old) (holdings self.new) (RetrievedAt place (option_map keys_of_retrieved r))) }
         ensures stays { OnErr result (holdings self.new ≡ holdings self.old) }
+        ensures token { token_held self.new ≡ token_held self.old }
         ensures key { key_held self.new ≡ key_held self.old };
 
     /// Keeps credentials that were retrieved for the place, in place of those that it kept. Nothing is
     /// added to the list, and no memory is taken.
     fn set_retrieved(&mut self, place: Place, retrieved: Retrieved)
         ensures left { holdings self.new ≡ leaves_in (holdings self.old) (RetrievedAt place (Some (keys_of_retrieved retrieved))) }
+        ensures token { token_held self.new ≡ token_held self.old }
         ensures key { key_held self.new ≡ key_held self.old };
 
     /// Whose token is kept, if any is. No holding.
@@ -154,6 +167,9 @@ pub fn kept_section<T: KeptToken, P: Keeper, D: Devices>(
     ensures stopped { is_memory T.rules result ≡ true → IfSome (P.key_held keeper.old) (λ key.
         HoldsBreaks ⟦<World<D> as Asking>⟧ (section_holding T.rules T.spot key env.now settings.now)
         world.old (P.holdings keeper.old) world.new (P.holdings keeper.new)) }
+    ensures records { is_memory T.rules result ≡ false → StateAnswers T.rules ⟦<World<D> as Asking>⟧ env.now settings.now
+        world.old (T.state_in (P.token_held keeper.old)) world.new (T.state_in (P.token_held keeper.new)) result }
+    ensures stays { is_memory T.rules result ≡ true → T.state_in (P.token_held keeper.new) ≡ T.state_in (P.token_held keeper.old) }
     ensures key { P.key_held keeper.new ≡ P.key_held keeper.old }
 {
     match T::section(keeper, alloc, env, settings, world) {
@@ -185,6 +201,7 @@ pub fn imds_token<P: Keeper, D: Devices>(
     ensures stopped { is_metadata_memory result ≡ true →
         HoldsBreaks ⟦<World<D> as Asking>⟧ (token_holding (client_rules repeated client.now) place)
         world.old (P.holdings keeper.old) world.new (P.holdings keeper.new) }
+    ensures token { P.token_held keeper.new ≡ P.token_held keeper.old }
     ensures key { P.key_held keeper.new ≡ P.key_held keeper.old }
 {
     match keeper.imds_token(alloc, place, client, world) {

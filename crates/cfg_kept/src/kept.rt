@@ -1,12 +1,12 @@
 //! What is kept from one call to the next, lent to one call at a time.
-ghost use Rattle.std.specs.Prelude.{◌≡◌, ◌↔◌, [], IsTrue, is_some, option_map};
+ghost use Rattle.std.specs.Prelude.{◌≡◌, ◌↔◌, [], IsTrue, is_some, option_map, IfSome, IfOk};
 ghost use Rattle.std.specs.Option.{option_copied};
 ghost use Rattle.cfg_kept.specs.Kinds.{no_states, place_states};
-ghost use Rattle.cfg_kept.specs.KeyedStates.{is_sso_key, is_login_key, sso_state_in, login_state_in};
+ghost use Rattle.cfg_kept.specs.KeyedStates.{is_sso_key, is_login_key, sso_state_in, login_state_in, HasNoLoads, HasNoRecords, trimmed_state};
 ghost use Rattle.cfg_kept.specs.KeptStates.{states_of, kept_key};
 ghost use Rattle.cfg_kept.specs.Retrieved.{keys_of_retrieved};
 
-use crate::found::Found;
+use crate::found::{Found, copy_found};
 use crate::keeper::Keeper;
 use crate::keyed::KeyedState;
 use crate::metadata::{PlaceState, find_retrieved, hold_token};
@@ -17,7 +17,9 @@ use cfg_imds::Client;
 use cfg_login_token::LoginToken;
 use cfg_token::{CachedSsoToken, TokenKey, TokenState};
 use cfg_types::imds::ImdsError;
-use cfg_types::{Bytes, CallSettings, Env, LoginTokenError, OutOfMemory, SsoTokenProviderError};
+use cfg_types::{
+    Bytes, CallSettings, Env, LoginTokenError, OutOfMemory, SsoTokenProviderError, TryCopy,
+};
 use cfg_world::same::Same;
 use cfg_world::{Asking, Stop};
 use std::alloc::Global;
@@ -42,10 +44,12 @@ impl Drop for Kept {
 }
 
 impl Kept {
-    /// Nothing is kept, and nothing was found. The key says whose token will be kept.
+    /// Nothing is kept, no load was made, no attempt is noted, and nothing was found. The key says whose
+    /// token will be kept.
     pub fn new(alloc: Global, key: Option<TokenKey>) -> Kept
         ensures key { kept_key result ≡ key }
         ensures nothing { states_of result ≡ no_states }
+        ensures loads { IfSome result.token HasNoLoads }
         ensures found { result.found.items ≡ [] }
     {
         Kept {
@@ -54,6 +58,25 @@ impl Kept {
             named: PlaceState::new(),
             found: Vec::new(alloc),
         }
+    }
+
+    /// A copy of what is kept, the records and the origin of the token's loads included, and of the values
+    /// that were found. `OutOfMemory` where memory runs out.
+    pub fn copy(&self, alloc: Global) -> Result<Kept, OutOfMemory>
+        ensures token { IfOk result (λ c. c.token ≡ self.now.token) }
+        ensures places { IfOk result (λ c. (c.chain ≡ self.now.chain) × (c.named ≡ self.now.named)) }
+        ensures found { IfOk result (λ c. c.found.items ≡ self.now.found.items) }
+    {
+        let token = self.token.copy(alloc)?;
+        let chain = self.chain.copy(alloc)?;
+        let named = self.named.copy(alloc)?;
+        let found = copy_found(alloc, &self.found)?;
+        Ok(Kept {
+            token,
+            chain,
+            named,
+            found,
+        })
     }
 
     /// Whether the kept states are those of a chain with this key: the keys are equal, or both are
@@ -96,13 +119,27 @@ impl Kept {
         }
     }
 
-    /// The values that were found are given up. What is kept stays.
+    /// The values that were found are given up. What is kept stays, the records of loads included.
     pub fn clear_found(&mut self)
         ensures found { self.new.found.items ≡ [] }
         ensures kept { states_of self.new ≡ states_of self.old }
+        ensures token { self.new.token ≡ self.old.token }
         ensures key { kept_key self.new ≡ kept_key self.old }
     {
         self.found.clear();
+    }
+
+    /// The records of the token's loads are given up, and what is kept of it now becomes their origin. What
+    /// is kept stays, and so do the values that were found. Nothing is copied.
+    pub fn trim(&mut self)
+        ensures token { self.new.token ≡ option_map trimmed_state self.old.token }
+        ensures records { IfSome self.new.token HasNoRecords }
+        ensures kept { states_of self.new ≡ states_of self.old }
+        ensures places { (self.new.chain ≡ self.old.chain) × (self.new.named ≡ self.old.named) }
+        ensures found { self.new.found.items ≡ self.old.found.items }
+        ensures key { kept_key self.new ≡ kept_key self.old }
+    {
+        self.token.trim();
     }
 }
 
@@ -129,11 +166,13 @@ fn same_key(one: &TokenKey, other: &TokenKey) -> bool
 }
 
 impl Keeper for Kept {
-    ghost use Rattle.cfg_kept.specs.KeptStates.{kept_holdings, kept_key};
+    ghost use Rattle.cfg_kept.specs.KeptStates.{kept_holdings, kept_key, kept_token};
 
     ghost holdings = { kept_holdings };
 
     ghost key_held = { kept_key };
+
+    ghost token_held = { kept_token };
 
     fn sso_section<A: Asking>(
         &mut self,

@@ -1,14 +1,16 @@
 //! The state of the token of one key.
-ghost use Rattle.std.specs.Prelude.{◌≡◌, Some, None, true, is_some};
+ghost use Rattle.std.specs.Prelude.{◌≡◌, Some, None, true, is_some, option_map, IfSome, IfOk, OnErr};
 ghost use Rattle.std.specs.Option.{option_copied};
 ghost use Rattle.cfg_kept.specs.Kinds.{no_token};
-ghost use Rattle.cfg_kept.specs.KeyedStates.{key_of, is_sso_key, is_login_key, sso_state_in, login_state_in, sso_kept, login_kept, HoldsSso, HoldsLogin};
+ghost use Rattle.cfg_kept.specs.KeyedStates.{key_of, is_sso_key, is_login_key, sso_state_in, login_state_in, sso_kept, login_kept, HoldsSso, HoldsLogin, SsoAnswers, LoginAnswers, HasNoLoads, trimmed_state};
 
 use crate::found::Found;
 use crate::holding::{find_login, find_sso, hold};
 use cfg_login_token::LoginToken;
 use cfg_token::{CachedSsoToken, TokenKey, TokenState};
-use cfg_types::{CallSettings, Env, LoginTokenError, SsoTokenProviderError};
+use cfg_types::{
+    CallSettings, Env, LoginTokenError, OutOfMemory, SsoTokenProviderError, TryCopy, copy_option,
+};
 use cfg_world::{Asking, Stop};
 use std::alloc::Global;
 use std::marker::Model;
@@ -26,6 +28,21 @@ impl Drop for EitherState {
         match self {
             EitherState::Sso(_) => {}
             EitherState::Login(_) => {}
+        }
+    }
+}
+
+impl TryCopy for EitherState {
+    fn copy(&self, alloc: Global) -> Result<EitherState, OutOfMemory> {
+        match self {
+            EitherState::Sso(state) => {
+                let state = state.copy(alloc)?;
+                Ok(EitherState::Sso(state))
+            }
+            EitherState::Login(state) => {
+                let state = state.copy(alloc)?;
+                Ok(EitherState::Login(state))
+            }
         }
     }
 }
@@ -53,12 +70,20 @@ impl Model for KeyedState {
     ghost invariant = { λ s. IfSome s.state OfKind };
 }
 
+impl TryCopy for KeyedState {
+    fn copy(&self, alloc: Global) -> Result<KeyedState, OutOfMemory> {
+        let state = copy_option(alloc, &self.state)?;
+        Ok(KeyedState { state })
+    }
+}
+
 impl KeyedState {
-    /// Nothing is kept, and no attempt is noted. Without a key there is no state.
+    /// Nothing is kept, no load was made, and no attempt is noted. Without a key there is no state.
     pub fn new(alloc: Global, key: Option<TokenKey>) -> KeyedState
         ensures key { key_of result ≡ key }
         ensures sso { sso_kept result ≡ no_token }
         ensures login { login_kept result ≡ no_token }
+        ensures loads { IfSome result HasNoLoads }
     {
         match key {
             Some(key) => KeyedState::of_key(alloc, key),
@@ -70,6 +95,7 @@ impl KeyedState {
         ensures key { key_of result ≡ Some key }
         ensures sso { sso_kept result ≡ no_token }
         ensures login { login_kept result ≡ no_token }
+        ensures loads { IfSome result HasNoLoads }
     {
         let state = match &key {
             TokenKey::Sso { .. } => EitherState::Sso(TokenState::new(alloc, key)),
@@ -110,11 +136,23 @@ impl KeyedState {
             _ => None,
         }
     }
+
+    /// What is kept now becomes the origin of the state, and there are no records. Nothing is copied.
+    pub fn trim(&mut self)
+        ensures { self.new ≡ option_map trimmed_state self.old }
+    {
+        match &mut self.state {
+            Some(EitherState::Sso(state)) => state.trim(),
+            Some(EitherState::Login(state)) => state.trim(),
+            None => {}
+        }
+    }
 }
 
 impl KeyedState {
     /// One holding of the token of IAM Identity Center, as [`hold`] is one, for a key of that
-    /// kind. What is kept of a sign-in session stays.
+    /// kind. What is kept of a sign-in session stays. A load that was finished adds its record, a hit
+    /// adds none, and after a stop the state is as it was.
     pub fn hold_sso<A: Asking>(
         &mut self,
         found: &mut Vec<Found>,
@@ -124,6 +162,8 @@ impl KeyedState {
     ) -> Result<Result<CachedSsoToken, SsoTokenProviderError>, Stop>
         requires { is_sso_key (key_of self.old) ≡ true }
         ensures one { HoldsSso ⟦<A as Asking>⟧ env.now settings.now asking.old found.old.items self.old asking.new found.new.items self.new result }
+        ensures records { IfOk result (λ answer. SsoAnswers ⟦<A as Asking>⟧ env.now settings.now asking.old self.old asking.new self.new answer) }
+        ensures stays { OnErr result (self.new ≡ self.old) }
         ensures other { login_kept self.new ≡ login_kept self.old }
         ensures key { key_of self.new ≡ key_of self.old }
     {
@@ -137,7 +177,8 @@ impl KeyedState {
     }
 
     /// One holding of the token of a sign-in session, as [`hold`] is one, for a key of that
-    /// kind. What is kept of IAM Identity Center stays.
+    /// kind. What is kept of IAM Identity Center stays. A load that was finished adds its record, a hit
+    /// adds none, and after a stop the state is as it was.
     pub fn hold_login<A: Asking>(
         &mut self,
         found: &mut Vec<Found>,
@@ -147,6 +188,8 @@ impl KeyedState {
     ) -> Result<Result<LoginToken, LoginTokenError>, Stop>
         requires { is_login_key (key_of self.old) ≡ true }
         ensures one { HoldsLogin ⟦<A as Asking>⟧ env.now settings.now asking.old found.old.items self.old asking.new found.new.items self.new result }
+        ensures records { IfOk result (λ answer. LoginAnswers ⟦<A as Asking>⟧ env.now settings.now asking.old self.old asking.new self.new answer) }
+        ensures stays { OnErr result (self.new ≡ self.old) }
         ensures other { sso_kept self.new ≡ sso_kept self.old }
         ensures key { key_of self.new ≡ key_of self.old }
     {

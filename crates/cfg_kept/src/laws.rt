@@ -4,9 +4,11 @@ ghost use Rattle.cfg_world.specs.declared.ask.Question.{Question as Asked};
 ghost use Rattle.cfg_world.specs.Fits.{Pair};
 ghost use Rattle.cfg_world.specs.Inquiry.{Inquiry, Reads as ReadsBelow};
 ghost use Rattle.cfg_world.specs.Agreeing.{AnswerAlike};
+ghost use Rattle.cfg_token.specs.Histories.{History, trimmed};
 ghost use Rattle.cfg_kept.specs.Kinds.{Value, States};
 ghost use Rattle.cfg_kept.specs.KeptInquiry.{KeptInquiry, Runs, Begins, Reads, lift, onwards, found_by, kept_after};
 ghost use Rattle.cfg_kept.specs.Beginnings.{GoesOn, IsWhole, IsNext, AsksOne, BeginsInTurn};
+ghost use Rattle.cfg_kept.specs.SectionHoldings.{kept_of};
 
 /// From one kept state a tree has one journal: two runs whose answers agree as far as both ask the
 /// same have the same journal, find the same values, come to the same outcome, and leave the same.
@@ -62,4 +64,10 @@ pub fn trees_begin_in_turn<A, B>()
 pub fn inquiries_find_nothing<R>()
     ensures { (inquiry : Inquiry R) (found : List Value) (journal : List Pair) (out : R) →
         Reads (lift inquiry) found journal out ↔ (found ≡ []) × ReadsBelow inquiry journal out }
+{}
+
+/// What a holding finds of a token does not depend on records: where what is kept becomes the origin and
+/// the records are given up, the token and the last attempt stay.
+pub fn records_are_not_found<T, E>()
+    ensures { (history : History T E) → kept_of (trimmed history) ≡ kept_of history }
 {}

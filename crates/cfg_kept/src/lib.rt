@@ -4,8 +4,9 @@
 //! each place of a metadata client its session token and the credentials that were retrieved there. It
 //! stands on cfg_world, cfg_token, cfg_login_token and cfg_imds. The layers above may use that an inquiry is
 //! such a tree that finds and leaves nothing, that kept states which are told decide with the answers
-//! what is found, what is left and what comes out, that after memory ran out each kept value is as the
-//! last finished holding left it, and that retrieved credentials are those that their receipts tell.
+//! what is found, what is left and what comes out, that a load which a holding finished adds its record,
+//! that after memory ran out each kept value is as the last finished holding left it, and that retrieved
+//! credentials are those that their receipts tell.
 #![tactic(auto)]
 
 mod found;

@@ -14,7 +14,7 @@ use cfg_exchange::ClassifyRetry;
 use cfg_imds::steps::follow_settle;
 use cfg_imds::{Client, MetadataToken};
 use cfg_types::imds::ImdsError;
-use cfg_types::{Bytes, OutOfMemory, copy_option};
+use cfg_types::{Bytes, OutOfMemory, TryCopy, copy_option};
 use cfg_world::{Asking, Stop};
 use std::alloc::Global;
 
@@ -45,6 +45,14 @@ impl PlaceState {
             token: None,
             retrieved: None,
         }
+    }
+}
+
+impl TryCopy for PlaceState {
+    fn copy(&self, alloc: Global) -> Result<PlaceState, OutOfMemory> {
+        let token = copy_option(alloc, &self.token)?;
+        let retrieved = copy_option(alloc, &self.retrieved)?;
+        Ok(PlaceState { token, retrieved })
     }
 }
 

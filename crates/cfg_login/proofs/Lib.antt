@@ -3,3 +3,4 @@ pub mod SignInCauses
 pub mod LastReadings
 pub mod InTime
 pub mod SessionKeys
+pub mod OtherSpots

@@ -5,3 +5,4 @@ pub mod InNoWay
 pub mod Provides
 pub mod SignInSetups
 pub mod SessionKeys
+pub mod FoundSessions

@@ -190,7 +190,6 @@ impl LoginCredentialsProvider {
     {
         match self.follow(keeper, world) {
             Ok(outcome) => outcome,
-            // A world leaves no question open: a call over it stops for want of memory alone.
             Err(_) => Err(CredentialsError::OutOfMemory),
         }
     }

@@ -45,6 +45,13 @@ front_has_memory bytes h = by_answer (object_answer bytes) refl h
 known : (bytes : List ℕ) (a : Result MemberList JsonError) → list_answer bytes ≡ a → Answers itself a (list_answer bytes)
 known bytes a is = subst (Answers itself a) (sym is) (same_answer bytes a)
 
+-- it is no object, or broken
+pub front_is_why : (bytes : List ℕ) (e : JsonError) → list_answer bytes ≡ Err e → (e ≡ json.NotObject) ⊎ (e ≡ json.Syntax)
+front_is_why bytes json.NotObject is = inl refl
+front_is_why bytes json.Syntax is = inr refl
+front_is_why bytes json.More is = absurd (never_more_is itself bytes (Err json.More) (known bytes (Err json.More) is) refl)
+front_is_why bytes json.OutOfMemory is = absurd (front_has_memory bytes is)
+
 -- what is said of an answer is said of the reading
 pub is_front : {X : Type 0} (v : X → MemberList) (bytes : List ℕ) (r : Result X JsonError) →
     ((list : List Member) (end : ℕ) → HasObject bytes list end → Answers v r (Ok (list, end))) →

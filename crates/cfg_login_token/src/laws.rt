@@ -1,7 +1,10 @@
 //! Laws, each on a call that carries it.
-ghost use Rattle.std.specs.Prelude.{◌≡◌, ℕ, List, Ok, Some, ◌-◌};
+ghost use Rattle.std.specs.Prelude.{◌≡◌, ◌⊎◌, ℕ, List, Ok, Err, Some, ◌-◌};
 ghost use Rattle.std.specs.Str.{encode_utf8_all};
 ghost use Rattle.cfg_json.specs.declared.member.Member.{Member};
+ghost use Rattle.cfg_json.specs.Answers.{list_answer};
+ghost use Rattle.cfg_types.specs.declared.document.JsonError.{JsonError};
+ghost use Rattle.cfg_types.specs.declared.document.JsonError.TheVariants as json;
 ghost use Rattle.cfg_json.specs.Objects.{HasObject};
 ghost use Rattle.cfg_json.specs.Places.{between};
 ghost use Rattle.cfg_login_token.specs.declared.login_token.LoginToken.{LoginToken};
@@ -21,4 +24,10 @@ pub fn objects_are_read_where_they_stand()
 /// which no backslash is followed by `n`.
 pub fn written_tokens_are_read_back()
     ensures { (token : LoginToken) (text : List ℕ) → IsOfFile token → IsLoginText token text → login_file (encode_utf8_all text) ≡ Ok token }
+{}
+
+/// A file at whose front no object stands is refused as no object, or for its syntax: never since memory ran
+/// out, and never for what follows an object.
+pub fn a_file_is_refused_for_its_front()
+    ensures { (bytes : List ℕ) (e : JsonError) → list_answer bytes ≡ Err e → (e ≡ json.NotObject) ⊎ (e ≡ json.Syntax) }
 {}

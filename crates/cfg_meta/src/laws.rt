@@ -1,5 +1,5 @@
 //! Laws of chains over given members, each on a call that carries it.
-ghost use Rattle.std.specs.Prelude.{◌≡◌, ◌⊎◌, List, Result};
+ghost use Rattle.std.specs.Prelude.{◌≡◌, ◌⊎◌, ◌↔◌, List, Result};
 ghost use Rattle.cfg_world.specs.Fits.{Pair};
 ghost use Rattle.cfg_world.specs.Agreeing.{AnswerAlike};
 ghost use Rattle.cfg_meta.specs.MemberParts.{Keeping, AreMemberParts};
@@ -7,12 +7,14 @@ ghost use Rattle.cfg_meta.specs.FirstAnswers.{IsFirstAnswer, IsNoneLoaded};
 
 use crate::member::ChainMember;
 
-/// A chain answers what the first member gave that was not passed over, as it gave it; or each member was
-/// passed over, and it tells of each.
+/// A chain answers what the first member gave that was not passed over, as it gave it over the last part of
+/// the call's; or each member was passed over, and it tells of each. The parts of those before are theirs, in
+/// order, and each member goes from what was kept of it to what is kept now. There is no other such call.
 pub fn the_first_answer_is_the_chains<M: ChainMember>()
     ensures { (members : List M) (olds news : List Keeping) (part : List Pair) (out : Result M.Value M.Error) →
-        AreMemberParts M.Error.rules (λ m. M.named m) (λ m. M.is_tree m) members olds news part out →
-        IsFirstAnswer M.Error.rules (λ m. M.named m) (λ m. M.is_tree m) members out ⊎ IsNoneLoaded M.Error.rules (λ m. M.named m) (λ m. M.is_tree m) members out }
+        AreMemberParts M.Error.rules (λ m. M.named m) (λ m. M.is_tree m) members olds news part out ↔
+        (IsFirstAnswer M.Error.rules (λ m. M.named m) (λ m. M.is_tree m) members olds news part out ⊎
+        IsNoneLoaded M.Error.rules (λ m. M.named m) (λ m. M.is_tree m) members olds news part out) }
 {}
 
 /// From what is kept of the members there is one journal: of two calls whose answers agree as far as both

@@ -1,9 +1,8 @@
 //! Chains over members that the caller gives, and how any chain goes on after an answer, by the rules of
 //! credentials errors and of token errors. What is kept of one member is apart from what is kept of the
-//! others. It stands on cfg_kept. The layers above may use that a
-//! call's journal is the parts of the members in order, up to the first that was not passed over, whose
-//! answer is the chain's, and that each part goes from what was kept of its member to what its tree
-//! leaves.
+//! others. It stands on cfg_kept. The layers above may use that a call's journal is the parts of the
+//! members in order, up to the first that was not passed over, whose answer is the chain's, and that each
+//! part goes from what was kept of its member to what its tree leaves.
 #![tactic(auto)]
 
 mod error;

@@ -41,7 +41,6 @@ pub fn provide_by_members<M: ChainMember, D: Devices>(
     clear_found(kept);
     match follow_members(alloc, members, kept, world) {
         Ok(outcome) => outcome,
-        // A world leaves no question open: a call over it stops for want of memory alone.
         Err(_) => Err(M::Error::out_of_memory()),
     }
 }

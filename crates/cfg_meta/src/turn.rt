@@ -1,5 +1,5 @@
 //! How a chain goes on after what a member answered.
-ghost use Rattle.std.specs.Prelude.{◌≡◌, ◌++◌, ◌∷◌, [], OnOk};
+ghost use Rattle.std.specs.Prelude.{◌≡◌, ◌++◌, ◌∷◌, [], OnErr, OnOk};
 ghost use Rattle.cfg_base.specs.Text.{characters};
 ghost use Rattle.cfg_meta.specs.AnswerRules.{attempt_of};
 ghost use Rattle.cfg_meta.specs.Turns.{IsTurn};
@@ -28,14 +28,16 @@ pub fn turn_of<V: Drop, E: ChainError>(outcome: Result<V, E>) -> Turn<V, E>
     }
 }
 
-/// One attempt more: the member of this name answered this error. `OutOfMemory` where memory runs out.
+/// One attempt more: the member of this name answered this error. `OutOfMemory` where memory runs out; the
+/// attempts are then as they were.
 pub fn note_attempt<E: Drop>(
     alloc: Global,
     attempts: &mut Vec<ProviderAttempt<E>>,
     name: &str,
     error: E,
 ) -> Result<(), OutOfMemory>
-    ensures { OnOk result (attempts.new.items ≡ attempts.old.items ++ attempt_of (characters name.now) error ∷ []) }
+    ensures noted { OnOk result (attempts.new.items ≡ attempts.old.items ++ attempt_of (characters name.now) error ∷ []) }
+    ensures kept { OnErr result (attempts.new.items ≡ attempts.old.items) }
 {
     let name = Text::of(alloc, name)?;
     attempts.push(ProviderAttempt::new(name, error))?;

@@ -1,5 +1,5 @@
 -- Calls that are made one after another.
-use Rattle.std.proofs.Common.{◌≡◌, ℕ, ◌+◌, List, [], ◌∷◌, ◌++◌, length, Bool, false, None, refl, ◌∙◌, sym, ap, subst, length-append}
+use Rattle.std.proofs.Common.{◌≡◌, ℕ, ◌+◌, List, [], ◌∷◌, ◌++◌, length, Bool, false, refl, ◌∙◌, sym, ap, subst, length-append}
 use Rattle.std.specs.Prelude.{is_ok}
 use Rattle.std.proofs.lemmas.List.{append-nil}
 use Rattle.std.proofs.lemmas.Grind.{flat_map-append}
@@ -7,8 +7,7 @@ use Rattle.cfg_world.specs.Asked.{Same, StandsOn}
 use Rattle.cfg_world.specs.Fits.{Pair}
 use Rattle.cfg_world.specs.Held.{Held}
 use Rattle.cfg_world.specs.Script.{Script, Allows, Stands, start}
-use Rattle.cfg_profile.specs.Configuration.{Configuration}
-use Rattle.cfg_providers.specs.CustomSources.{Answer, NamedAnswer}
+use Rattle.cfg_providers.specs.CustomSources.{Answer}
 use Rattle.cfg_kept.specs.Kinds.{Value, States, no_states}
 use Rattle.cfg_chain.specs.Settings.{ChainSetting}
 use Rattle.cfg_chain.specs.Provides.{IsCall}

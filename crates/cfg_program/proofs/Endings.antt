@@ -1,15 +1,16 @@
 -- How a run ends whose calls were made, or that found no script.
-use Rattle.std.proofs.Common.{◌≡◌, ℕ, List, [], ◌++◌, Bool, Option, subst, sym, inl, inr}
+use Rattle.std.proofs.Common.{◌≡◌, ℕ, List, [], ◌++◌, Bool, Option, refl, subst, sym, inl, inr}
 use Rattle.cfg_world.specs.declared.devices.Devices.{Ghosts}
 use Rattle.cfg_world.specs.Fits.{Pair}
-use Rattle.cfg_world.specs.Grows.{Grows, Stopped}
+use Rattle.cfg_world.specs.Grows.{Grows}
 use Rattle.cfg_world.specs.Held.{Held}
-use Rattle.cfg_world.proofs.Counts.{Counted-none}
-use Rattle.std.proofs.lemmas.List.{append-nil}
+use Rattle.cfg_kept.specs.Kinds.{no_states}
+use Rattle.cfg_chain.specs.Settings.{ChainSetting}
+use Rattle.cfg_chain.proofs.WholeCalls.{call_begins}
 use Rattle.cfg_script.specs.Script.{Plain}
 use Rattle.cfg_program.specs.declared.status.Status.{Status}
 use Rattle.cfg_program.specs.declared.status.Status.TheVariants as status
-use Rattle.cfg_program.specs.Local.{Handed, LocalAnswers, LeavesWorld}
+use Rattle.cfg_program.specs.Local.{Handed, CallAnswers, local_setting, LocalAnswers, StopsInCall, LeavesWorld}
 use Rattle.cfg_program.specs.Streams.{SourceSeen, SinkSeen}
 use Rattle.cfg_program.specs.Written.{LinesWritten}
 use Rattle.cfg_program.specs.Generated.{GeneratedAnswers, GeneratedLineWritten, GeneratedWritten}
@@ -76,30 +77,24 @@ module _ (sink : SinkSeen) (world : WorldSeen) (handed : Handed) (part : List Pa
   local_ends status.NotBuilt w = local_line status.NotBuilt w
 
 module _ {D : Type 0} (d : Ghosts D) where
-  -- a part that was entered in full, where memory ran out behind it
-  pub stopped_behind : (part : List Pair) (before later : Held D) → Grows d part before later → Stopped d before later
-  stopped_behind part before later g = (part, record { journal = g.journal; fits = g.fits; same = g.same; counted = g.counted })
-
   -- nothing was asked
-  pub stopped_before : (before : Held D) → Stopped d before before
-  stopped_before before = (
-    [],
-    record {
-      journal = sym (append-nil before.journal);
-      fits = tt;
-      same = record { to = λ entries h. h; from = λ entries h. h };
-      counted = Counted-none (d.faults before.devices);
-    },
-  )
+  pub stopped_before : (over : ChainSetting) (before : Held D) → StopsInCall d over before before
+  stopped_before over before = (no_states, [], inl (refl, refl))
 
-  pub leaves_world : (part : List Pair) (before later : Held D) (ended : Status) → Grows d part before later → LeavesWorld d before later ended
-  leaves_world part before later status.Done g = (part, g)
-  leaves_world part before later status.Refused g = (part, g)
-  leaves_world part before later status.UnknownCommand g = (part, g)
-  leaves_world part before later status.NoScript g = (part, g)
-  leaves_world part before later status.SourceFault g = (part, g)
-  leaves_world part before later status.SinkFault g = (part, g)
-  leaves_world part before later status.OutOfMemory g = stopped_behind part before later g
-  leaves_world part before later status.TooLong g = (part, g)
-  leaves_world part before later status.HistoryDiffers g = (part, g)
-  leaves_world part before later status.NotBuilt g = (part, g)
+  -- memory ran out behind the call
+  pub stopped_behind : (over : ChainSetting) (b : Bool) (line : List ℕ) (part : List Pair) (before later : Held D) → Grows d part before later → CallAnswers over part b line → StopsInCall d over before later
+  stopped_behind over b line part before later g a =
+      let grows = subst (λ p. Grows d p before later) (sym a.asked) g in
+      (a.call.kept, a.call.found, inr (call_begins d over no_states a.call.kept a.call.found before later a.call.out (record { part = a.call.journal; grows = grows; call = a.made })))
+
+  pub leaves_world : (handed : Handed) (b : Bool) (line : List ℕ) (part : List Pair) (before later : Held D) (ended : Status) → Grows d part before later → LocalAnswers handed part b line → LeavesWorld d handed before later ended
+  leaves_world handed b line part before later status.Done g a = (part, g)
+  leaves_world handed b line part before later status.Refused g a = (part, g)
+  leaves_world handed b line part before later status.UnknownCommand g a = (part, g)
+  leaves_world handed b line part before later status.NoScript g a = (part, g)
+  leaves_world handed b line part before later status.SourceFault g a = (part, g)
+  leaves_world handed b line part before later status.SinkFault g a = (part, g)
+  leaves_world handed b line part before later status.OutOfMemory g a = stopped_behind (local_setting handed) b line part before later g a
+  leaves_world handed b line part before later status.TooLong g a = (part, g)
+  leaves_world handed b line part before later status.HistoryDiffers g a = (part, g)
+  leaves_world handed b line part before later status.NotBuilt g a = (part, g)

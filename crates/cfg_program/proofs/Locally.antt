@@ -7,34 +7,29 @@ use Rattle.cfg_base.specs.Entries.{each_set}
 use Rattle.cfg_types.specs.declared.environment.EnvText.{EnvText}
 use Rattle.cfg_world.specs.declared.devices.Devices.{Ghosts}
 use Rattle.cfg_world.specs.Fits.{Pair}
-use Rattle.cfg_world.specs.Grows.{Stopped}
 use Rattle.cfg_world.specs.Held.{Held}
 use Rattle.cfg_profile.specs.Configuration.{Configuration, nothing_configured}
 use Rattle.cfg_kept.specs.Kinds.{Value, States, no_states}
-use Rattle.cfg_providers.specs.CustomSources.{Answer, NamedAnswer}
+use Rattle.cfg_providers.specs.CustomSources.{Answer}
 use Rattle.cfg_types.specs.Classes.{is_memory}
 use Rattle.cfg_chain.specs.Settings.{ChainSetting}
-use Rattle.cfg_chain.specs.Provides.{IsCall, Provides, Interrupted}
+use Rattle.cfg_chain.specs.Provides.{IsCall, Provides, ProvidesBeginning, Interrupted}
+use Rattle.cfg_chain.proofs.WholeCalls.{call_begins}
 use Rattle.cfg_program.specs.Lines.{shown}
-use Rattle.cfg_program.specs.Local.{local_configuration, GrowsByCall}
-use Rattle.cfg_program.proofs.Endings.{stopped_before, stopped_behind}
+use Rattle.cfg_program.specs.Local.{local_configuration, GrowsByCall, StopsInCall}
 
 pub on_err : {A E : Type 0} {P : Type 0} (r : Result A E) → P → OnErr r P
 on_err (Ok x) p = tt
 on_err (Err e) p = p
 
 module _ {D : Type 0} (d : Ghosts D) (over : ChainSetting) (old new : States) (found : List Value) (before later : Held D) where
-  stopped_by : Interrupted d over old new found before later → Stopped d before later
-  stopped_by (inl h) = subst (λ (w : Held D). Stopped d before w) (sym h.0) (stopped_before d before)
-  stopped_by (inr h) = (h.part, h.stays)
-
-  stopped_as : (out : Answer) (b : Bool) → is_memory out ≡ b → (is_memory out ≡ false → Provides d over old new found before later out) → (is_memory out ≡ true → Interrupted d over old new found before later) → Stopped d before later
-  stopped_as out true e p s = stopped_by (s e)
-  stopped_as out false e p s = let x = p e in stopped_behind d x.part before later x.grows
+  stopped_as : (out : Answer) (b : Bool) → old ≡ no_states → is_memory out ≡ b → (is_memory out ≡ false → Provides d over old new found before later out) → (is_memory out ≡ true → Interrupted d over old new found before later) → StopsInCall d over before later
+  stopped_as out true nothing e p s = (new, found, subst (λ k. Interrupted d over k new found before later) nothing (s e))
+  stopped_as out false nothing e p s = (new, found, inr (subst (λ k. ProvidesBeginning d over k new found before later) nothing (call_begins d over old new found before later out (p e))))
 
   -- memory ran out, in the call or behind it
-  pub stopped : (out : Answer) → (is_memory out ≡ false → Provides d over old new found before later out) → (is_memory out ≡ true → Interrupted d over old new found before later) → Stopped d before later
-  stopped out p s = stopped_as out (is_memory out) refl p s
+  pub stopped : (out : Answer) → old ≡ no_states → (is_memory out ≡ false → Provides d over old new found before later out) → (is_memory out ≡ true → Interrupted d over old new found before later) → StopsInCall d over before later
+  stopped out nothing p s = stopped_as out (is_memory out) nothing refl p s
 
 -- the entries behind those that were there before
 gained : (before part : List Pair) → take (length (before ++ part) - length before) (drop (length before) (before ++ part)) ≡ part

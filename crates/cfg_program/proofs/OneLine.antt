@@ -1,11 +1,10 @@
 -- One journal over what is handed in has one line.
-use Rattle.std.proofs.Common.{◌≡◌, ℕ, List, [], ◌∷◌, ◌++◌, Bool, None, refl, ◌∙◌, sym, ap, subst}
+use Rattle.std.proofs.Common.{◌≡◌, ℕ, List, [], ◌∷◌, ◌++◌, Bool, refl, ◌∙◌, sym, ap, subst}
 use Rattle.std.proofs.lemmas.List.{append_cancel_left}
 use Rattle.std.specs.Prelude.{is_ok}
 use Rattle.cfg_world.specs.Fits.{Pair}
 use Rattle.cfg_world.specs.Agreeing.{AnswerAlike}
-use Rattle.cfg_profile.specs.Configuration.{Configuration}
-use Rattle.cfg_providers.specs.CustomSources.{Answer, NamedAnswer}
+use Rattle.cfg_providers.specs.CustomSources.{Answer}
 use Rattle.cfg_kept.specs.Kinds.{no_states}
 use Rattle.cfg_chain.specs.Settings.{ChainSetting}
 use Rattle.cfg_chain.specs.Provides.{IsCall}

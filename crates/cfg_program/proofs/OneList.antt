@@ -1,10 +1,9 @@
 -- Calls over one script of devices have one list of lines in a form.
-use Rattle.std.proofs.Common.{◌≡◌, ℕ, List, [], ◌∷◌, ◌++◌, length, Bool, None, refl, ◌∙◌, sym, ap, subst, arith}
+use Rattle.std.proofs.Common.{◌≡◌, ℕ, List, [], ◌∷◌, ◌++◌, length, Bool, refl, ◌∙◌, sym, ap, subst, arith}
 use Rattle.cfg_world.specs.declared.script.DeviceLists.{DeviceLists}
 use Rattle.cfg_world.specs.Fits.{Pair}
 use Rattle.cfg_world.specs.Script.{Place, Given, place_after, place_left, start}
-use Rattle.cfg_profile.specs.Configuration.{Configuration}
-use Rattle.cfg_providers.specs.CustomSources.{Answer, NamedAnswer}
+use Rattle.cfg_providers.specs.CustomSources.{Answer}
 use Rattle.cfg_kept.specs.Kinds.{Value, States, no_states}
 use Rattle.cfg_chain.specs.Settings.{ChainSetting}
 use Rattle.cfg_chain.proofs.Calls.{one_call}

@@ -1,19 +1,22 @@
 //! What stands below the line of an error.
-ghost use Rattle.std.specs.Prelude.{◌≡◌, ◌+◌, ◌++◌, OnOk};
+ghost use Rattle.std.specs.Prelude.{◌≡◌, ◌++◌, OnOk};
 ghost use Rattle.std.specs.List.{flat_map};
 ghost use Rattle.cfg_error_report.specs.Lines.{Line};
 ghost use Rattle.cfg_error_report.specs.CredentialsCauses.{causes_of as causes_of_error};
-ghost use Rattle.cfg_program.specs.CauseLines.{indent, shown_cause, shown_causes};
-ghost use Rattle.cfg_program.specs.Escapes.{escaped_in_line, line_byte};
+ghost use Rattle.cfg_program.specs.CauseLines.{indent, lead as lead_of, shown_cause, shown_causes};
+ghost use Rattle.percent_encoding.specs.Percent.{percent_encode_byte as percent_encode_byte_of};
+ghost use Rattle.cfg_program.specs.Escapes.{escaped_in_line, is_control as is_control_character, turns_direction as turns_direction_of, line_character, line_text};
 
-use cfg_error_report::{CauseLine, causes_of};
+use cfg_error_report::{CauseLine, LineKind, causes_of};
 use cfg_types::{CredentialsError, OutOfMemory};
 use percent_encoding::percent_encode_byte;
 use std::alloc::AllocError;
 
 /// Writes what an error comes of, from the outside in: each text on a line of its own, two spaces deeper than
-/// the error's line, and for each level of a chain's members two spaces more. Control characters and `%` are `%`
-/// and two hexadecimal digits. `OutOfMemory` where memory runs out.
+/// the error's line, and for each level of a chain's members two spaces more; a detail of a text two spaces
+/// deeper than the text. Of control characters, of those that
+/// turn the direction of a text (U+202A to U+202E and U+2066 to U+2069) and of `%` each byte is `%` and two
+/// hexadecimal digits. `OutOfMemory` where memory runs out.
 pub fn write_causes(lines: &mut Vec<u8>, error: &CredentialsError) -> Result<(), OutOfMemory>
     ensures { OnOk result (lines.new.items ≡ lines.old.items ++ shown_causes (causes_of_error error.now)) }
 {
@@ -34,11 +37,20 @@ fn write_lines(lines: &mut Vec<u8>, causes: &[CauseLine]) -> Result<(), AllocErr
 fn write_cause(lines: &mut Vec<u8>, cause: &CauseLine) -> Result<(), AllocError>
     ensures { OnOk result (lines.new.items ≡ lines.old.items ++ shown_cause cause.now) }
 {
-    lines.extend_from_slice(b"  ")?;
+    lines.extend_from_slice(lead(cause.kind()))?;
     write_indent(lines, cause.depth())?;
-    write_escaped(lines, cause.text().as_bytes())?;
+    write_escaped(lines, cause.text())?;
     lines.push(b'\n')?;
     Ok(())
+}
+
+fn lead(kind: LineKind) -> &'static [u8]
+    ensures { result.now ≡ lead_of kind }
+{
+    match kind {
+        LineKind::Detail => b"    ",
+        _ => b"  ",
+    }
 }
 
 fn write_indent(lines: &mut Vec<u8>, depth: usize) -> Result<(), AllocError>
@@ -50,23 +62,57 @@ fn write_indent(lines: &mut Vec<u8>, depth: usize) -> Result<(), AllocError>
     Ok(())
 }
 
-// The bytes, control characters and `%` as `%` and two digits: a text has a line to itself, so that no other character
-// can end it, and names stay readable.
-fn write_escaped(lines: &mut Vec<u8>, text: &[u8]) -> Result<(), AllocError>
-    ensures { OnOk result (lines.new.items ≡ lines.old.items ++ flat_map line_byte text.now) }
+// A text has a line to itself, so that only a control character ends it, and names stay readable. Characters that
+// turn the direction of a text would show its line, or a later one, as another.
+fn write_escaped(lines: &mut Vec<u8>, text: &str) -> Result<(), AllocError>
+    ensures { OnOk result (lines.new.items ≡ lines.old.items ++ line_text text.now) }
 {
-    for byte in text {
-        if is_escaped(*byte) {
-            lines.extend_from_slice(percent_encode_byte(*byte).as_bytes())?;
-        } else {
-            lines.push(*byte)?;
-        }
+    for character in text.chars() {
+        write_character(lines, character)?;
     }
     Ok(())
 }
 
-fn is_escaped(byte: u8) -> bool
-    ensures { result ≡ escaped_in_line byte }
+fn write_character(lines: &mut Vec<u8>, character: char) -> Result<(), AllocError>
+    ensures { OnOk result (lines.new.items ≡ lines.old.items ++ line_character character) }
 {
-    byte < 32 || byte == 127 || byte == b'%'
+    let mut buffer = [0; 4];
+    let bytes = character.encode_utf8(&mut buffer).as_bytes();
+    if is_escaped(character) {
+        write_percent(lines, bytes)
+    } else {
+        lines.extend_from_slice(bytes)
+    }
+}
+
+// Each byte as `%` and two digits.
+fn write_percent(lines: &mut Vec<u8>, bytes: &[u8]) -> Result<(), AllocError>
+    ensures { OnOk result (lines.new.items ≡ lines.old.items ++ flat_map percent_encode_byte_of bytes.now) }
+{
+    for byte in bytes {
+        lines.extend_from_slice(percent_encode_byte(*byte).as_bytes())?;
+    }
+    Ok(())
+}
+
+fn is_escaped(character: char) -> bool
+    ensures { result ≡ escaped_in_line character }
+{
+    is_control(character) || turns_direction(character) || character == '%'
+}
+
+// Also U+0080 to U+009F, which some terminals obey.
+fn is_control(character: char) -> bool
+    ensures { result ≡ is_control_character character }
+{
+    let code = character as u32;
+    code < 32 || code > 126 && code < 160
+}
+
+// U+202A to U+202E and U+2066 to U+2069.
+fn turns_direction(character: char) -> bool
+    ensures { result ≡ turns_direction_of character }
+{
+    let code = character as u32;
+    code > 0x2029 && code < 0x202f || code > 0x2065 && code < 0x206a
 }

@@ -1,10 +1,9 @@
 //! The call over the variables and the world that are handed in.
 ghost use Rattle.std.specs.Prelude.{IfOk, OnErr, map};
 ghost use Rattle.cfg_base.specs.TextMap.{named};
-ghost use Rattle.cfg_world.specs.Grows.{Stopped};
 ghost use Rattle.cfg_chain.specs.Settings.{with_sources};
 ghost use Rattle.cfg_chain.specs.Views.{named_sources, chain_of};
-ghost use Rattle.cfg_program.specs.Local.{local_configuration, GrowsByCall};
+ghost use Rattle.cfg_program.specs.Local.{local_configuration, GrowsByCall, StopsInCall};
 
 use crate::lines::LineForm;
 use crate::outcome::{Answered, tell};
@@ -18,7 +17,7 @@ use std::alloc::Global;
 
 /// Makes one call of the default chain over these variables, the caller's own sources and this world, without
 /// sections and without a region. The world's journal gains the questions of the call. `OutOfMemory` where memory
-/// runs out; the journal then may have gained some of them.
+/// runs out; the journal then gained the first of them, or none, or all.
 pub fn call_locally<D: Devices>(
     alloc: Global,
     variables: Vec<(String, EnvText)>,
@@ -27,7 +26,8 @@ pub fn call_locally<D: Devices>(
 ) -> Result<Answered, OutOfMemory>
     ensures made { let over = with_sources (local_configuration (map named variables.items)) (named_sources value custom.items) in
         IfOk result (λ a. GrowsByCall ⟦<D as Devices>⟧ over world.old world.new a.is_ok a.lines.items) }
-    ensures stopped { OnErr result (Stopped ⟦<D as Devices>⟧ world.old world.new) }
+    ensures stopped { let over = with_sources (local_configuration (map named variables.items)) (named_sources value custom.items) in
+        OnErr result (StopsInCall ⟦<D as Devices>⟧ over world.old world.new) }
 {
     let env = Env::new(alloc, variables)?;
     let config = ProviderConfig::without_region(alloc)?.with_env(env);
@@ -42,7 +42,7 @@ fn call<D: Devices>(
     world: &mut World<D>,
 ) -> Result<Answered, OutOfMemory>
     ensures made { IfOk result (λ a. GrowsByCall ⟦<D as Devices>⟧ (chain_of value repeated chain.now) world.old world.new a.is_ok a.lines.items) }
-    ensures stopped { OnErr result (Stopped ⟦<D as Devices>⟧ world.old world.new) }
+    ensures stopped { OnErr result (StopsInCall ⟦<D as Devices>⟧ (chain_of value repeated chain.now) world.old world.new) }
 {
     let before = world.journal().len();
     let mut kept = chain.new_kept()?;

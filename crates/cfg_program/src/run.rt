@@ -62,7 +62,8 @@ pub fn run<S: Source, K: Sink, D: Devices>(
         (command_named (map (λ a. string_bytes a) arguments.now)) result }
     ensures unread { is_command reads_input (command_named (map (λ a. string_bytes a) arguments.now)) ≡ false → source.new ≡ source.old }
     ensures unwritten { command_named (map (λ a. string_bytes a) arguments.now) ≡ None → sink.new ≡ sink.old }
-    ensures world { WorldAfter ⟦<D as Devices>⟧ (command_named (map (λ a. string_bytes a) arguments.now)) world.old world.new result }
+    ensures world { WorldAfter ⟦<D as Devices>⟧ (record { sources = named_sources value custom.items; variables = map named env.items })
+        (command_named (map (λ a. string_bytes a) arguments.now)) world.old world.new result }
     ensures comes { IsTrue (comes result) }
 {
     match command_of(arguments) {
@@ -185,7 +186,8 @@ fn local_line<K: Sink, D: Devices>(
 ) -> Status
     ensures ends { EndsLocal (sink_seen ⟦<K as Sink>⟧ sink.old sink.new) (world_seen world.old.journal world.new.journal)
         (record { sources = named_sources value custom.items; variables = map named env.items }) result }
-    ensures leaves { LeavesWorld ⟦<D as Devices>⟧ world.old world.new result }
+    ensures leaves { LeavesWorld ⟦<D as Devices>⟧ (record { sources = named_sources value custom.items; variables = map named env.items })
+        world.old world.new result }
 {
     match call_locally(alloc, env, custom, world) {
         Ok(answered) => write_lines(sink, &answered),

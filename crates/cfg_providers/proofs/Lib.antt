@@ -12,3 +12,5 @@ pub mod ProcessSaid
 pub mod ProcessCauses
 pub mod WebIdentityCauses
 pub mod Providing
+pub mod NoHttp
+pub mod SafeTargets

@@ -39,7 +39,6 @@ pub fn assume_roles<D: Devices>(
 {
     match follow_role_chain(alloc, base, roles, settings, world) {
         Ok(outcome) => outcome,
-        // A world leaves no question open: a call over it stops for want of memory alone.
         Err(_) => Err(CredentialsError::OutOfMemory),
     }
 }

@@ -193,7 +193,6 @@ impl CredentialProcessProvider {
     {
         match self.follow(world) {
             Ok(outcome) => outcome,
-            // A world leaves no question open: a call over it stops for want of memory alone.
             Err(_) => Err(CredentialsError::OutOfMemory),
         }
     }

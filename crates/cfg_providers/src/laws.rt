@@ -7,7 +7,10 @@ ghost use Rattle.cfg_types.specs.declared.document.InvalidJsonCredentials.TheVar
 ghost use Rattle.cfg_types.specs.declared.errors.CredentialsError.{CredentialsError as Refusal};
 ghost use Rattle.cfg_json.specs.Documents.{Read, AnswersDocument, IsProcessTable};
 ghost use Rattle.cfg_world.specs.Fits.{Pair};
+ghost use Rattle.cfg_world.specs.Held.{Held};
 ghost use Rattle.cfg_world.specs.Inquiry.{Reads};
+ghost use Rattle.cfg_exchange.specs.SafeJournals.{AsksSafely};
+ghost use Rattle.cfg_exchange.specs.Gains.{Gains};
 ghost use Rattle.cfg_profile.specs.Configuration.{Configuration};
 ghost use Rattle.cfg_profile.specs.Laws.{lowered};
 ghost use Rattle.cfg_profile.specs.NamedSources.{is_named, is_custom};
@@ -19,9 +22,12 @@ ghost use Rattle.cfg_providers.specs.CustomSources.{Answer, NamedAnswer, last_na
 ghost use Rattle.cfg_providers.specs.EnvironmentKeys.{environment};
 ghost use Rattle.cfg_types.specs.Classes.{is_not_loaded_answer};
 ghost use Rattle.cfg_providers.specs.EnvironmentCauses.{environment_is_passed_over, unreadable_variable, why_environment, named_variable};
+ghost use Rattle.cfg_providers.specs.ContainerSetups.{ContainerSetup, settings_in, ProvidesContainer, InterruptedContainer};
 ghost use Rattle.cfg_providers.specs.ProcessDocuments.{process_document};
 ghost use Rattle.cfg_providers.specs.Processes.{credential_process, why_process};
 ghost use Rattle.cfg_providers.specs.WebIdentities.{assumes_by_web_identity, web_identity, why_entry, why_web_identity};
+
+use cfg_world::Devices;
 
 /// The last custom source of a name is meant, in any ASCII case of it, and the sources that are found
 /// are those that a plan knows.
@@ -62,4 +68,16 @@ pub fn web_identity_fails_by_its_last_entry()
         Reads (web_identity conf given policies) part out → result_err out ≡ why_web_identity conf given part }
     ensures identity { (conf : Configuration) (base : List ℕ) (identity : Identity) (policies : Policies) (part : List Pair) (out : Result Keys Refusal) →
         Reads (assumes_by_web_identity conf base identity policies) part out → result_err out ≡ option_and_then why_entry (last_or None part) }
+{}
+
+/// Each request of a call of the provider of a container's credentials goes to the agent of Amazon ECS, or
+/// to the target of the full address that its variable holds: HTTPS, an allowed address, or a name that has
+/// allowed addresses alone by the call's look-up. It holds of a call for which memory ran out, too.
+pub fn a_container_call_asks_safe_targets<D: Devices>()
+    ensures answered { (setup : ContainerSetup) (before later : Held D) (out : Result Keys Refusal) →
+        ProvidesContainer ⟦<D as Devices>⟧ setup before later out →
+        Gains before.journal later.journal (AsksSafely setup.configuration.environment (settings_in setup)) }
+    ensures interrupted { (setup : ContainerSetup) (before later : Held D) →
+        InterruptedContainer ⟦<D as Devices>⟧ setup before later →
+        Gains before.journal later.journal (AsksSafely setup.configuration.environment (settings_in setup)) }
 {}

@@ -4,7 +4,8 @@ use Rattle.cfg_world.specs.Fits.{Pair}
 use Rattle.cfg_world.specs.Inquiry.{Inquiry, Done, Reads, Begun, after}
 use Rattle.cfg_world.specs.declared.script.DeviceLists.{DeviceLists}
 use Rattle.cfg_world.specs.Script.{Place, Given}
-use Rattle.cfg_world.proofs.Agreeing.{one_script_one_journal}
+use Rattle.cfg_world.specs.Agreeing.{AnswerAlike}
+use Rattle.cfg_world.proofs.Agreeing.{one_journal, given_alike}
 use Rattle.cfg_world.proofs.Beginnings.{begun_splits, begun_joins}
 use Rattle.cfg_world.proofs.Inquiries.{reads_after, split_after}
 use Rattle.cfg_exchange.proofs.Checks.{read_begun}
@@ -77,7 +78,11 @@ module _ {R : Type 0} where
   begun_chain (tree ∷ trees) journal (inl b) = begun_joins tree (others trees) journal (inl b)
   begun_chain (tree ∷ trees) journal (inr b) = begun_joins tree (others trees) journal (inr (b.0, b.1, None, b.2, b.3, begun_chain trees b.1 b.4))
 
+  -- over answers that agree a chain has one journal and one answer
+  pub one_region : (trees : List (Inquiry (Option R))) (one other : List Pair) (x y : Option R) →
+      AreParts trees one x → AreParts trees other y → AnswerAlike one other → (one ≡ other) × (x ≡ y)
+  one_region trees one other x y a b alike = one_journal (first_given trees) one other x y (parts_chain trees one x a) (parts_chain trees other y b) alike
+
   pub one_region_told : (trees : List (Inquiry (Option R))) (lists : DeviceLists) (place : Place) (one other : List Pair) (x y : Option R) →
       AreParts trees one x → AreParts trees other y → Given lists place one → Given lists place other → (one ≡ other) × (x ≡ y)
-  one_region_told trees lists place one other x y a b g h =
-      one_script_one_journal (first_given trees) lists place one other x y g h (parts_chain trees one x a) (parts_chain trees other y b)
+  one_region_told trees lists place one other x y a b g h = one_region trees one other x y a b (given_alike lists place one other g h)

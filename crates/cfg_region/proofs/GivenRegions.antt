@@ -8,9 +8,12 @@ use Rattle.cfg_world.specs.Grows.{Grows, Stays}
 use Rattle.cfg_world.specs.Held.{Held}
 use Rattle.cfg_world.specs.Inquiry.{Reads, Begun}
 use Rattle.cfg_world.specs.Script.{Place, Given as GivenBy}
-use Rattle.cfg_world.proofs.Agreeing.{one_script_one_journal}
+use Rattle.cfg_world.specs.Agreeing.{AnswerAlike}
+use Rattle.cfg_world.specs.Beginnings.{IsPrefix}
+use Rattle.cfg_world.proofs.Agreeing.{one_journal, given_alike}
+use Rattle.cfg_world.proofs.Beginnings.{begins_whole}
 use Rattle.cfg_profile.specs.Configuration.{Configuration}
-use Rattle.cfg_region.specs.Calls.{RegionSet, RegionBreaks}
+use Rattle.cfg_region.specs.Calls.{RegionSet, RegionBegun, RegionBreaks}
 use Rattle.cfg_region.specs.Environments.{Told}
 use Rattle.cfg_region.specs.Sources.{Source, Given, tree}
 use Rattle.cfg_region.proofs.Loads.{stays_by, grows_here}
@@ -44,11 +47,23 @@ module _ {D : Type 0} {d : Ghosts D} (told : Told) (conf : Configuration) (old n
   given_stays (inr b) =
       subst (λ part. Stays d part old new) (given_begun told b.breaks.part (subst (λ source. Begun (tree source) b.breaks.part) b.asked b.breaks.begun)) b.breaks.stays
 
--- over one script, from one place, a configuration gets one region, and the same is asked for it
-pub one_set : {D : Type 0} {d : Ghosts D} (given : Option Source) (conf : Configuration) (lists : DeviceLists) (place : Place) (old new before later : Held D) (a b : Configuration) (x : RegionSet d given conf old new a) (y : RegionSet d given conf before later b) →
-    GivenBy lists place x.part → GivenBy lists place y.part → (x.part ≡ y.part) × (a ≡ b)
-one_set given conf lists place old new before later a b x y g h =
-    let same : x.source ≡ y.source = one_source given conf x.source y.source x.asked y.asked in
-    let reads = subst (λ s. Reads (tree s) x.part x.region) same x.reads in
-    let one = one_script_one_journal (tree y.source) lists place x.part y.part x.region y.region g h reads y.reads in
-    (one.0, x.is ∙ ap (λ t. record conf { region = t }) one.1 ∙ sym y.is)
+module _ {D : Type 0} {d : Ghosts D} (given : Option Source) (conf : Configuration) where
+  -- over answers that agree a configuration gets one region, and the same is asked for it
+  pub one_set_alike : (old new before later : Held D) (a b : Configuration) (x : RegionSet d given conf old new a) (y : RegionSet d given conf before later b) →
+      AnswerAlike x.part y.part → (x.part ≡ y.part) × (a ≡ b)
+  one_set_alike old new before later a b x y alike =
+      let reads = subst (λ s. Reads (tree s) x.part x.region) (one_source given conf x.source y.source x.asked y.asked) x.reads in
+      let one = one_journal (tree y.source) x.part y.part x.region y.region reads y.reads alike in
+      (one.0, x.is ∙ ap (λ t. record conf { region = t }) one.1 ∙ sym y.is)
+
+  -- where memory ran out the part is a prefix
+  pub set_prefix : (old new before later : Held D) (b : Configuration) (x : RegionBegun d given conf old new) (y : RegionSet d given conf before later b) →
+      AnswerAlike x.breaks.part y.part → IsPrefix x.breaks.part y.part
+  set_prefix old new before later b x y alike =
+      let begun = subst (λ s. Begun (tree s) x.breaks.part) (one_source given conf x.source y.source x.asked y.asked) x.breaks.begun in
+      begins_whole (tree y.source) x.breaks.part y.part y.region begun y.reads alike
+
+  -- over one script, from one place
+  pub one_set : (lists : DeviceLists) (place : Place) (old new before later : Held D) (a b : Configuration) (x : RegionSet d given conf old new a) (y : RegionSet d given conf before later b) →
+      GivenBy lists place x.part → GivenBy lists place y.part → (x.part ≡ y.part) × (a ≡ b)
+  one_set lists place old new before later a b x y g h = one_set_alike old new before later a b x y (given_alike lists place x.part y.part g h)

@@ -1,5 +1,6 @@
 pub mod ProfileRegions
 pub mod Chains
+pub mod BegunChains
 pub mod RegionSteps
 pub mod Loads
 pub mod OneSource

@@ -5,6 +5,7 @@ pub mod Metadata
 pub mod MetadataSetups
 pub mod Chains
 pub mod ChainParts
+pub mod BegunChains
 pub mod Defaults
 pub mod DefaultSetups
 pub mod Sources

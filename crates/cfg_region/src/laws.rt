@@ -1,7 +1,9 @@
 //! Laws of regions, each on a call that carries it.
-ghost use Rattle.std.specs.Prelude.{◌≡◌, ◌↔◌, ℕ, List, [], Option, Some, None};
+ghost use Rattle.std.specs.Prelude.{◌≡◌, ◌↔◌, ◌⊎◌, ◌++◌, ℕ, List, [], Option, Some, None};
 ghost use Rattle.cfg_base.specs.TextMap.{Named};
 ghost use Rattle.cfg_world.specs.declared.script.DeviceLists.{DeviceLists as Lists};
+ghost use Rattle.cfg_world.specs.Agreeing.{AnswerAlike};
+ghost use Rattle.cfg_world.specs.Beginnings.{IsPrefix};
 ghost use Rattle.cfg_world.specs.Fits.{Pair};
 ghost use Rattle.cfg_world.specs.Grows.{Grows};
 ghost use Rattle.cfg_world.specs.Held.{Held};
@@ -10,9 +12,10 @@ ghost use Rattle.cfg_world.specs.Script.{Place, Given};
 ghost use Rattle.cfg_profile.specs.Configuration.{Configuration};
 ghost use Rattle.cfg_profile.specs.SectionParts.{SectionParts};
 ghost use Rattle.cfg_profile.specs.Regions.{IsRegion};
-ghost use Rattle.cfg_region.specs.Calls.{IsAsked, RegionSet};
+ghost use Rattle.cfg_region.specs.Calls.{IsAsked, RegionSet, RegionBegun};
 ghost use Rattle.cfg_region.specs.Chains.{first_given};
 ghost use Rattle.cfg_region.specs.ChainParts.{AreParts, NoneGives, AreBegunParts};
+ghost use Rattle.cfg_region.specs.BegunChains.{HasEnded, AsksOne};
 ghost use Rattle.cfg_region.specs.Environments.{Told};
 ghost use Rattle.cfg_region.specs.Profiles.{named_region};
 ghost use Rattle.cfg_region.specs.Sources.{Source, Given as GivenRegion};
@@ -39,6 +42,32 @@ pub fn an_interrupted_chain_is_its_sources<R>()
         Begun (first_given trees) journal ↔ AreBegunParts trees journal }
 {}
 
+/// A chain has one journal: two calls whose answers agree as far as both ask the same have the same journal,
+/// and come to the same answer.
+pub fn one_journal<R>()
+    ensures { (trees : List (Inquiry (Option R))) (one other : List Pair) (x y : Option R) →
+        AreParts trees one x → AreParts trees other y → AnswerAlike one other → (one ≡ other) × (x ≡ y) }
+{}
+
+/// A chain that has begun, as one that was interrupted, is a prefix of each whole journal of it whose answers
+/// agree.
+pub fn a_beginning_is_a_prefix<R>()
+    ensures { (trees : List (Inquiry (Option R))) (one other : List Pair) (x : Option R) →
+        AreBegunParts trees one → AreParts trees other x → AnswerAlike one other → IsPrefix one other }
+{}
+
+/// Each prefix of a chain's journal is that of a chain that has begun.
+pub fn a_prefix_is_a_beginning<R>()
+    ensures { (trees : List (Inquiry (Option R))) (one rest : List Pair) (out : Option R) →
+        AreParts trees (one ++ rest) out → AreBegunParts trees one }
+{}
+
+/// A chain that has begun came to its end, or asks exactly one question next, and never both.
+pub fn one_question_is_next<R>()
+    ensures { (trees : List (Inquiry (Option R))) (journal : List Pair) →
+        AreBegunParts trees journal → HasEnded trees journal ⊎ AsksOne trees journal }
+{}
+
 /// Over one script of devices, from one place, a chain has one journal and one answer.
 pub fn one_script_one_region<R>()
     ensures { (trees : List (Inquiry (Option R))) (lists : Lists) (place : Place) (one other : List Pair) (x y : Option R) →
@@ -57,6 +86,17 @@ pub fn a_given_region_asks_nothing<D: Devices>()
     ensures { (told : Told) (conf set : Configuration) (old new : Held D) →
         RegionSet ⟦<D as Devices>⟧ (Some (GivenRegion told)) conf old new set →
         Grows ⟦<D as Devices>⟧ [] old new × (set ≡ record conf { region = told }) }
+{}
+
+/// Over answers that agree as far as both ask the same, a configuration gets one region, and the same is asked
+/// for it. What was asked before memory ran out is a prefix of that.
+pub fn one_configuration<D: Devices>()
+    ensures set { (given : Option Source) (conf : Configuration) (old new before later : Held D) (a b : Configuration)
+        (x : RegionSet ⟦<D as Devices>⟧ given conf old new a) (y : RegionSet ⟦<D as Devices>⟧ given conf before later b) →
+        AnswerAlike x.part y.part → (x.part ≡ y.part) × (a ≡ b) }
+    ensures begun { (given : Option Source) (conf : Configuration) (old new before later : Held D) (b : Configuration)
+        (x : RegionBegun ⟦<D as Devices>⟧ given conf old new) (y : RegionSet ⟦<D as Devices>⟧ given conf before later b) →
+        AnswerAlike x.breaks.part y.part → IsPrefix x.breaks.part y.part }
 {}
 
 /// Over one script of devices, from one place, a configuration gets one region, and the same is asked for it.

@@ -22,7 +22,6 @@ fn with_region_of<D: Devices>(
 {
     match source.follow(alloc, world) {
         Ok(region) => Ok(config.with_region(region)),
-        // A world leaves no question open: a call over it stops for want of memory alone.
         Err(_) => Err(OutOfMemory),
     }
 }
@@ -45,7 +44,6 @@ pub fn load_default_region<D: Devices>(
     let chain = DefaultRegionChain::of(alloc, config)?;
     match chain.follow(world) {
         Ok(region) => Ok(chain.into_configuration().with_region(region)),
-        // A world leaves no question open: a call over it stops for want of memory alone.
         Err(_) => Err(OutOfMemory),
     }
 }

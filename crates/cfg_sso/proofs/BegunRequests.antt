@@ -8,12 +8,10 @@ use Rattle.cfg_world.specs.Leaves.{clock, contents_of, reading_file, getting_rol
 use Rattle.cfg_profile.specs.Configuration.{Configuration}
 use Rattle.cfg_profile.specs.Settings.{settings_of}
 use Rattle.cfg_token.specs.declared.token_key.TokenKey.{TokenKey}
-use Rattle.cfg_token.specs.Sections.{section}
 use Rattle.cfg_token.specs.SsoTokens.{sso_rules}
-use Rattle.cfg_kept.specs.Kinds.{SsoSection, Value, States, sso_in}
+use Rattle.cfg_kept.specs.Kinds.{Value, States}
 use Rattle.cfg_kept.specs.KeptInquiry.{Gives, Runs, Begins, lift}
-use Rattle.cfg_kept.specs.SectionHoldings.{kept_section, settled, section_holding}
-use Rattle.cfg_kept.specs.SsoHoldings.{sso_at}
+use Rattle.cfg_kept.specs.SsoHoldings.{sso_spot}
 use Rattle.cfg_kept.proofs.Beginnings.{begins_splits}
 use Rattle.cfg_kept.proofs.CallParts.{read_of_run}
 use Rattle.cfg_sso.specs.declared.config.SsoProviderConfig.{SsoProviderConfig}
@@ -21,22 +19,15 @@ use Rattle.cfg_sso.specs.RoleKeys.{exchange}
 use Rattle.cfg_sso.specs.Tokens.{Token, section_of, of_section, session_token, url_path, token_in, of_file, file_token, by_clock, at_path, url_token, sso_key, token_by, sso_token}
 use Rattle.cfg_sso.specs.SsoCredentials.{behind_token, sso_credentials}
 use Rattle.cfg_sso.specs.RoleRequests.{AsksNoRole, SendsOnce}
-use Rattle.cfg_sso.proofs.NoRoleAsked.{NeverAsks, begins_without, runs_without, onwards_without, after_without, holding_without, all_without}
-use Rattle.cfg_sso.proofs.SectionWalks.{section_asks_none}
+use Rattle.cfg_sso.proofs.NoRoleAsked.{NeverAsks, begins_without, runs_without, onwards_without}
+use Rattle.cfg_sso.proofs.SectionHoldings.{holding_asks_none}
 use Rattle.cfg_sso.proofs.SsoCauses.{token_part}
 use Rattle.cfg_sso.proofs.RoleRequests.{token_lasts}
 
 -- ---- the token
 
 section_without : (conf : Configuration) (key : TokenKey) → NeverAsks (section_of conf key)
-unfolding section_holding
-section_without conf key =
-    let env = conf.environment in
-    let settings = settings_of conf in
-    holding_without SsoSection sso_at (λ v. kept_section sso_rules key env settings (sso_in v)) (λ v.
-    let was = sso_in v in
-    after_without (section sso_rules key env settings was.token was.last) (settled was)
-    (all_without (section sso_rules key env settings was.token was.last) (λ part made. AsksNoRole part) (section_asks_none key env settings was.token was.last) (λ part made w. w)) (λ made. tt))
+section_without conf key = holding_asks_none sso_rules (λ k t f. refl) sso_spot key conf.environment (settings_of conf)
 
 by_clock_without : (held : Token) → NeverAsks (lift (by_clock held))
 unfolding by_clock clock

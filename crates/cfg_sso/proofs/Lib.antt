@@ -5,4 +5,6 @@ pub mod SectionWalks
 pub mod RoleRequests
 pub mod InTime
 pub mod NoRoleAsked
+pub mod SectionHoldings
 pub mod BegunRequests
+pub mod BearerTokens

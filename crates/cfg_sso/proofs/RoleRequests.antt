@@ -40,7 +40,7 @@ token_asks_no_role : (conf : Configuration) (url : List ℕ) (key : Option Token
 token_asks_no_role conf url None found part token h = file_asks_no_role (url_path url (variable conf.environment (codes "HOME"))) part token h.1
 token_asks_no_role conf url (Some key) found part token h =
     let s = h.1 in
-    section_asks_no_role key conf.environment (settings_of conf) (sso_in s.value).token (sso_in s.value).last part s.made s.reads
+    section_asks_no_role sso_rules (λ k t f. refl) key conf.environment (settings_of conf) (sso_in s.value).token (sso_in s.value).last part s.made s.reads
 
 -- a token that is told is one that the section gave
 given_token : (given : Given CachedSsoToken) (token : CachedSsoToken) → ◌≡◌ {A = Token} (Ok token) (of_section given) → given ≡ Ok token

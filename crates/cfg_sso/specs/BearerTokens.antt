@@ -1,13 +1,16 @@
 -- Bearer tokens of a session of IAM Identity Center.
 use Rattle.std.specs.Prelude.{◌≡◌, Bool, false, List, Some, Result, Ok, Err}
+use Rattle.cfg_base.specs.Moment.{Moment}
 use Rattle.cfg_types.specs.Tokens.{BearerToken}
 use Rattle.cfg_types.specs.TokenClasses.{token_class, is_memory_class}
 use Rattle.cfg_types.specs.declared.errors.token.TokenError.{TokenError}
 use Rattle.cfg_types.specs.declared.errors.token.TokenError.TheVariants.{ProviderError}
 use Rattle.cfg_world.specs.Fits.{Pair}
+use Rattle.cfg_world.specs.LastReadings.{last_reading}
 use Rattle.cfg_profile.specs.Configuration.{Configuration}
 use Rattle.cfg_token.specs.declared.sso_token.CachedSsoToken.{CachedSsoToken}
 use Rattle.cfg_token.specs.declared.token_key.TokenKey.{TokenKey}
+use Rattle.cfg_token.specs.Readings.{EndsAfter}
 use Rattle.cfg_token.specs.SsoTokens.{Given}
 use Rattle.cfg_kept.specs.Kinds.{Value}
 use Rattle.cfg_kept.specs.KeptInquiry.{KeptInquiry, Gives, onwards}
@@ -36,3 +39,9 @@ pub record BearerCause (conf : Configuration) (key : TokenKey) (found : List Val
   pub given : Given CachedSsoToken
   pub of_section : IsSsoPart conf key found part given
   pub tells : out ≡ bearer given
+
+-- A token of this part has an end, which is after the last reading of the clock there.
+pub record IsUnexpired (part : List Pair) (token : BearerToken) : Type 0 where
+  pub end : Moment
+  pub has_end : token.expiry ≡ Some end
+  pub after : EndsAfter (last_reading part) end

@@ -1,6 +1,6 @@
 -- A history with one load more.
-use Rattle.std.proofs.Common.{◌≡◌, Bool, true, false, List, [], ◌∷◌, ◌++◌, Option, Some, None, Result, Ok, Err, refl, ◌∙◌, ap}
-use Rattle.std.specs.Prelude.{cond}
+use Rattle.std.proofs.Common.{◌≡◌, Bool, true, false, List, [], ◌∷◌, ◌++◌, Option, Some, None, Result, Ok, Err, refl, sym, subst, ◌∙◌, ap, inl, inr, append-nil}
+use Rattle.std.specs.Prelude.{cond, IfOk}
 use Rattle.cfg_world.specs.Fits.{Pair}
 use Rattle.cfg_world.specs.Inquiry.{Inquiry, Done, after, Reads}
 use Rattle.cfg_token.specs.declared.token_key.TokenKey.{TokenKey}
@@ -15,7 +15,7 @@ use Rattle.cfg_token.specs.Decisions.{outlasts_buffer}
 use Rattle.cfg_token.specs.Sections
 use Rattle.cfg_token.specs.Sections.{section, load, ok_of, noted_or}
 use Rattle.cfg_world.specs.Leaves.{clock, moment_of}
-use Rattle.cfg_token.specs.Histories.{FinishedLoad, TokenLoad, History, trimmed, load_in, Machine, IsLoad, kept_by, noted_by, load_made, load_by, token_in, last_in}
+use Rattle.cfg_token.specs.Histories.{FinishedLoad, TokenLoad, History, trimmed, load_in, Machine, IsLoad, kept_by, noted_by, load_made, load_by, token_in, last_in, kept_in, finished_by, with_section, AddsAtMostOne}
 
 pub machine_more : {T E : Type 0} {t : Rules T E} (kept : Option T) (last : Option Moment) (records : List (FinishedLoad T E)) (r : FinishedLoad T E) →
     Machine t kept last records → IsLoad t (kept_by kept records) (noted_by last records) r → Machine t kept last (records ++ r ∷ [])
@@ -63,6 +63,19 @@ pub noted_by-more : {T E : Type 0} (last : Option Moment) (records : List (Finis
 noted_by-more last [] r = refl
 noted_by-more last (x ∷ records) r = noted_by-more (noted_or x.noted last) records r
 
+pub kept_by-more : {T E : Type 0} (kept : Option T) (records : List (FinishedLoad T E)) (r : FinishedLoad T E) → kept_by kept (records ++ r ∷ []) ≡ ok_of r.outcome
+kept_by-more kept [] r = refl
+kept_by-more kept (x ∷ records) r = kept_by-more (ok_of x.outcome) records r
+
+-- two lists with one element more are one list before it
+pub front_is : {A : Type 0} (one other : List A) (x y : A) → one ++ x ∷ [] ≡ other ++ y ∷ [] → one ≡ other
+front_is [] [] x y h = refl
+front_is [] (b ∷ []) x y h = cc
+front_is [] (b ∷ c ∷ other) x y h = cc
+front_is (a ∷ []) [] x y h = cc
+front_is (a ∷ c ∷ one) [] x y h = cc
+front_is (a ∷ one) (b ∷ other) x y h = let rest : one ++ x ∷ [] ≡ other ++ y ∷ [] = cc in let front : one ≡ other = front_is one other x y rest in cc
+
 -- A kept token always has its load.
 pub token_of_load : {T E : Type 0} (load : Option (TokenLoad T E)) (last : Option Moment) (records : List (FinishedLoad T E)) → token_in (load_by load last records) ≡ kept_by (token_in load) records
 token_of_load load last [] = refl
@@ -81,14 +94,29 @@ pub last_load : {T E : Type 0} (load : Option (TokenLoad T E)) (last : Option Mo
     all ≡ records ++ r ∷ [] → load_by load last all ≡ load_made (noted_by last records) r r.outcome
 last_load load last all records r is = rw is (load_by-more load last records r)
 
-pub last_noted : {T E : Type 0} (last : Option Moment) (all records : List (FinishedLoad T E)) (r : FinishedLoad T E) → all ≡ records ++ r ∷ [] → noted_by last all ≡ noted_or r.noted (noted_by last records)
-last_noted last all records r is = rw is (noted_by-more last records r)
+-- the load of the last record is the one that the history says
+pub loaded_last : {T E : Type 0} (h : History T E) (records : List (FinishedLoad T E)) (r : FinishedLoad T E) (before : Option Moment) →
+    h.records ≡ records ++ r ∷ [] → before ≡ noted_by h.last records → load_made before r r.outcome ≡ load_in h
+loaded_last h records r before is b = rw (b, last_load h.load h.last h.records records r is) refl
 
 pub is_trimmed : {T E : Type 0} (h : History T E) (records left : List (FinishedLoad T E)) (r : FinishedLoad T E) (load : Option (TokenLoad T E)) (before last : Option Moment) →
     h.records ≡ records ++ r ∷ [] → before ≡ noted_by h.last records → load ≡ load_made before r r.outcome → last ≡ last_in h → left ≡ [] →
     (let now : History T E = record { load = load; last = last; records = left } in now) ≡ trimmed h
 is_trimmed h records left r load before last is b l n e = rw (e, n, l, b, last_load h.load h.last h.records records r is) refl
 
-pub is_loaded : {T E : Type 0} (h : History T E) (records : List (FinishedLoad T E)) (r copy : FinishedLoad T E) (before : Option Moment) (load : Option (TokenLoad T E)) →
-    h.records ≡ records ++ r ∷ [] → before ≡ noted_by h.last records → copy ≡ r → load ≡ load_made before copy copy.outcome → load ≡ load_in h
-is_loaded h records r copy before load is b e l = rw (l, e, b, last_load h.load h.last h.records records r is) refl
+-- a section leaves the history as it was, or adds a record
+pub adds_at_most_one : {T E : Type 0} (before : History T E) (part : List Pair) (made : Sectioned T E) → AddsAtMostOne before (with_section before part made)
+adds_at_most_one {T} {E} before part (Hit token) = inl (ap (λ (r : List (FinishedLoad T E)). record before { records = r }) (append-nil before.records))
+adds_at_most_one before part (Load l) = inr (finished_by part l, refl)
+
+-- the state keeps what is kept, and the last attempt, where it becomes its own origin
+pub kept_trimmed : {T E : Type 0} (h later : History T E) → later ≡ trimmed h → kept_in later ≡ kept_in h
+kept_trimmed h later is = ap kept_in is ∙ token_of_load h.load h.last h.records
+
+pub token_loaded : {T E : Type 0} (h : History T E) (load : Option (TokenLoad T E)) → load ≡ load_in h → token_in load ≡ kept_in h
+token_loaded h load is = ap token_in is ∙ token_of_load h.load h.last h.records
+
+-- a fact of the one value that an answer may have
+pub if_ok_by : {A E : Type 0} (r : Result A E) (x : A) (P : A → Type 0) → IfOk r (λ y. y ≡ x) → P x → IfOk r P
+if_ok_by (Ok y) x P e h = subst P (sym e) h
+if_ok_by (Err e) x P h k = tt

@@ -3,7 +3,12 @@ pub mod DateTexts
 pub mod SsoTexts
 pub mod ReadBack
 pub mod NotedSteps
+pub mod ReadingSteps
 pub mod HistorySteps
 pub mod SectionSteps
 pub mod Outcomes
 pub mod Readings
+pub mod SectionRows
+pub mod KeptUses
+pub mod Decided
+pub mod WholeParts

@@ -1,5 +1,5 @@
 -- What the state of a token keeps, and that it is a history of loads.
-use Rattle.std.specs.Prelude.{◌≡◌, List, [], ◌∷◌, ◌++◌, Option, Some, None, Result, Ok, Err, IsSome, true}
+use Rattle.std.specs.Prelude.{◌≡◌, ◌⊎◌, List, [], ◌∷◌, ◌++◌, Option, Some, None, Result, Ok, Err, IsSome, true}
 use Rattle.std.specs.List.{fold}
 use Rattle.cfg_base.specs.Moment.{Moment}
 use Rattle.cfg_world.specs.Fits.{Pair}
@@ -7,6 +7,7 @@ use Rattle.cfg_world.specs.Inquiry.{Reads}
 use Rattle.cfg_token.specs.declared.token_key.TokenKey.{TokenKey}
 use Rattle.cfg_types.specs.Environment.{Variables}
 use Rattle.cfg_types.specs.declared.settings.CallSettings.{CallSettings}
+use Rattle.cfg_token.specs.declared.loading.Loaded.{Loaded}
 use Rattle.cfg_token.specs.declared.sections.Sectioned.{Sectioned}
 use Rattle.cfg_token.specs.declared.sections.Sectioned.TheVariants.{Hit, Load}
 use Rattle.cfg_token.specs.Rules.{Rules}
@@ -89,11 +90,27 @@ pub record IsTokenLoad {T E : Type 0} (t : Rules T E) (load : TokenLoad T E) : T
 abbrev pub IsHistory : {T E : Type 0} → Rules T E → History T E → Type 0
 IsHistory t h = Machine t (token_in h.load) h.last h.records
 
+-- What is stored beside a history is what it leaves: the kept token, the last attempt, and the last one
+-- before the last record.
+pub record IsStored {T E : Type 0} (t : Rules T E) (h : History T E) (kept : Option T) (attempt before : Option Moment) : Type 0 where
+  pub history : IsHistory t h
+  pub kept_is : kept ≡ kept_in h
+  pub attempt_is : attempt ≡ last_in h
+  pub before_is : (records : List (FinishedLoad T E)) (r : FinishedLoad T E) → h.records ≡ records ++ r ∷ [] → before ≡ noted_by h.last records
+
+-- a finished load, by what it was told and what it gave
+abbrev pub finished_by : {T E : Type 0} → List Pair → Loaded T E → FinishedLoad T E
+finished_by receipts l = record { receipts = receipts; outcome = l.outcome; noted = l.noted }
+
 -- a section's record, where it finished a load
 abbrev pub record_of : {T E : Type 0} → List Pair → Sectioned T E → List (FinishedLoad T E)
 record_of receipts (Hit token) = []
-record_of receipts (Load l) = record { receipts = receipts; outcome = l.outcome; noted = l.noted } ∷ []
+record_of receipts (Load l) = finished_by receipts l ∷ []
 
 -- the history with the record of a section that has this part
 abbrev pub with_section : {T E : Type 0} → History T E → List Pair → Sectioned T E → History T E
 with_section h receipts made = record h { records = h.records ++ record_of receipts made }
+
+-- The history is as before, or has one record more.
+abbrev pub AddsAtMostOne : {T E : Type 0} → History T E → History T E → Type 0
+AddsAtMostOne {T} {E} before later = (later ≡ before) ⊎ ((r : FinishedLoad T E) × (later ≡ record before { records = before.records ++ r ∷ [] }))

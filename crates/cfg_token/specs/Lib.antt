@@ -14,3 +14,7 @@ pub mod SectionCalls
 pub mod SsoTokens
 pub mod SsoTells
 pub mod Readings
+pub mod SectionRows
+pub mod KeptUses
+pub mod LoadParts
+pub mod Replays

@@ -89,6 +89,11 @@ module _ {T E : Type 0} (t : Rules T E) where
   unfoldable pub load : TokenKey → Variables → CallSettings → Option Moment → Inquiry (Loaded T E)
   load key env settings last = loads_from key settings last (t.path key env)
 
+  -- the kept token, where it is not to be refreshed yet
+  abbrev pub hit : Option T → Moment → Option T
+  hit None r = None
+  hit (Some token) r = cond (outlasts_buffer t token r) (Some token) None
+
   -- a kept token that is not to be refreshed yet is handed out; else it is dropped and a load begins
   unfoldable pub by_reading : TokenKey → Variables → CallSettings → Option T → Option Moment → Moment → Inquiry (Sectioned T E)
   by_reading key env settings None last r = after (load key env settings last) (λ l. Done (Load l))

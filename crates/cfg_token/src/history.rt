@@ -1,10 +1,9 @@
 //! Finished loads, and loads that gave a token.
-ghost use Rattle.std.specs.Prelude.{◌≡◌, ◌<◌, ◌++◌, None, Option, Some, IfOk, vec_len, vec_capacity};
-ghost use Rattle.std.specs.Option.{option_to_list};
-ghost use Rattle.cfg_token.specs.Histories.{token_of, noted_by, record_of, load_made, IsLoad};
+ghost use Rattle.std.specs.Prelude.{◌≡◌, ◌<◌, ◌++◌, ◌∷◌, [], None, Option, Some, IfOk, vec_len, vec_capacity};
+ghost use Rattle.cfg_token.specs.Histories.{token_of, finished_by, load_made, IsLoad};
 
 use crate::file_token::FileToken;
-use crate::sections::Sectioned;
+use crate::loading::Loaded;
 use cfg_types::{Instant, OutOfMemory, TryCopy};
 use cfg_world::Receipt;
 use std::alloc::Global;
@@ -63,9 +62,9 @@ impl<T: FileToken> Record<T> {
 
 pub(crate) fn copy_receipts(
     alloc: Global,
-    receipts: &Vec<Receipt>,
+    receipts: &[Receipt],
 ) -> Result<Vec<Receipt>, OutOfMemory>
-    ensures { IfOk result (λ r. r.items ≡ receipts.now.items) }
+    ensures { IfOk result (λ r. r.items ≡ receipts.now) }
 {
     let mut copies = Vec::with_capacity(alloc, receipts.len())?;
     for receipt in receipts {
@@ -144,47 +143,28 @@ impl<T: FileToken> Load<T> {
     }
 }
 
-// The last attempt after these loads.
-pub(crate) fn last_noted<T: FileToken>(
-    last: Option<Instant>,
-    records: &[Record<T>],
-) -> Option<Instant>
-    ensures { result ≡ noted_by last records.now }
-{
-    records
-        .iter()
-        .fold(last, |last, record| record.noted.or(last))
-}
-
-// The record of a section that finished a load.
+// The record of a finished load.
 pub(crate) fn finished_load<T: FileToken>(
     alloc: Global,
-    made: &Sectioned<T, T::Error>,
+    loaded: &Loaded<T, T::Error>,
     receipts: Vec<Receipt>,
-) -> Result<Option<Record<T>>, OutOfMemory>
-    ensures { IfOk result (λ r. option_to_list r ≡ record_of receipts.items made.now) }
+) -> Result<Record<T>, OutOfMemory>
+    ensures { IfOk result (λ r. r ≡ finished_by receipts.items loaded.now) }
 {
-    match made {
-        Sectioned::Hit(_) => Ok(None),
-        Sectioned::Load(loaded) => {
-            let outcome = copy_outcome::<T>(alloc, &loaded.outcome)?;
-            Ok(Some(Record {
-                receipts,
-                outcome,
-                noted: loaded.noted,
-            }))
-        }
-    }
+    let outcome = copy_outcome::<T>(alloc, &loaded.outcome)?;
+    Ok(Record {
+        receipts,
+        outcome,
+        noted: loaded.noted,
+    })
 }
 
-// One record more, or none. Its place was taken before.
-pub(crate) fn put_in_place<T: FileToken>(records: &mut Vec<Record<T>>, finished: Option<Record<T>>)
+// One record more. Its place was taken before.
+pub(crate) fn put_in_place<T: FileToken>(records: &mut Vec<Record<T>>, finished: Record<T>)
     requires { vec_len records.old < vec_capacity records.old }
-    ensures { records.new.items ≡ records.old.items ++ option_to_list finished }
+    ensures { records.new.items ≡ records.old.items ++ finished ∷ [] }
 {
-    if let Some(record) = finished {
-        records.push(record).unwrap();
-    }
+    records.push(finished).unwrap();
 }
 
 // The load of a record that has a token.
@@ -199,4 +179,52 @@ pub(crate) fn token_load<T: FileToken>(
         Ok(_) => Some(Load { loaded_by, before }),
         Err(_) => None,
     }
+}
+
+// A copy of the load of a record, if that has a token.
+pub(crate) fn copied_load<T: FileToken>(
+    alloc: Global,
+    loaded_by: &Record<T>,
+    before: Option<Instant>,
+) -> Result<Option<Load<T>>, OutOfMemory>
+    requires { IsLoad T.rules None before loaded_by.now }
+    ensures { IfOk result (λ l. l ≡ load_made before loaded_by.now loaded_by.now.outcome) }
+{
+    match loaded_by.outcome() {
+        Ok(_) => {
+            let loaded_by = loaded_by.copy(alloc)?;
+            Ok(Some(Load { loaded_by, before }))
+        }
+        Err(_) => Ok(None),
+    }
+}
+
+/// A copy of the load that gave a token, none of none.
+pub(crate) fn copy_load<T: FileToken>(
+    alloc: Global,
+    load: &Option<Load<T>>,
+) -> Result<Option<Load<T>>, OutOfMemory>
+    ensures { IfOk result (λ l. l ≡ load.now) }
+{
+    match load {
+        Some(load) => {
+            let load = load.copy(alloc)?;
+            Ok(Some(load))
+        }
+        None => Ok(None),
+    }
+}
+
+/// A copy of these records.
+pub(crate) fn copy_records<T: FileToken>(
+    alloc: Global,
+    records: &Vec<Record<T>>,
+) -> Result<Vec<Record<T>>, OutOfMemory>
+    ensures { IfOk result (λ r. r.items ≡ records.now.items) }
+{
+    let mut copies = Vec::with_capacity(alloc, records.len())?;
+    for finished in records {
+        copies.push(finished.copy(alloc)?)?;
+    }
+    Ok(copies)
 }

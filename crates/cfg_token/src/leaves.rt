@@ -1,7 +1,7 @@
 //! One question at a time. Its receipt is kept.
 ghost use Rattle.std.specs.Prelude.{◌≡◌, true, ◌++◌, ◌∷◌, [], OnOk};
 ghost use Rattle.cfg_world.specs.Leaves.{clock};
-ghost use Rattle.cfg_token.specs.Notes.{Notes};
+ghost use Rattle.cfg_token.specs.Notes.{Notes, HandsReading};
 ghost use Rattle.cfg_token.specs.Sections.{file, asks_renewal};
 
 use crate::file_token::{FileToken, Renewal};
@@ -9,6 +9,16 @@ use crate::token_key::TokenKey;
 use cfg_types::{CallSettings, Instant, OutOfMemory, Text, TryCopy};
 use cfg_world::{Answer, Asking, Question, Receipt, Stop};
 use std::alloc::Global;
+
+/// The receipt of a reading of the clock. An error says why it was stopped: memory ran out, or the
+/// question was left open.
+#[tactic(auto, unfolding(cfg_world::specs::Leaves::clock))]
+pub fn ask_clock<A: Asking>(asking: &mut A) -> Result<Receipt, Stop>
+    ensures { HandsReading ⟦<A as Asking>⟧ asking.old asking.new result }
+{
+    let receipt = asking.put(Question::Now)?;
+    Ok(receipt)
+}
 
 /// A reading of the clock. Its receipt is added. An error says why it was stopped: memory ran out, or
 /// the question was left open.

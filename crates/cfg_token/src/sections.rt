@@ -1,14 +1,14 @@
-ghost use Rattle.std.specs.Prelude.{◌≡◌, true};
+ghost use Rattle.std.specs.Prelude.{◌≡◌, true, IfOk};
 ghost use Rattle.std.specs.Option.{option_copied};
 ghost use Rattle.cfg_token.specs.Notes.{Notes};
-ghost use Rattle.cfg_token.specs.Sections.{section as section_of, by_reading};
+ghost use Rattle.cfg_token.specs.Sections.{section as section_of, by_reading, hit as hit_of};
 
 use crate::decision::outlasts_buffer;
 use crate::file_token::FileToken;
 use crate::leaves::read_clock;
 use crate::loading::{Loaded, load};
 use crate::token_key::TokenKey;
-use cfg_types::{CallSettings, Env, Instant, TryCopy};
+use cfg_types::{CallSettings, Env, Instant, OutOfMemory, TryCopy};
 use cfg_world::{Asking, Receipt, Stop};
 use std::alloc::Global;
 
@@ -19,6 +19,24 @@ pub enum Sectioned<T, E> {
     Hit(T),
     /// What a load gave, and whether it noted an attempt.
     Load(Loaded<T, E>),
+}
+
+/// A copy of the kept token, where more than 300 seconds of it are left at this reading.
+/// `OutOfMemory` where memory runs out.
+pub fn hit<T: FileToken>(
+    alloc: Global,
+    kept: Option<&T>,
+    reading: Instant,
+) -> Result<Option<T>, OutOfMemory>
+    ensures { IfOk result (λ token. token ≡ hit_of T.rules (option_copied kept.entry) reading) }
+{
+    match kept {
+        Some(token) if outlasts_buffer(token, reading) => {
+            let token = token.copy(alloc)?;
+            Ok(Some(token))
+        }
+        _ => Ok(None),
+    }
 }
 
 /// The kept token is handed out while more than 300 seconds of it are left, or else a load is made.
@@ -46,7 +64,7 @@ pub fn follow_section<T: FileToken, A: Asking>(
 }
 
 // What follows the first reading.
-#[tactic(auto, using(crate::proofs::NotedSteps::noted_steps), unfolding(crate::specs::Sections::by_reading))]
+#[tactic(auto, using(crate::proofs::ReadingSteps::reading_steps))]
 fn follow_reading<T: FileToken, A: Asking>(
     alloc: Global,
     key: &TokenKey,
@@ -62,11 +80,8 @@ fn follow_reading<T: FileToken, A: Asking>(
     ensures { Notes ⟦<A as Asking>⟧ (by_reading T.rules key.now env.now settings.now (option_copied kept.entry) last reading)
         asking.old receipts.old.items asking.new receipts.new.items result }
 {
-    if let Some(token) = kept {
-        if outlasts_buffer(token, reading) {
-            let token = token.copy(alloc)?;
-            return Ok(Sectioned::Hit(token));
-        }
+    if let Some(token) = hit(alloc, kept, reading)? {
+        return Ok(Sectioned::Hit(token));
     }
     let loaded = load(alloc, key, env, settings, last, asking, receipts)?;
     Ok(Sectioned::Load(loaded))

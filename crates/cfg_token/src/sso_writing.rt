@@ -1,8 +1,10 @@
 //! The text of a token's file.
-ghost use Rattle.std.specs.Prelude.{◌≡◌, IfOk};
+ghost use Rattle.std.specs.Prelude.{◌≡◌, IfOk, OnOk, Ok};
+ghost use Rattle.std.specs.Str.{encode_utf8_all};
 ghost use Rattle.cfg_json.specs.Dates.{IsWrittenDate, IsOutside};
 ghost use Rattle.cfg_json.specs.Writing.{braced};
-ghost use Rattle.cfg_token.specs.SsoText.{dated_members, IsWrittenIfThere, IsSsoText, IsOutsideIfThere, HasNoText, Writes, FailsToFormat};
+ghost use Rattle.cfg_token.specs.SsoText.{dated_members, IsWrittenIfThere, IsSsoText, IsOutsideIfThere, HasNoText, HasTexts, Writes, FailsToFormat};
+ghost use Rattle.cfg_token.specs.SsoFile.{sso_file};
 
 use crate::sso_token::CachedSsoToken;
 use crate::writing::{push_if_there, push_text};
@@ -24,10 +26,12 @@ pub fn write_cached_sso_token(
 ) -> Result<Text, CachedSsoTokenError>
     ensures answers { Writes (IsSsoText token.now) (HasNoText token.now) result }
     ensures outside { HasNoText token.now → FailsToFormat result }
+    ensures read_back { IfOk result (λ text. sso_file (encode_utf8_all text) ≡ Ok token.now) }
 {
     let expiry = date(alloc, token.expires_at)?;
     let registration = date_if_there(alloc, token.registration_expires_at)?;
-    Ok(file_text(alloc, token, &expiry, &registration)?)
+    let text = file_text(alloc, token, &expiry, &registration)?;
+    Ok(text)
 }
 
 fn date(alloc: Global, moment: Instant) -> Result<Text, CachedSsoTokenError>
@@ -62,7 +66,8 @@ fn file_text(
     expiry: &Text,
     registration: &Option<Text>,
 ) -> Result<Text, OutOfMemory>
-    ensures { IfOk result (λ text. text ≡ braced (dated_members token.now expiry.now registration.now)) }
+    ensures is { IfOk result (λ text. text ≡ braced (dated_members token.now expiry.now registration.now)) }
+    ensures texts { OnOk result (HasTexts token.now) }
 {
     let mut file = ObjectWriter::new(alloc);
     push_text(&mut file, Field::AccessToken, token.access_token.as_str())?;

@@ -1,7 +1,9 @@
 pub mod OneSession
 pub mod TokenCauses
 pub mod TokenCalls
+pub mod OneCall
 pub mod DefaultSteps
 pub mod MemberLists
 pub mod Building
 pub mod GivenRegions
+pub mod Unexpired

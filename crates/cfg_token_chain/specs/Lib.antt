@@ -6,3 +6,4 @@ pub mod Chains
 pub mod Provides
 pub mod ChainSetups
 pub mod Builds
+pub mod Unexpired

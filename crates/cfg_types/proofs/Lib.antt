@@ -1,4 +1,5 @@
 mod Commands
+mod Escapes
 pub mod ChainLines
 pub mod ChainFolds
 pub mod TokenChainFolds

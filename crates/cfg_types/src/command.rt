@@ -1,8 +1,10 @@
 //! Commands whose arguments may be secrets, and what a command leaves behind.
-ghost use Rattle.std.specs.Prelude.{◌≡◌, IfOk, true, false, MatchOption};
+ghost use Rattle.std.specs.Prelude.{◌≡◌, ◌++◌, IfOk, true, false, MatchOption, codes};
+ghost use Rattle.std.specs.Char.{is_ascii};
 ghost use Rattle.std.specs.Str.{encode_utf8_all};
+ghost use Rattle.std.specs.Fmt.{debug_str, debug_escape, WritesOnOk, DisplaysOnOk};
 ghost use Rattle.cfg_base.specs.Text.{characters};
-ghost use Rattle.cfg_types.specs.Commands.{has_white_space, StandsBefore};
+ghost use Rattle.cfg_types.specs.Commands.{has_white_space, StandsBefore, code_text, note};
 
 use cfg_base::{Bytes, OutOfMemory, Text, TryCopy};
 use std::alloc::Global;
@@ -71,13 +73,30 @@ impl fmt::Display for CommandWithSensitiveArgs {
 }
 
 impl fmt::Debug for CommandWithSensitiveArgs {
-    ghost use Rattle.std.specs.Prelude.{None, if◌then◌else◌};
+    ghost use Rattle.std.specs.Str.{encode_utf8_all};
     ghost use Rattle.std.specs.Fmt.{debug_str};
+    ghost use Rattle.cfg_types.specs.Commands.{shown_command};
 
-    ghost debug_output = { λ c. if has_white_space c then None else debug_str (encode_utf8_all c) };
+    ghost debug_output = { λ c. debug_str (encode_utf8_all (shown_command c)) };
 
     fn fmt<W: fmt::Write>(&self, f: &mut fmt::Formatter<W>) -> fmt::Result {
-        let text = self.unredacted();
+        ShownCommand(&self.command).fmt(f)
+    }
+}
+
+/// How a Debug text shows a command: as the Debug text of what is shown of it.
+#[derive(Drop)]
+pub struct ShownCommand<'a>(pub &'a Text);
+
+impl fmt::Debug for ShownCommand<'_> {
+    ghost use Rattle.std.specs.Str.{encode_utf8_all};
+    ghost use Rattle.std.specs.Fmt.{debug_str};
+    ghost use Rattle.cfg_types.specs.Commands.{shown_command};
+
+    ghost debug_output = { λ c. debug_str (encode_utf8_all (shown_command c.0.now)) };
+
+    fn fmt<W: fmt::Write>(&self, f: &mut fmt::Formatter<W>) -> fmt::Result {
+        let text = self.0.as_str();
         match before_white_space(text) {
             None => fmt::Debug::fmt(&text, f),
             Some(program) => write_redacted(program, f),
@@ -86,15 +105,40 @@ impl fmt::Debug for CommandWithSensitiveArgs {
 }
 
 // What a Debug text of `{program} ** arguments redacted **` is, without the memory for that text.
-fn write_redacted<W: fmt::Write>(program: &str, f: &mut fmt::Formatter<W>) -> fmt::Result {
+fn write_redacted<W: fmt::Write>(program: &str, f: &mut fmt::Formatter<W>) -> fmt::Result
+    ensures { DisplaysOnOk W.write_str_gives f.old result (debug_str (program.now ++ note)) f.new }
+{
     f.write_str("\"")?;
     for c in program.chars() {
-        match c {
-            '\'' => f.write_char(c)?,
-            _ => write!(f, "{}", c.escape_debug())?,
-        }
+        write_escaped(c, f)?;
     }
     f.write_str(" ** arguments redacted **\"")
+}
+
+// What stands for a character between the quotation marks of a Debug text. No contract of std says which
+// characters other than ASCII are shown by their codes.
+fn write_escaped<W: fmt::Write>(c: char, f: &mut fmt::Formatter<W>) -> fmt::Result
+    ensures { is_ascii c ≡ true → WritesOnOk W.write_str_gives f.old result (debug_escape 34 c) f.new }
+{
+    match c {
+        '\0' => f.write_str("\\0"),
+        '\t' => f.write_str("\\t"),
+        '\n' => f.write_str("\\n"),
+        '\r' => f.write_str("\\r"),
+        '"' => f.write_str("\\\""),
+        '\\' => f.write_str("\\\\"),
+        '\u{7f}' => f.write_str("\\u{7f}"),
+        '\u{1}'..='\u{1f}' => write_code(u32::from(c), f),
+        ' '..='~' => f.write_char(c),
+        _ => write!(f, "{}", c.escape_debug()),
+    }
+}
+
+// Writes a character by its code.
+fn write_code<W: fmt::Write>(code: u32, f: &mut fmt::Formatter<W>) -> fmt::Result
+    ensures { WritesOnOk W.write_str_gives f.old result (code_text code) f.new }
+{
+    write!(f, "\\u{{{code:x}}}")
 }
 
 // The text before the first white space, where there is any.

@@ -21,7 +21,7 @@ pub use cfg_base::{
     Address, Boxed, Bytes, Instant, OutOfMemory, Seq, Text, TextMap, TryCopy, copy_option,
     is_blank, texts, trimmed,
 };
-pub use command::{CommandWithSensitiveArgs, Finished};
+pub use command::{CommandWithSensitiveArgs, Finished, ShownCommand};
 pub use credentials::{
     AccountId, AwsCredentialFeature, Credentials, CredentialsBuilder, ShownAccount,
 };

@@ -1,7 +1,7 @@
 //! What a call answered, as a value that a caller lets go.
 
-/// What a call answered. Derived code lets a `Result` go case by case in the proof of every caller; this is let go
-/// by one call.
+/// What a call answered. A `Result` is dropped case by case in the proof of every caller; this is dropped by one
+/// call.
 pub struct Outcome<T, E> {
     /// What it gave, or its error.
     pub answer: Result<T, E>,

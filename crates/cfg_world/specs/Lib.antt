@@ -23,3 +23,4 @@ pub mod Adapters
 pub mod Handed
 pub mod Replayed
 pub mod Streams
+pub mod Shown

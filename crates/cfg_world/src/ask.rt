@@ -4,7 +4,8 @@ ghost use Rattle.std.specs.Prelude.{◌≡◌, IfOk};
 mod readings;
 
 use cfg_types::{
-    Address, Bytes, FailKind, Finished, Instant, OutOfMemory, Reply, Request, Seq, Text, TryCopy,
+    Address, Bytes, FailKind, Finished, Instant, OutOfMemory, Reply, Request, Seq, ShownCommand,
+    Text, TryCopy,
 };
 use std::alloc::Global;
 use std::fmt;
@@ -80,6 +81,10 @@ impl Drop for Answer {
 
 // The text depends on no bytes of a file, and of a command on what stands before its first white space.
 impl fmt::Debug for Question {
+    ghost use Rattle.cfg_world.specs.Shown.{shown_question};
+
+    ghost debug_output = { shown_question ⟦<Request as fmt::Debug>⟧.debug_output };
+
     fn fmt<W: fmt::Write>(&self, f: &mut fmt::Formatter<W>) -> fmt::Result {
         match self {
             Question::Now => f.write_str("Now"),
@@ -88,15 +93,10 @@ impl fmt::Debug for Question {
             Question::Write { path, bytes: _ } => {
                 write!(f, "Write {{ path: {path:?}, bytes: \"** redacted **\" }}")
             }
-            Question::Run { command } => match command.as_str().split_once(char::is_whitespace) {
-                None => write!(f, "Run {{ command: {command:?} }}"),
-                Some((program, _)) => {
-                    write!(
-                        f,
-                        "Run {{ command: \"{program} ** arguments redacted **\" }}"
-                    )
-                }
-            },
+            Question::Run { command } => {
+                let command = ShownCommand(command);
+                write!(f, "Run {{ command: {command:?} }}")
+            }
             Question::LookUp { host } => write!(f, "LookUp {{ host: {host:?} }}"),
             Question::Send(request) => write!(f, "Send({request:?})"),
         }

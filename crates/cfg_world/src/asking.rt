@@ -17,7 +17,8 @@ use cfg_types::OutOfMemory;
 pub enum Stop {
     /// Memory ran out, over a question or beside it. The devices may have been asked.
     OutOfMemory,
-    /// The answer is not known yet. The question is kept as the open one.
+    /// The answer is not known yet. The question is kept as the open one. A `World` answers every question, so a
+    /// call over one stops only where memory runs out.
     Open,
 }
 

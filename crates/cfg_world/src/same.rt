@@ -1,14 +1,20 @@
 //! Whether two values are one and the same: true exactly where they are equal as contracts see them.
 ghost use Rattle.std.specs.Prelude.{◌≡◌, ◌↔◌, IsTrue};
 
+mod causes;
 mod credentials;
+mod entries;
+mod errors;
+mod imds;
+mod replies;
 mod requests;
 mod settings;
 
-use crate::ask::Question;
-use cfg_types::{Bytes, Instant, Seq, Text};
+use cfg_types::{Bytes, Instant, Outcome, Seq, Text};
 
-/// Values that can be told apart exactly. A derived `==` says nothing of values that it calls equal.
+/// Values that can be told apart exactly: whole questions, answers and entries, and all that a call comes to, its
+/// errors with every cause. A derived `==` promises no more than an equivalence, and nothing of an error that
+/// holds errors.
 pub trait Same {
     /// Whether both are the same value.
     fn same(&self, other: &Self) -> bool
@@ -21,6 +27,12 @@ impl Same for bool {
     }
 }
 
+impl Same for u16 {
+    fn same(&self, other: &u16) -> bool {
+        *self == *other
+    }
+}
+
 impl Same for u32 {
     fn same(&self, other: &u32) -> bool {
         *self == *other
@@ -29,6 +41,12 @@ impl Same for u32 {
 
 impl Same for i32 {
     fn same(&self, other: &i32) -> bool {
+        *self == *other
+    }
+}
+
+impl Same for i64 {
+    fn same(&self, other: &i64) -> bool {
         *self == *other
     }
 }
@@ -69,6 +87,22 @@ impl<T: Same> Same for Option<T> {
     }
 }
 
+impl<T: Same, E: Same> Same for Result<T, E> {
+    fn same(&self, other: &Result<T, E>) -> bool {
+        match (self, other) {
+            (Ok(one), Ok(other)) => one.same(other),
+            (Err(one), Err(other)) => one.same(other),
+            _ => false,
+        }
+    }
+}
+
+impl<T: Same, E: Same> Same for Outcome<T, E> {
+    fn same(&self, other: &Outcome<T, E>) -> bool {
+        self.answer.same(&other.answer)
+    }
+}
+
 impl<T: Same> Same for Seq<T> {
     fn same(&self, other: &Seq<T>) -> bool {
         same_items(self.as_slice(), other.as_slice())
@@ -88,25 +122,4 @@ fn same_items<T: Same>(one: &[T], other: &[T]) -> bool
         }
     }
     true
-}
-
-impl Same for Question {
-    fn same(&self, other: &Question) -> bool {
-        match (self, other) {
-            (Question::Now, Question::Now) => true,
-            (Question::Jitter, Question::Jitter) => true,
-            (Question::Read { path }, Question::Read { path: other }) => path.same(other),
-            (
-                Question::Write { path, bytes },
-                Question::Write {
-                    path: other_path,
-                    bytes: other_bytes,
-                },
-            ) => path.same(other_path) && bytes.same(other_bytes),
-            (Question::Run { command }, Question::Run { command: other }) => command.same(other),
-            (Question::LookUp { host }, Question::LookUp { host: other }) => host.same(other),
-            (Question::Send(request), Question::Send(other)) => request.same(other),
-            _ => false,
-        }
-    }
 }

@@ -271,7 +271,6 @@ fn named<D: Devices>(
 {
     match session_name(alloc, "assume-role-provider", given, world) {
         Ok(name) => Ok(name),
-        // A world leaves no question open: a call over it stops for want of memory alone.
         Err(_) => Err(OutOfMemory),
     }
 }

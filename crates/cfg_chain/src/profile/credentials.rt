@@ -117,7 +117,6 @@ impl ProfileFileCredentialsProvider {
         kept.clear_found();
         match self.follow(kept, world) {
             Ok(outcome) => outcome,
-            // A world leaves no question open: a call over it stops for want of memory alone.
             Err(_) => Err(CredentialsError::OutOfMemory),
         }
     }

@@ -1,5 +1,5 @@
 //! What no clause says: what the errors of members come of, line by line and in one line.
-use cfg_error_report::{causes_of, token_causes_of};
+use cfg_error_report::{LineKind, causes_of, token_causes_of};
 use cfg_types::imds::{BuildError, FailedToLoadToken, ImdsError, UnexpectedCause};
 use cfg_types::{
     Boxed, ConfigCause, CredentialsError, LoginJsonFault, LoginTokenError, NotLoadedCause,
@@ -74,13 +74,21 @@ fn chain(alloc: Global) -> Result<CredentialsError, OutOfMemory> {
     Ok(chain_of(outer))
 }
 
-// Each line behind its depth, and `-` before the name of a member.
+fn mark(kind: LineKind) -> &'static str {
+    match kind {
+        LineKind::Cause => "",
+        LineKind::Detail => "+",
+        LineKind::Member => "-",
+    }
+}
+
+// Each line behind its depth, `-` before the name of a member, and `+` before a detail.
 #[test]
 fn lines_of_a_chain(rt: HostRuntime) -> Result<(), Fail> {
     let causes = causes_of(rt.alloc(), &chain(rt.alloc())?)?;
     let mut told = String::new(rt.alloc());
     for line in causes.lines() {
-        let mark = if line.is_member() { "-" } else { "" };
+        let mark = mark(line.kind());
         let shown = format!(in rt.alloc(); "{}{mark} {}\n", line.depth(), line.text())?;
         told.push_str(shown.as_str())?;
     }
@@ -95,6 +103,7 @@ fn lines_of_a_chain(rt: HostRuntime) -> Result<(), Fail> {
 4 profile formed an infinite loop. first we loaded [\"a\\\"\\n\", \"größe\"], then attempted to reload A
 3- Base
 4 provider error
+4+ the base gave no credentials
 4 unhandled error
 4 invalid JSON in cached Login token file
 4 the member `accessToken` has an object among its members
@@ -110,7 +119,8 @@ fn lines_of_a_chain(rt: HostRuntime) -> Result<(), Fail> {
 2 provider error
 2 an unexpected error occurred communicating with IMDS
 2 failed to build IMDS client: invalid URI
-2 `t` is no URI
+2 `t` is no URI with a scheme and a host
+2+ the scheme is missing
 1- Token
 2 provider error
 2 failed to load IMDS session token

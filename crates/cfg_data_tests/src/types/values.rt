@@ -71,6 +71,10 @@ const COMMANDS: &[(&str, &str)] = &[
         "a\"b\\c'd e",
         "a\"b\\c'd ** arguments redacted **|\"a\\\"b\\\\c'd ** arguments redacted **\"|\"a\\\"b\\\\c'd ** arguments redacted **\"",
     ),
+    (
+        "gr\u{f6}\u{df}e\0\u{1}\u{7f}\u{301} wJalr",
+        "gr\u{f6}\u{df}e\0\u{1}\u{7f}\u{301} ** arguments redacted **|\"gr\u{f6}\u{df}e\\0\\u{1}\\u{7f}\\u{301} ** arguments redacted **\"|\"gr\u{f6}\u{df}e\\0\\u{1}\\u{7f}\\u{301} ** arguments redacted **\"",
+    ),
 ];
 
 #[test]

@@ -143,7 +143,6 @@ impl ImdsCredentialsProvider {
     {
         match self.follow(keeper, world) {
             Ok(outcome) => outcome,
-            // A world leaves no question open: a call over it stops for want of memory alone.
             Err(_) => Err(CredentialsError::OutOfMemory),
         }
     }

@@ -1,9 +1,9 @@
-//! Holdings of each kind over scripts, two on one keeper: what they answer, how much they ask, and how
-//! much was found.
+//! Holdings of each kind over scripts, on one keeper: what they answer, how much they ask, how much was
+//! found, and how many records there are of the token's loads.
 ghost use Rattle.std.specs.Prelude.{◌≡◌, true, IfOk, None as none};
 ghost use Rattle.cfg_imds.specs.Clients.{endpoint_fault, client_rules};
 ghost use Rattle.cfg_kept.specs.KeptStates.{kept_key};
-ghost use Rattle.cfg_kept.specs.KeyedStates.{is_sso_key, is_login_key};
+ghost use Rattle.cfg_kept.specs.KeyedStates.{is_key_of, is_sso_key, is_login_key};
 ghost use Rattle.cfg_script.specs.Devices.{lists_of};
 ghost use Rattle.cfg_script.specs.Script.{plain};
 ghost use Rattle.cfg_world.specs.Script.{AllFit};
@@ -11,11 +11,13 @@ ghost use Rattle.cfg_world.specs.Script.{AllFit};
 use crate::sections::settings;
 use cfg_exchange::ClassifyRetry;
 use cfg_imds::Client;
-use cfg_kept::{CachedSsoToken, Keeper, Kept, LoginToken, Place, imds_token, kept_section};
+use cfg_kept::{
+    CachedSsoToken, Keeper, Kept, KeptToken, LoginToken, Place, imds_token, kept_section,
+};
 use cfg_script::{Script, read_script};
 use cfg_token::TokenKey;
-use cfg_types::{Env, OutOfMemory, Region, Text};
-use cfg_world::{DeviceLists, ScriptDevices, World};
+use cfg_types::{Env, OutOfMemory, Region, Seq, Text};
+use cfg_world::{Answers, DeviceLists, ScriptDevices, World};
 use std::alloc::Global;
 use std::test::Fail;
 
@@ -40,7 +42,16 @@ fn login_kept(alloc: Global) -> Result<Kept, OutOfMemory>
     Ok(Kept::new(alloc, Some(TokenKey::Login { session })))
 }
 
-// How much was asked since the last look, and what was found by now.
+// How many records there are of the token's loads.
+fn records(kept: &Kept) -> usize {
+    match (kept.sso_state(), kept.login_state()) {
+        (Some(state), _) => state.records().len(),
+        (None, Some(state)) => state.records().len(),
+        (None, None) => 0,
+    }
+}
+
+// How much was asked since the last look, what was found by now, and the records.
 fn counts(
     alloc: Global,
     answer: &str,
@@ -50,7 +61,27 @@ fn counts(
     let asked = world.journal().len();
     world.clear_journal();
     let found = kept.found().len();
-    Ok(format!(in alloc; "{answer} {asked} {found}; ")?)
+    let records = records(kept);
+    Ok(format!(in alloc; "{answer} {asked} {found} {records}; ")?)
+}
+
+// A section whose first question is left open, and the records in a copy and after a trim.
+fn stopped_line<T: KeptToken>(
+    alloc: Global,
+    kept: &mut Kept,
+    env: &Env,
+) -> Result<String, OutOfMemory>
+    requires { is_key_of T.rules (kept_key kept.old) ≡ true }
+    ensures { kept_key kept.new ≡ kept_key kept.old }
+{
+    let mut answers = Answers::new(Seq::of(Vec::new(alloc)));
+    let stop = T::section(kept, alloc, env, &settings(), &mut answers).err();
+    let found = kept.found().len();
+    let copied = kept.copy(alloc)?;
+    let before = records(&copied);
+    kept.trim();
+    let after = records(kept);
+    Ok(format!(in alloc; "{stop:?} {found} {before} {after}; ")?)
 }
 
 fn sso_line(
@@ -76,8 +107,10 @@ fn sso_words(
     let mut kept = sso_kept(alloc)?;
     let first = sso_line(alloc, &mut kept, env, world)?;
     let second = sso_line(alloc, &mut kept, env, world)?;
+    let stopped = stopped_line::<CachedSsoToken>(alloc, &mut kept, env)?;
+    let last = sso_line(alloc, &mut kept, env, world)?;
     let key = kept.key();
-    Ok(format!(in alloc; "{first}{second}{key:?}")?)
+    Ok(format!(in alloc; "{first}{second}{stopped}{last}{key:?}")?)
 }
 
 fn login_line(
@@ -103,8 +136,10 @@ fn login_words(
     let mut kept = login_kept(alloc)?;
     let first = login_line(alloc, &mut kept, env, world)?;
     let second = login_line(alloc, &mut kept, env, world)?;
+    let stopped = stopped_line::<LoginToken>(alloc, &mut kept, env)?;
+    let last = login_line(alloc, &mut kept, env, world)?;
     let key = kept.key();
-    Ok(format!(in alloc; "{first}{second}{key:?}")?)
+    Ok(format!(in alloc; "{first}{second}{stopped}{last}{key:?}")?)
 }
 
 fn token_line(
@@ -161,18 +196,18 @@ fn holdings(rt: HostRuntime) -> Result<(), Fail> {
     let table: &[(&str, &str, &str)] = &[
         (
             "sso",
-            r#"{"variables":[["HOME","/home/u"]],"clock":[700,700,730],"files":[["/home/u/.aws/sso/cache/a9993e364706816aba3e25717850c26c9cd0d89d.json","{\"accessToken\":\"t\",\"expiresAt\":\"1970-01-01T00:15:00Z\",\"clientId\":\"i\",\"clientSecret\":\"s\",\"refreshToken\":\"r\",\"registrationExpiresAt\":\"1970-01-02T00:00:00Z\"}"]],"replies":{"create-token":[{"access":"t2","refresh":"r2","expires_in":1000}]}}"#,
-            r#"t2 5 1; t2 1 2; Some(Sso { session: "abc", region: "us-east-1", start_url: "u" })"#,
+            r#"{"variables":[["HOME","/home/u"]],"clock":[700,700,730,730],"files":[["/home/u/.aws/sso/cache/a9993e364706816aba3e25717850c26c9cd0d89d.json","{\"accessToken\":\"t\",\"expiresAt\":\"1970-01-01T00:15:00Z\",\"clientId\":\"i\",\"clientSecret\":\"s\",\"refreshToken\":\"r\",\"registrationExpiresAt\":\"1970-01-02T00:00:00Z\"}"]],"replies":{"create-token":[{"access":"t2","refresh":"r2","expires_in":1000}]}}"#,
+            r#"t2 5 1 1; t2 1 2 1; Some(Open) 3 1 0; t2 1 4 0; Some(Sso { session: "abc", region: "us-east-1", start_url: "u" })"#,
         ),
         (
             "login",
-            r#"{"variables":[["AWS_LOGIN_CACHE_DIRECTORY","/c"]],"clock":[700,700,730],"files":[["/c/ba7816bf8f01cfea414140de5dae2223b00361a396177a9cb410ff61f20015ad.json","{\"accessToken\":{\"accessKeyId\":\"AK\",\"secretAccessKey\":\"SK\",\"sessionToken\":\"ST\",\"accountId\":\"012345678901\",\"expiresAt\":\"1970-01-01T00:15:00Z\"},\"refreshToken\":\"rt\",\"clientId\":\"ci\",\"dpopKey\":\"dk\"}"]],"replies":{"sign-in":[{"id":"AK2","secret":"SK2","token":"ST2","refresh":"rt2","expires_in":930}]}}"#,
-            r#"AK2 5 1; AK2 1 2; Some(Login { session: "abc" })"#,
+            r#"{"variables":[["AWS_LOGIN_CACHE_DIRECTORY","/c"]],"clock":[700,700,730,730],"files":[["/c/ba7816bf8f01cfea414140de5dae2223b00361a396177a9cb410ff61f20015ad.json","{\"accessToken\":{\"accessKeyId\":\"AK\",\"secretAccessKey\":\"SK\",\"sessionToken\":\"ST\",\"accountId\":\"012345678901\",\"expiresAt\":\"1970-01-01T00:15:00Z\"},\"refreshToken\":\"rt\",\"clientId\":\"ci\",\"dpopKey\":\"dk\"}"]],"replies":{"sign-in":[{"id":"AK2","secret":"SK2","token":"ST2","refresh":"rt2","expires_in":930}]}}"#,
+            r#"AK2 5 1 1; AK2 1 2 1; Some(Open) 3 1 0; AK2 1 4 0; Some(Login { session: "abc" })"#,
         ),
         (
             "metadata",
             r#"{"clock":[0,0,1],"replies":{"imds-token":[[200,[["x-aws-ec2-metadata-token-ttl-seconds","200"]],"t"]]}}"#,
-            "[116] 3 1; [116] 1 2; ",
+            "[116] 3 1 0; [116] 1 2 0; ",
         ),
     ];
     for (kind, script, want) in table {

@@ -2,7 +2,7 @@
 ghost use Rattle.std.specs.Prelude.{◌≡◌, true, IfOk};
 ghost use Rattle.cfg_token.specs.SsoTokens.{is_sso};
 
-use crate::sections::sections;
+use crate::sections::{polled, sections};
 use cfg_token::{CachedSsoToken, TokenKey, TokenState};
 use cfg_types::{OutOfMemory, Region, Text};
 use std::alloc::Global;
@@ -44,5 +44,17 @@ fn sections_of_one_state(rt: HostRuntime) -> Result<(), Fail> {
         let words = sections(rt.alloc(), &mut state, script)?;
         assert_eq!(rt; words.as_str(), *want);
     }
+    Ok(())
+}
+
+const POLLED: &str =
+    "Some(Now) None Ok(CachedSsoToken { secrets: \"** redacted **\", expires_at: 3600 s 0 ns }) 1 None; Ok(CachedSsoToken { secrets: \"** redacted **\", expires_at: 3600 s 0 ns }) 4 1";
+
+#[test]
+fn a_section_over_receipts(rt: HostRuntime) -> Result<(), Fail> {
+    let mut state = state(rt.alloc())?;
+    let (script, _) = SCRIPTS[0];
+    let words = polled(rt.alloc(), &mut state, script)?;
+    assert_eq!(rt; words.as_str(), POLLED);
     Ok(())
 }

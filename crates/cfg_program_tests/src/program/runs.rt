@@ -107,8 +107,8 @@ fn words(rt: HostRuntime) -> Result<(), Fail> {
         (&["resolve"], r#"{"bogus":1}"#, "NoScript "),
         (
             &["why"],
-            r#"{"calls":2,"profiles":[["default",[["credential_process","x"]]]],"commands":[[3,"","a\nb"],[0,"{\"Version\":1,\"AccessKeyId\":\"P\",\"SecretAccessKey\":\"S\"}",""]]}"#,
-            "Done error ProviderError run\n  provider error\n  provider error\n  the command ended with status 3: a%0Ab\ncredentials =P =CredentialProcess none run\n",
+            r#"{"calls":2,"profiles":[["default",[["credential_process","x"]]]],"commands":[[3,"","a\nb\u009b\u202e%é"],[0,"{\"Version\":1,\"AccessKeyId\":\"P\",\"SecretAccessKey\":\"S\"}",""]]}"#,
+            "Done error ProviderError run\n  provider error\n    the base gave no credentials\n  provider error\n  the command ended with status 3: a%0Ab%C2%9B%E2%80%AE%25é\ncredentials =P =CredentialProcess none run\n",
         ),
         (
             &["region"],

@@ -150,7 +150,6 @@ impl DefaultRegionChain {
     {
         match self.follow(world) {
             Ok(region) => Ok(region),
-            // A world leaves no question open: a call over it stops for want of memory alone.
             Err(_) => Err(OutOfMemory),
         }
     }

@@ -112,7 +112,6 @@ impl RegionProviderChain {
     {
         match self.follow(world) {
             Ok(region) => Ok(region),
-            // A world leaves no question open: a call over it stops for want of memory alone.
             Err(_) => Err(OutOfMemory),
         }
     }

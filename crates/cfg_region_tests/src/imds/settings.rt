@@ -22,9 +22,12 @@ impl Drop for Missing {
 }
 
 impl ClassifyRetry for Missing {
+    ghost use Rattle.std.specs.Prelude.{codes};
     ghost use Rattle.cfg_region_tests.specs.Classifiers.{repeats_missing};
 
     ghost repeated = { λ _. repeats_missing };
+
+    ghost named = { λ _. codes "Missing" };
 
     fn name(&self) -> &str {
         "Missing"

@@ -262,7 +262,6 @@ impl SsoTokenProvider {
     {
         match self.follow(keeper, world) {
             Ok(outcome) => outcome,
-            // A world leaves no question open: a call over it stops for want of memory alone.
             Err(_) => Err(TokenError::OutOfMemory),
         }
     }

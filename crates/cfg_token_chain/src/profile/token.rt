@@ -163,7 +163,6 @@ impl ProfileFileTokenProvider {
         kept.clear_found();
         match self.follow(kept, world) {
             Ok(outcome) => outcome,
-            // A world leaves no question open: a call over it stops for want of memory alone.
             Err(_) => Err(TokenError::OutOfMemory),
         }
     }

@@ -1,4 +1,5 @@
 ghost use Rattle.std.specs.Prelude.{◌≡◌, IfOk, option_map};
+ghost use Rattle.std.specs.Str.{encode_utf8_all};
 ghost use Rattle.cfg_base.specs.Text.{characters};
 ghost use Rattle.cfg_types.specs.Headers.{header as header_of};
 
@@ -39,11 +40,22 @@ impl HttpReply {
     /// The value of the first header of this name, none where there is none. Names are compared
     /// without regard to ASCII case (RFC 9110, section 5.1).
     pub fn header(&self, name: &str) -> Option<&str>
-        ensures { option_map (λ v. characters v.now) result ≡ header_of self.now.headers name.now }
+        ensures chars { option_map (λ v. characters v.now) result ≡ header_of self.now.headers name.now }
+        ensures bytes { option_map (λ v. v.now) result ≡ option_map encode_utf8_all (header_of self.now.headers name.now) }
+    {
+        match self.value_of(name) {
+            None => None,
+            Some(value) => Some(value.as_str()),
+        }
+    }
+
+    // The value of the first header of this name.
+    fn value_of(&self, name: &str) -> Option<&Text>
+        ensures { option_map (λ v. v.now) result ≡ header_of self.now.headers name.now }
     {
         let is_named = |header: &&Header| header.name.as_str().eq_ignore_ascii_case(name);
         let header = self.headers.as_slice().iter().find(is_named)?;
-        Some(header.value.as_str())
+        Some(&header.value)
     }
 }
 

@@ -29,7 +29,7 @@ impl Same for Credentials {
 
 // Whether both are the same text.
 #[tactic(auto, using(crate::proofs::Sameness::same_list))]
-fn same_text(one: &str, other: &str) -> bool
+pub(super) fn same_text(one: &str, other: &str) -> bool
     ensures { IsTrue result ↔ (one.now ≡ other.now) }
 {
     one == other

@@ -51,8 +51,16 @@ const SHOWN: &[(&str, &str)] = &[
         "Write { path: \"a\", bytes: \"** redacted **\" }",
     ),
     (
+        "write gr\u{f6}\u{df}e",
+        "Write { path: \"gr\u{f6}\u{df}e\", bytes: \"** redacted **\" }",
+    ),
+    (
         "run x wJalr",
         "Run { command: \"x ** arguments redacted **\" }",
+    ),
+    (
+        "run gr\u{f6}\u{df}e wJalr",
+        "Run { command: \"gr\u{f6}\u{df}e ** arguments redacted **\" }",
     ),
     ("look-up h", "LookUp { host: \"h\" }"),
     (

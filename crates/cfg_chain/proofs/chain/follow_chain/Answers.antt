@@ -21,7 +21,7 @@ pub loop-member-preserved : goal.loop-member-preserved
 loop-member-preserved g c = record {
   leads = chain_passed _ c.args.members.now c.loop-member.member-index _ c.loop-member.attempts.items _ _
       c.loop-member.invariant.leads c.loop-member-test.true c.in_ok-outcome.ensures.follows c.in-PassedOver.ensures
-      (c.in-Ok.ensures ∙ ap (λ name. c.loop-member.attempts.items ++ attempt_of name c.in-PassedOver.error ∷ []) c.name.ensures);
+      (c.in-Ok.ensures.noted ∙ ap (λ name. c.loop-member.attempts.items ++ attempt_of name c.in-PassedOver.error ∷ []) c.name.ensures);
   key = c.in_ok-outcome.ensures.key ∙ c.loop-member.invariant.key;
 }
 

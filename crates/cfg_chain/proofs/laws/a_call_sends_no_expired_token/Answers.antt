@@ -1,8 +1,14 @@
-use Rattle.cfg_chain.proofs.SignOns.{answered, interrupted}
+use Rattle.cfg_chain.proofs.SignOns.{answered, interrupted, by_profile, profile_interrupted}
 use Rattle.cfg_chain.proofs.laws.a_call_sends_no_expired_token.Goals as goal
 
 pub returns-clause-answered : goal.returns-clause-answered
-returns-clause-answered g c = λ over sso old new found before later out plans h. answered g.D.Devices over old new found before later sso plans out h
+returns-clause-answered g c = λ over old new found before later out h. answered g.D.Devices over old new found before later out h
 
 pub returns-clause-interrupted : goal.returns-clause-interrupted
-returns-clause-interrupted g c = λ over sso old new found before later plans h. interrupted g.D.Devices over old new found before later sso plans h
+returns-clause-interrupted g c = λ over old new found before later h. interrupted g.D.Devices over old new found before later h
+
+pub returns-clause-by_profile : goal.returns-clause-by_profile
+returns-clause-by_profile g c = λ over old new found before later out h. by_profile g.D.Devices over old new found before later out h
+
+pub returns-clause-profile_interrupted : goal.returns-clause-profile_interrupted
+returns-clause-profile_interrupted g c = λ over old new found before later h. profile_interrupted g.D.Devices over old new found before later h

@@ -1,6 +1,8 @@
 -- The members stand behind the chain's own line.
 use Rattle.std.proofs.Common.{◌≡◌, List, OnOk, subst}
-use Rattle.cfg_error_report.specs.Lines.{Line}
+use Rattle.cfg_error_report.specs.Lines.{Line, detail_line}
+use Rattle.cfg_error_report.specs.CredentialsCauses.{error_lines}
+use Rattle.cfg_error_report.proofs.Told.{behind_first}
 use Rattle.cfg_error_report.proofs.ChainFolds.{not_loaded-behind}
 use Rattle.cfg_error_report.proofs.credentials.+tells.Goals as goal
 
@@ -10,3 +12,9 @@ tell_not_loaded-returns-in_ok-tell_words-in-Chain t c =
     (not_loaded-behind c.args.cause.now c.in-Chain.chain c.args.depth c.as_slice.result.now c.as_slice-in-Chain.result.now c.chain_words.result.now c.args.causes.now c.tell_words.new.self
     c.in-Chain.is c.chain_words.ensures c.as_slice.ensures c.as_slice-in-Chain.ensures c.in_ok-tell_words-in-Chain.ensures)
     c.tell_members.ensures
+
+pub tell_step-returns : goal.tell_step-returns
+tell_step-returns t c =
+    subst (λ (l : List Line). OnOk c.tell_error.result (c.tell_error.new.causes ≡ l))
+    (behind_first c.args.causes.now c.tell_detail.new.self (error_lines c.args.error.now c.args.depth) (detail_line c.args.depth c.args.words.now) c.in_ok-tell_detail.ensures)
+    c.tell_error.ensures

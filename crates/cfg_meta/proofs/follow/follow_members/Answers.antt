@@ -53,7 +53,7 @@ loop-i-preserved g c = record {
       c.loop-i.invariant.led c.loop-i-test.true (same_length kept_key (λ m. g.M.ChainMember.needs m) keeping_of c.args.kept.now c.args.members.now c.requires)
       c.index-members-i.is (sym (get_or-map keeping_of c.loop-i.kept c.loop-i.i c.index-kept-i.result)) (map-set keeping_of c.loop-i.kept c.loop-i.i c.follow.new.kept)
       _ _ _ c.in_ok-outcome.ensures.follows c.in-PassedOver.ensures
-      (c.in-Ok.ensures ∙ ap (λ name. c.loop-i.attempts.items ++ attempt_of name c.in-PassedOver.error ∷ []) c.name.ensures);
+      (c.in-Ok.ensures.noted ∙ ap (λ name. c.loop-i.attempts.items ++ attempt_of name c.in-PassedOver.error ∷ []) c.name.ensures);
   keys = map-set_same kept_key c.loop-i.kept c.loop-i.i c.follow.new.kept c.index-kept-i.result c.follow.ensures.key ∙ c.loop-i.invariant.keys;
 }
 

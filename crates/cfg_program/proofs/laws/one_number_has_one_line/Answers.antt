@@ -1,4 +1,3 @@
-use Rattle.std.proofs.Common.{[]}
 use Rattle.cfg_chain.specs.Settings.{alone}
 use Rattle.cfg_program.specs.Generated.{generated_configuration, generated_lists}
 use Rattle.cfg_program.specs.declared.lines.LineForm.TheVariants.{Generated}
