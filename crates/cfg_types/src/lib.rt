@@ -18,11 +18,11 @@ pub mod request;
 pub mod settings;
 pub mod token;
 
+pub use addresses::ShownAddress;
 pub use cfg_base::{
     Address, Boxed, Bytes, Instant, OutOfMemory, Seq, Shared, Text, TextMap, TryCopy, copy_option,
     is_blank, texts, trimmed,
 };
-pub use addresses::ShownAddress;
 pub use command::{CommandWithSensitiveArgs, Finished, ShownCommand};
 pub use credentials::{
     AccountId, AwsCredentialFeature, Credentials, CredentialsBuilder, ShownAccount,
