@@ -3,6 +3,7 @@ use Rattle.std.proofs.Common.{◌≡◌, List, [], ◌++◌, Option, Some, None,
 use Rattle.cfg_world.specs.declared.devices.Devices.{Ghosts}
 use Rattle.cfg_world.specs.Fits.{Pair, EachFits}
 use Rattle.cfg_world.specs.Held.{Held}
+use Rattle.cfg_world.specs.Gains.{Gains}
 use Rattle.cfg_kept.specs.Kinds.{Value, States}
 use Rattle.cfg_kept.specs.KeptInquiry.{KeptInquiry, Gives, Reads, Begins, lift}
 use Rattle.cfg_kept.proofs.Beginnings.{begins_splits}
@@ -11,7 +12,6 @@ use Rattle.cfg_kept.proofs.CallParts.{read_of_run}
 use Rattle.cfg_kept.proofs.Told.{run_begins}
 use Rattle.cfg_providers.specs.CustomSources.{Answer}
 use Rattle.cfg_providers.specs.EnvironmentKeys.{environment}
-use Rattle.cfg_world.specs.Gains.{Gains}
 use Rattle.cfg_chain.specs.Settings.{setting}
 use Rattle.cfg_chain.proofs.MemberCauses.{resolved}
 use Rattle.cfg_chain.proofs.Sessions.{fits_first, begun_lift, begun_said, chain_reads, chain_begun_in}

@@ -4,6 +4,7 @@ use Rattle.cfg_world.specs.declared.devices.Devices.{Ghosts}
 use Rattle.cfg_world.specs.Fits.{Pair}
 use Rattle.cfg_world.specs.Held.{Held}
 use Rattle.cfg_world.specs.Leaves.{assuming}
+use Rattle.cfg_world.specs.Gains.{Gains}
 use Rattle.cfg_kept.specs.Kinds.{Value, States}
 use Rattle.cfg_kept.specs.KeptInquiry.{KeptInquiry, Gives, Begins, lift}
 use Rattle.cfg_kept.proofs.Beginnings.{begins_splits}
@@ -12,7 +13,6 @@ use Rattle.cfg_providers.specs.CustomSources.{Answer}
 use Rattle.cfg_providers.specs.EnvironmentKeys.{environment}
 use Rattle.cfg_sso.specs.RoleRequests.{AsksNoRole}
 use Rattle.cfg_sso.proofs.NoRoleAsked.{NeverAsks, begins_without}
-use Rattle.cfg_world.specs.Gains.{Gains}
 use Rattle.cfg_chain.proofs.Sessions.{begun_said}
 use Rattle.cfg_chain.proofs.SignOns.{none_then, signs_then, chain_signs}
 use Rattle.cfg_assume_role.specs.declared.call.RoleCall.{RoleCall}

@@ -6,6 +6,7 @@ use Rattle.cfg_types.specs.declared.errors.ProviderAttempt.{ProviderAttempt}
 use Rattle.cfg_world.specs.declared.devices.Devices.{Ghosts}
 use Rattle.cfg_world.specs.Fits.{Pair, EachFits}
 use Rattle.cfg_world.specs.Held.{Held}
+use Rattle.cfg_world.specs.Gains.{Gains}
 use Rattle.cfg_kept.specs.declared.kept.Kept.{Kept}
 use Rattle.cfg_kept.specs.Kinds.{Value, States}
 use Rattle.cfg_kept.specs.KeptInquiry.{KeptInquiry, Gives, Reads, Begins, lift, found_by}
@@ -22,7 +23,6 @@ use Rattle.cfg_login.proofs.LastReadings.{credentials_last}
 use Rattle.cfg_login.proofs.OtherSpots.{lift_elsewhere, begins_elsewhere}
 use Rattle.cfg_login.proofs.SignInCauses.{sign_in_cause}
 use Rattle.cfg_sso.specs.SsoCredentials.{sso_credentials}
-use Rattle.cfg_world.specs.Gains.{Gains}
 use Rattle.cfg_chain.specs.Settings.{setting}
 use Rattle.cfg_chain.proofs.MemberCauses.{resolved}
 use Rattle.cfg_chain.proofs.OtherSessions.{Elsewhere, metadata_elsewhere, sign_on_elsewhere}

@@ -4,7 +4,7 @@ ghost use Rattle.std.specs.Prelude.{◌≡◌, IfOk};
 mod readings;
 
 use cfg_types::{
-    Address, Boxed, Bytes, FailKind, Finished, Instant, OutOfMemory, Reply, Request, Seq,
+    Address, Bytes, FailKind, Finished, Instant, OutOfMemory, Reply, Request, Seq, Shared,
     ShownCommand, Text, TryCopy,
 };
 use std::alloc::Global;
@@ -26,7 +26,7 @@ pub enum Question {
     /// Which addresses has this host?
     LookUp { host: Text },
     /// Send this request. What is its reply?
-    Send(Boxed<Request>),
+    Send(Shared<Request>),
 }
 
 /// What the devices answered.
@@ -55,7 +55,7 @@ impl Question {
     pub fn send(alloc: Global, request: Request) -> Result<Question, OutOfMemory>
         ensures { IfOk result (λ q. q ≡ Question.Send request) }
     {
-        Ok(Question::Send(Boxed::new(alloc, request)?))
+        Ok(Question::Send(Shared::new(alloc, request)?))
     }
 }
 
@@ -133,7 +133,7 @@ impl TryCopy for Question {
             Question::LookUp { host } => Question::LookUp {
                 host: host.copy(alloc)?,
             },
-            Question::Send(request) => Question::send(alloc, request.get().copy(alloc)?)?,
+            Question::Send(request) => Question::Send(request.copy(alloc)?),
         })
     }
 }

@@ -1,9 +1,7 @@
--- The attempts before the index are the same.
-use Rattle.std.proofs.Common.{◌≡◌, take, length}
+-- Both errors go down, one beside the other.
+use Rattle.std.specs.Prelude.{max}
+use Rattle.cfg_types.proofs.errors.token.TokenCause.TheLaws as cause
 use Rattle.cfg_world.proofs.same.errors.+same_token_errors.Given as goal
 
-abbrev pub invariant-same_token_attempts-loop-index : goal.invariant-same_token_attempts-loop-index
-invariant-same_token_attempts-loop-index l = record {
-  before : take l.index l.one ≡ take l.index l.other;
-  long : length l.one ≡ length l.other;
-}
+abbrev pub decreases-TokenCauseSame::same : goal.decreases-TokenCauseSame::same
+decreases-TokenCauseSame::same l = max (cause.the_size l.self.now) (cause.the_size l.other.now)
