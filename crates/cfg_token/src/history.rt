@@ -4,14 +4,21 @@ ghost use Rattle.cfg_token.specs.Histories.{token_of, finished_by, load_made, Is
 
 use crate::file_token::FileToken;
 use crate::loading::Loaded;
-use cfg_types::{Instant, OutOfMemory, TryCopy};
+use cfg_types::{Instant, OutOfMemory, Shared, TryCopy};
 use cfg_world::Receipt;
 use std::alloc::Global;
 use std::marker::Model;
 
-/// A finished load: what it was told, what it gave, and the reading at which it noted an attempt.
+/// A finished load: what it was told, what it gave, and the reading at which it noted an attempt. A
+/// copy shares all of it with its source.
 #[derive(Drop)]
 pub struct Record<T: FileToken> {
+    finished: Shared<Finished<T>>,
+}
+
+// What one record and its copies share.
+#[derive(Drop)]
+struct Finished<T: FileToken> {
     receipts: Vec<Receipt>,
     outcome: Result<T, T::Error>,
     noted: Option<Instant>,
@@ -22,7 +29,7 @@ impl<T: FileToken> Model for Record<T> {
 
     ghost Value = { FinishedLoad T T.Error };
 
-    ghost view = { λ r. record { receipts = r.receipts.items; outcome = r.outcome; noted = r.noted } };
+    ghost view = { λ r. record { receipts = r.finished.receipts.items; outcome = r.finished.outcome; noted = r.finished.noted } };
 }
 
 impl<T: FileToken> Record<T> {
@@ -30,33 +37,28 @@ impl<T: FileToken> Record<T> {
     pub fn receipts(&self) -> &[Receipt]
         ensures { result.now ≡ self.now.receipts }
     {
-        self.receipts.as_slice()
+        self.finished.get().receipts.as_slice()
     }
 
     /// The token that the load gave, or why it gave none.
     pub fn outcome(&self) -> &Result<T, T::Error>
         ensures { result.now ≡ self.now.outcome }
     {
-        &self.outcome
+        &self.finished.get().outcome
     }
 
     /// The reading of the clock at which the load noted an attempt, or none where it noted none.
     pub fn noted(&self) -> Option<Instant>
         ensures { result ≡ self.now.noted }
     {
-        self.noted
+        self.finished.get().noted
     }
 
-    pub(crate) fn copy(&self, alloc: Global) -> Result<Record<T>, OutOfMemory>
+    fn copy(&self, alloc: Global) -> Result<Record<T>, OutOfMemory>
         ensures { IfOk result (λ r. r ≡ self.now) }
     {
-        let receipts = copy_receipts(alloc, &self.receipts)?;
-        let outcome = copy_outcome::<T>(alloc, &self.outcome)?;
-        Ok(Record {
-            receipts,
-            outcome,
-            noted: self.noted,
-        })
+        let finished = self.finished.copy(alloc)?;
+        Ok(Record { finished })
     }
 }
 
@@ -131,7 +133,7 @@ impl<T: FileToken> Load<T> {
         }
     }
 
-    /// A copy of the load, with its receipts. `OutOfMemory` where memory runs out.
+    /// A copy of the load, which shares its record. `OutOfMemory` where memory runs out.
     pub fn copy(&self, alloc: Global) -> Result<Load<T>, OutOfMemory>
         ensures { IfOk result (λ l. l ≡ self.now) }
     {
@@ -152,10 +154,13 @@ pub(crate) fn finished_load<T: FileToken>(
     ensures { IfOk result (λ r. r ≡ finished_by receipts.items loaded.now) }
 {
     let outcome = copy_outcome::<T>(alloc, &loaded.outcome)?;
-    Ok(Record {
+    let finished = Finished {
         receipts,
         outcome,
         noted: loaded.noted,
+    };
+    Ok(Record {
+        finished: Shared::new(alloc, finished)?,
     })
 }
 
