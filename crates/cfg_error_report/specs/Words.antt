@@ -85,8 +85,11 @@ abbrev pub scheme_lines : List ℕ → Telling
 scheme_lines address depth = if has_scheme (encode_utf8_all address) then [] else detail_line depth (codes "the scheme is missing") ∷ []
 
 -- an endpoint that cannot be asked
+abbrev pub endpoint_words : List ℕ → List ℕ
+endpoint_words address = codes "`" ++ (shown_address (encode_utf8_all address) ++ codes "` is no URI with a scheme and a host")
+
 abbrev pub endpoint_lines : List ℕ → Telling
-endpoint_lines address = followed (codes "`" ++ (shown_address (encode_utf8_all address) ++ codes "` is no URI with a scheme and a host")) (scheme_lines address)
+endpoint_lines address = followed (endpoint_words address) (scheme_lines address)
 
 -- why the variable of this name gives nothing
 abbrev pub variable_words : List ℕ → List ℕ

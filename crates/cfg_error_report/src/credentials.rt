@@ -59,16 +59,16 @@ fn tell_not_loaded(
         }
         NotLoadedCause::Profile(error) => tell_profile(causes, depth, error),
         NotLoadedCause::NotConfigured => {
-            causes.tell(depth, cause)?;
-            causes.tell_detail(
+            causes.tell_detailed(
                 depth,
+                cause,
                 "neither `AWS_CONTAINER_CREDENTIALS_RELATIVE_URI` nor `AWS_CONTAINER_CREDENTIALS_FULL_URI` can be read",
             )
         }
         NotLoadedCause::MetadataNoRole => {
-            causes.tell(depth, cause)?;
-            causes.tell_detail(
+            causes.tell_detailed(
                 depth,
+                cause,
                 "the machine has no role: the listing of roles is not there",
             )
         }

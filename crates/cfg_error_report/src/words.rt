@@ -7,7 +7,7 @@ ghost use Rattle.std.specs.Char.{is_ascii as is_ascii_byte};
 ghost use Rattle.cfg_types.specs.CauseTexts.{ended_text};
 ghost use Rattle.cfg_error_report.specs.Lines.{cause_line, detailed, followed};
 ghost use Rattle.cfg_types.specs.ProviderTexts.{provider_text};
-ghost use Rattle.cfg_error_report.specs.Words.{quoted, later_quoted, quoted_names, loop_words as loop_words_of, profile_lines, refusal_lines, session_token_lines, json_fault_words, lifetime_words, endpoint_lines, scheme_lines, variable_words as variable_words_of, blank_words as blank_words_of, process_lines};
+ghost use Rattle.cfg_error_report.specs.Words.{quoted, later_quoted, quoted_names, loop_words as loop_words_of, profile_lines, refusal_lines, session_token_lines, json_fault_words, lifetime_words, endpoint_lines, endpoint_words as endpoint_words_of, scheme_lines, variable_words as variable_words_of, blank_words as blank_words_of, process_lines};
 
 use crate::addresses::has_scheme;
 use crate::lines::Causes;
@@ -169,10 +169,16 @@ pub fn lifetime(alloc: Global, seconds: i64) -> Result<String, OutOfMemory>
 pub fn tell_endpoint(causes: &mut Causes, depth: usize, address: &Text) -> Result<(), OutOfMemory>
     ensures { OnOk result (causes.new ≡ causes.old ++ endpoint_lines address.now depth) }
 {
-    let shown = ShownAddress(address);
-    let words = format!(in causes.alloc(); "`{shown}` is no URI with a scheme and a host")?;
+    let words = endpoint_words(causes.alloc(), address)?;
     causes.tell_text(depth, words)?;
     tell_scheme(causes, depth, address)
+}
+
+fn endpoint_words(alloc: Global, address: &Text) -> Result<String, OutOfMemory>
+    ensures { IfOk result (λ words. string_bytes words ≡ endpoint_words_of address.now) }
+{
+    let shown = ShownAddress(address);
+    Ok(format!(in alloc; "`{shown}` is no URI with a scheme and a host")?)
 }
 
 /// That the scheme of an address is missing, where it is.
