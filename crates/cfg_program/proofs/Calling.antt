@@ -15,17 +15,17 @@ use Rattle.cfg_program.specs.declared.lines.LineForm.{LineForm}
 use Rattle.cfg_program.specs.Lines.{shown_as}
 use Rattle.cfg_program.specs.Calls.{Made, InTurn, asked_by, lines_of, last_is_ok, MakesCall, AnswersOver}
 
--- one call, made and told
-pub one_call : (over : ChainSetting) (form : LineForm) (old new : States) (found : List Value) (before cleared later : Held Script) (part : List Pair) (out : Answer) (ok : Bool) (lines more : List ℕ)
+-- one call, made and told, behind which this is kept
+pub one_call : (over : ChainSetting) (form : LineForm) (old new kept : States) (found : List Value) (before cleared later : Held Script) (part : List Pair) (out : Answer) (ok : Bool) (lines more : List ℕ)
     → cleared ≡ record before { journal = [] } → later.journal ≡ cleared.journal ++ part → Same (Allows cleared.devices) (Allows later.devices) → StandsOn (Stands cleared.devices) (Stands later.devices) part
-    → IsCall over old new found part out → ok ≡ is_ok out → more ≡ lines ++ shown_as form out later.journal → MakesCall over form old new before.devices later.devices ok lines more
-one_call over form old new found before cleared later part out ok lines more empty grows same stands call credentials shows =
+    → IsCall over old new found part out → kept ≡ new → ok ≡ is_ok out → more ≡ lines ++ shown_as form out later.journal → MakesCall over form old kept before.devices later.devices ok lines more
+one_call over form old new kept found before cleared later part out ok lines more empty grows same stands call keeps credentials shows =
     let devices : cleared.devices ≡ before.devices = ap (λ w. w.devices) empty in
     let journal : later.journal ≡ part = grows ∙ ap (λ w. w.journal ++ part) empty in
     record {
       call = record { found = found; journal = part; out = out; kept = new };
       made = call;
-      left = refl;
+      left = sym keeps;
       same = subst (λ d. Same (Allows d) (Allows later.devices)) devices same;
       stands = subst (λ d. StandsOn (Stands d) (Stands later.devices) part) devices stands;
       credentials = credentials;

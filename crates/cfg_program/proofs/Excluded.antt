@@ -11,7 +11,7 @@ use Rattle.cfg_chain.specs.Settings.{alone, with_sources}
 use Rattle.cfg_program.specs.declared.status.Status.{Status}
 use Rattle.cfg_program.specs.declared.status.Status.TheVariants as status
 use Rattle.cfg_program.specs.declared.commands.Command.{Command}
-use Rattle.cfg_program.specs.declared.commands.Command.TheVariants.{Help, Version, Resolve, Why, Region, Token, Local, Generate}
+use Rattle.cfg_program.specs.declared.commands.Command.TheVariants.{Help, Version, Resolve, Region, Token, Local, Generate}
 use Rattle.cfg_program.specs.declared.lines.LineForm.{LineForm}
 use Rattle.cfg_program.specs.declared.lines.LineForm.TheVariants as form
 use Rattle.cfg_program.specs.declared.commands.TheConstants.{HELP, VERSION}
@@ -293,10 +293,9 @@ module _ (handed : Handed) where
   alike one other None s t known same gain u v a b = alike_unknown one.sink other.sink s t a b
   alike one other (Some Help) s t known same gain u v a b = alike_telling one.sink other.sink HELP.now s t u v a b
   alike one other (Some Version) s t known same gain u v a b = alike_telling one.sink other.sink VERSION.now s t u v a b
-  alike one other (Some Resolve) s t known same gain u v a b = alike_reading script_of (Answers handed.sources form.Call) (one_answer handed form.Call) one other s t known same u v a b
-  alike one other (Some Why) s t known same gain u v a b = alike_reading script_of (Answers handed.sources form.Why) (one_answer handed form.Why) one other s t known same u v a b
+  alike one other (Some (Resolve below)) s t known same gain u v a b = alike_reading script_of (Answers handed.sources (form.Call below)) (one_answer handed (form.Call below)) one other s t known same u v a b
   alike one other (Some Region) s t known same gain u v a b = alike_reading script_of_one_call RegionAnswers one_region one other s t known same u v a b
-  alike one other (Some Token) s t known same gain u v a b = alike_reading script_of_one_call TokenAnswers one_token one other s t known same u v a b
+  alike one other (Some (Token below)) s t known same gain u v a b = alike_reading script_of_one_call (TokenAnswers below) (one_token below) one other s t known same u v a b
   alike one other (Some Local) s t known same gain u v a b = alike_locally handed one.sink other.sink one.world other.world gain.0 s t u v gain.1 gain.2 a b
   alike one other (Some (Generate n)) s t known same gain u v a b = alike_generating one.sink other.sink n s t u v a b
 
@@ -304,10 +303,9 @@ module _ (handed : Handed) where
   exclude_one_another seen None one other known t u a b = (alike_unknown seen.sink seen.sink one other a b).0
   exclude_one_another seen (Some Help) one other known t u a b = (alike_telling seen.sink seen.sink HELP.now one other t u a b).0
   exclude_one_another seen (Some Version) one other known t u a b = (alike_telling seen.sink seen.sink VERSION.now one other t u a b).0
-  exclude_one_another seen (Some Resolve) one other known t u a b = (alike_reading script_of (Answers handed.sources form.Call) (one_answer handed form.Call) seen seen one other known refl t u a b).0
-  exclude_one_another seen (Some Why) one other known t u a b = (alike_reading script_of (Answers handed.sources form.Why) (one_answer handed form.Why) seen seen one other known refl t u a b).0
+  exclude_one_another seen (Some (Resolve below)) one other known t u a b = (alike_reading script_of (Answers handed.sources (form.Call below)) (one_answer handed (form.Call below)) seen seen one other known refl t u a b).0
   exclude_one_another seen (Some Region) one other known t u a b = (alike_reading script_of_one_call RegionAnswers one_region seen seen one other known refl t u a b).0
-  exclude_one_another seen (Some Token) one other known t u a b = (alike_reading script_of_one_call TokenAnswers one_token seen seen one other known refl t u a b).0
+  exclude_one_another seen (Some (Token below)) one other known t u a b = (alike_reading script_of_one_call (TokenAnswers below) (one_token below) seen seen one other known refl t u a b).0
   exclude_one_another seen (Some Local) one other known t u a b =
       let gain = gained_by seen.sink seen.world handed one t a in
       (alike_locally handed seen.sink seen.sink seen.world seen.world gain.0 one other t u gain.1 gain.1 a b).0
@@ -316,10 +314,9 @@ module _ (handed : Handed) where
   pub comes_where_called_for : (seen : Seen) (command : Command) (cause ended : Status) → BytesAreKnown seen → IsTrue (reads_input command) → CallsFor seen (script_for command) cause → IsTrue (depends_on_input ended) → EndsRun seen handed (Some command) ended → ended ≡ cause
   comes_where_called_for seen Help cause ended known r h t ends = cc
   comes_where_called_for seen Version cause ended known r h t ends = cc
-  comes_where_called_for seen Resolve cause ended known r h t ends = comes_where_called script_of (Answers handed.sources form.Call) seen cause ended known h t ends
-  comes_where_called_for seen Why cause ended known r h t ends = comes_where_called script_of (Answers handed.sources form.Why) seen cause ended known h t ends
+  comes_where_called_for seen (Resolve below) cause ended known r h t ends = comes_where_called script_of (Answers handed.sources (form.Call below)) seen cause ended known h t ends
   comes_where_called_for seen Region cause ended known r h t ends = comes_where_called script_of_one_call RegionAnswers seen cause ended known h t ends
-  comes_where_called_for seen Token cause ended known r h t ends = comes_where_called script_of_one_call TokenAnswers seen cause ended known h t ends
+  comes_where_called_for seen (Token below) cause ended known r h t ends = comes_where_called script_of_one_call (TokenAnswers below) seen cause ended known h t ends
   comes_where_called_for seen Local cause ended known r h t ends = cc
   comes_where_called_for seen (Generate n) cause ended known r h t ends = cc
 
@@ -380,9 +377,8 @@ pub run_comes : (seen : Seen) (handed : Handed) (command : Option Command) (s : 
 run_comes seen handed None s ends = unknown_comes seen.sink s ends
 run_comes seen handed (Some Help) s ends = telling_comes seen.sink HELP.now s ends
 run_comes seen handed (Some Version) s ends = telling_comes seen.sink VERSION.now s ends
-run_comes seen handed (Some Resolve) s ends = reading_comes seen.source seen.sink script_of (Answers handed.sources form.Call) s ends
-run_comes seen handed (Some Why) s ends = reading_comes seen.source seen.sink script_of (Answers handed.sources form.Why) s ends
+run_comes seen handed (Some (Resolve below)) s ends = reading_comes seen.source seen.sink script_of (Answers handed.sources (form.Call below)) s ends
 run_comes seen handed (Some Region) s ends = reading_comes seen.source seen.sink script_of_one_call RegionAnswers s ends
-run_comes seen handed (Some Token) s ends = reading_comes seen.source seen.sink script_of_one_call TokenAnswers s ends
+run_comes seen handed (Some (Token below)) s ends = reading_comes seen.source seen.sink script_of_one_call (TokenAnswers below) s ends
 run_comes seen handed (Some Local) s ends = local_comes seen.sink seen.world handed s ends
 run_comes seen handed (Some (Generate n)) s ends = generating_comes seen.sink n s ends

@@ -16,8 +16,9 @@ use Rattle.cfg_token_chain.specs.ProfileTokens.{default_token, DefaultTokenCause
 use Rattle.cfg_token_chain.specs.Provides.{IsTokenCall}
 use Rattle.cfg_script.specs.Script.{Plain}
 use Rattle.cfg_script.specs.Devices.{lists_of}
+use Rattle.cfg_program.specs.declared.causes.Below.{Below}
 use Rattle.cfg_program.specs.Calls.{configuration_of}
-use Rattle.cfg_program.specs.Tokens.{shown_token, TellsToken, TokenAnswers}
+use Rattle.cfg_program.specs.Tokens.{shown_token_as, TellsToken, TokenAnswers}
 use Rattle.cfg_program.proofs.OneRegion.{given_from_start}
 
 -- a call is a run of the chain's tree
@@ -26,22 +27,22 @@ runs_call : (conf : Configuration) (old new : States) (found : List Value) (jour
 runs_call conf old new found journal out call =
     told_back (default_token conf) old (Some new) found journal out (call.finds, ap Some call.keeps, subst (λ f. Reads (default_token conf) f journal out) call.finds call.reads)
 
-one_told : (conf : Configuration) (lists : DeviceLists) (a b : Bool) (line other : List ℕ) → TellsToken conf lists a line → TellsToken conf lists b other → (a ≡ b) × (line ≡ other)
-one_told conf lists a b line other x y =
+one_told : (below : Below) (conf : Configuration) (lists : DeviceLists) (a b : Bool) (line other : List ℕ) → TellsToken below conf lists a line → TellsToken below conf lists b other → (a ≡ b) × (line ≡ other)
+one_told below conf lists a b line other x y =
     let same = one_run (default_token conf) no_states x.found y.found x.journal y.journal x.out y.out (Some x.kept) (Some y.kept)
     (runs_call conf no_states x.kept x.found x.journal x.out x.call) (runs_call conf no_states y.kept y.found y.journal y.out y.call)
     (given_alike lists start x.journal y.journal x.agrees y.agrees) in (
       x.token ∙ ap (λ (o : Bearer). is_ok o) same.2 ∙ sym y.token,
-      x.shows ∙ ap (λ (o : Bearer). shown_token o x.journal) same.2 ∙ ap (λ (j : List Pair). shown_token y.out j) same.0 ∙ sym y.shows,
+      x.shows ∙ ap (λ (o : Bearer). shown_token_as below o x.journal) same.2 ∙ ap (λ (j : List Pair). shown_token_as below y.out j) same.0 ∙ sym y.shows,
     )
 
-pub one_token : (p : Plain) (a b : Bool) (line other : List ℕ) → TokenAnswers p a line → TokenAnswers p b other → (a ≡ b) × (line ≡ other)
-one_token p a b line other x y = one_told (configuration_of p) (lists_of p) a b line other x y
+pub one_token : (below : Below) (p : Plain) (a b : Bool) (line other : List ℕ) → TokenAnswers below p a line → TokenAnswers below p b other → (a ≡ b) × (line ≡ other)
+one_token below p a b line other x y = one_told below (configuration_of p) (lists_of p) a b line other x y
 
 -- one call over scripted devices that nothing was asked of
-pub token_over : (conf : Configuration) (was now : Script) (old new : States) (found : List Value) (journal told : List Pair) (out : Bearer) (is_token : Bool) (none lines : List ℕ) → was.place ≡ start → Same (Allows was) (Allows now) → StandsOn (Stands was) (Stands now) journal
-    → old ≡ no_states → IsTokenCall (default_token conf) (DefaultTokenCause conf) old new found journal out → told ≡ journal → is_token ≡ is_ok out → none ≡ [] → lines ≡ none ++ shown_token out told → TellsToken conf was.lists is_token lines
-token_over conf was now old new found journal told out is_token none lines fresh same stands nothing call own is empty shows = record {
+pub token_over : (below : Below) (conf : Configuration) (was now : Script) (old new : States) (found : List Value) (journal told : List Pair) (out : Bearer) (is_token : Bool) (none lines : List ℕ) → was.place ≡ start → Same (Allows was) (Allows now) → StandsOn (Stands was) (Stands now) journal
+    → old ≡ no_states → IsTokenCall (default_token conf) (DefaultTokenCause conf) old new found journal out → told ≡ journal → is_token ≡ is_ok out → none ≡ [] → lines ≡ none ++ shown_token_as below out told → TellsToken below conf was.lists is_token lines
+token_over below conf was now old new found journal told out is_token none lines fresh same stands nothing call own is empty shows = record {
   found = found;
   journal = journal;
   out = out;
@@ -49,12 +50,12 @@ token_over conf was now old new found journal told out is_token none lines fresh
   call = subst (λ (k : States). IsTokenCall (default_token conf) (DefaultTokenCause conf) k new found journal out) nothing call;
   agrees = given_from_start was now journal fresh same stands;
   token = is;
-  shows = shows ∙ ap (λ (l : List ℕ). l ++ shown_token out told) empty ∙ ap (λ (j : List Pair). shown_token out j) own;
+  shows = shows ∙ ap (λ (l : List ℕ). l ++ shown_token_as below out told) empty ∙ ap (λ (j : List Pair). shown_token_as below out j) own;
 }
 
 -- and over devices that allow what those did
-pub tells_since : (conf : Configuration) (was now : Script) (is_token : Bool) (line : List ℕ) → Same (Allows was) (Allows now) → TellsToken conf now.lists is_token line → TellsToken conf was.lists is_token line
-tells_since conf was now is_token line same t = record {
+pub tells_since : (below : Below) (conf : Configuration) (was now : Script) (is_token : Bool) (line : List ℕ) → Same (Allows was) (Allows now) → TellsToken below conf now.lists is_token line → TellsToken below conf was.lists is_token line
+tells_since below conf was now is_token line same t = record {
   found = t.found;
   journal = t.journal;
   out = t.out;

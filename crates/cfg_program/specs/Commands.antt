@@ -3,7 +3,8 @@ use Rattle.std.specs.Prelude.{ℕ, ◌+◌, ◌-◌, ◌*◌, nat_lt, List, [], 
 use Rattle.std.specs.Str.{all_ascii_digits}
 use Rattle.cfg_program.specs.Lines.{digit_zero}
 use Rattle.cfg_program.specs.declared.commands.Command.{Command}
-use Rattle.cfg_program.specs.declared.commands.Command.TheVariants.{Help, Version, Resolve, Why, Region, Token, Local, Generate}
+use Rattle.cfg_program.specs.declared.commands.Command.TheVariants.{Help, Version, Resolve, Region, Token, Local, Generate}
+use Rattle.cfg_program.specs.declared.causes.Below.TheVariants as below
 
 -- the number that decimal digits write behind those of n
 abbrev pub number_after : ℕ → List ℕ → ℕ
@@ -31,13 +32,14 @@ count_of text = if is_numeral text then up_to_most (number_after 0 text) else No
 abbrev pub command_named : List (List ℕ) → Option Command
 command_named [] = None
 command_named (name ∷ []) =
-    if bytes_eq name (codes "resolve") then Some Resolve
-    else (if bytes_eq name (codes "why") then Some Why
+    if bytes_eq name (codes "resolve") then Some (Resolve below.Nothing)
+    else (if bytes_eq name (codes "why") then Some (Resolve below.Causes)
     else (if bytes_eq name (codes "region") then Some Region
-    else (if bytes_eq name (codes "token") then Some Token
+    else (if bytes_eq name (codes "token") then Some (Token below.Nothing)
+    else (if bytes_eq name (codes "why-token") then Some (Token below.Causes)
     else (if bytes_eq name (codes "local") then Some Local
     else (if bytes_eq name (codes "--help") then Some Help
-    else (if bytes_eq name (codes "--version") then Some Version else None))))))
+    else (if bytes_eq name (codes "--version") then Some Version else None)))))))
 command_named (name ∷ number ∷ []) = if bytes_eq name (codes "generate") then option_map Generate (count_of number) else None
 command_named (name ∷ number ∷ other ∷ more) = None
 

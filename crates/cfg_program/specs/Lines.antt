@@ -16,9 +16,9 @@ use Rattle.cfg_world.specs.declared.ask.Answer.TheVariants.{Failed}
 use Rattle.cfg_world.specs.Fits.{Pair}
 use Rattle.cfg_error_report.specs.CredentialsCauses.{causes_of}
 use Rattle.cfg_program.specs.Escapes.{word_byte}
-use Rattle.cfg_program.specs.CauseLines.{shown_causes}
+use Rattle.cfg_program.specs.CauseLines.{with_below}
 use Rattle.cfg_program.specs.declared.lines.LineForm.{LineForm}
-use Rattle.cfg_program.specs.declared.lines.LineForm.TheVariants.{Call, Why, Generated}
+use Rattle.cfg_program.specs.declared.lines.LineForm.TheVariants.{Call, Generated}
 
 -- `=`, and the bytes of a text, those that are escaped as `%` and two digits
 abbrev pub shown_text : List ℕ → List ℕ
@@ -108,14 +108,8 @@ abbrev pub shown_generated : ℕ → Keys → List Pair → List ℕ
 shown_generated n keys journal =
     codes "generate " ++ (decimal n ++ (codes " " ++ (decimal (exchanges journal) ++ (codes " " ++ (shown_text (encode_utf8_all keys.access_key_id) ++ codes "\n")))))
 
--- the line of a call, and below the line of an error what the error comes of
-abbrev pub shown_why : Result Keys CredentialsError → List Pair → List ℕ
-shown_why (Ok keys) journal = shown (Ok keys) journal
-shown_why (Err e) journal = shown (Err e) journal ++ shown_causes (causes_of e)
-
 -- The line of a call in this form, with what stands below it.
 abbrev pub shown_as : LineForm → Result Keys CredentialsError → List Pair → List ℕ
-shown_as Call out journal = shown out journal
-shown_as Why out journal = shown_why out journal
+shown_as (Call below) out journal = with_below causes_of below out (shown out journal)
 shown_as (Generated n) (Ok keys) journal = shown_generated n keys journal
 shown_as (Generated n) (Err e) journal = shown (Err e) journal

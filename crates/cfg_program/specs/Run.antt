@@ -7,7 +7,7 @@ use Rattle.cfg_script.specs.Script.{Plain}
 use Rattle.cfg_program.specs.declared.status.Status.{Status}
 use Rattle.cfg_program.specs.declared.status.Status.TheVariants as status
 use Rattle.cfg_program.specs.declared.commands.Command.{Command}
-use Rattle.cfg_program.specs.declared.commands.Command.TheVariants.{Help, Version, Resolve, Why, Region, Token, Local, Generate}
+use Rattle.cfg_program.specs.declared.commands.Command.TheVariants.{Help, Version, Resolve, Region, Token, Local, Generate}
 use Rattle.cfg_program.specs.declared.lines.LineForm.TheVariants as form
 use Rattle.cfg_program.specs.declared.commands.TheConstants.{HELP, VERSION}
 use Rattle.cfg_program.specs.Streams.{GrowsByPrefix, SourceSeen, SinkSeen}
@@ -119,9 +119,8 @@ abbrev pub EndsRun : Seen → Handed → Option Command → Status → Type 0
 EndsRun seen handed None ended = EndsUnknown seen.sink ended
 EndsRun seen handed (Some Help) ended = TextWritten seen.sink HELP.now ended
 EndsRun seen handed (Some Version) ended = TextWritten seen.sink VERSION.now ended
-EndsRun seen handed (Some Resolve) ended = EndsReading seen.source seen.sink (script_for Resolve) (Answers handed.sources form.Call) ended
-EndsRun seen handed (Some Why) ended = EndsReading seen.source seen.sink (script_for Why) (Answers handed.sources form.Why) ended
+EndsRun seen handed (Some (Resolve below)) ended = EndsReading seen.source seen.sink (script_for (Resolve below)) (Answers handed.sources (form.Call below)) ended
 EndsRun seen handed (Some Region) ended = EndsReading seen.source seen.sink (script_for Region) RegionAnswers ended
-EndsRun seen handed (Some Token) ended = EndsReading seen.source seen.sink (script_for Token) TokenAnswers ended
+EndsRun seen handed (Some (Token below)) ended = EndsReading seen.source seen.sink (script_for (Token below)) (TokenAnswers below) ended
 EndsRun seen handed (Some Local) ended = EndsLocal seen.sink seen.world handed ended
 EndsRun seen handed (Some (Generate n)) ended = GeneratedWritten seen.sink n ended

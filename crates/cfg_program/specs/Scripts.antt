@@ -3,7 +3,7 @@ use Rattle.std.specs.Prelude.{ℕ, ◌==◌, List, Bool, true, false, Option, So
 use Rattle.cfg_script.specs.Script.{Plain}
 use Rattle.cfg_script.specs.Reading.{script_of}
 use Rattle.cfg_program.specs.declared.commands.Command.{Command}
-use Rattle.cfg_program.specs.declared.commands.Command.TheVariants.{Resolve, Why, Region, Token}
+use Rattle.cfg_program.specs.declared.commands.Command.TheVariants.{Resolve, Region, Token}
 
 -- a script of one call
 abbrev pub of_one_call : Option Plain → Option Plain
@@ -16,14 +16,13 @@ script_of_one_call bytes = of_one_call (script_of bytes)
 
 -- whether a command reads a script
 abbrev pub reads_input : Command → Bool
-reads_input Resolve = true
-reads_input Why = true
+reads_input (Resolve below) = true
 reads_input Region = true
-reads_input Token = true
+reads_input (Token below) = true
 reads_input _ = false
 
 -- what a command that does reads bytes as
 abbrev pub script_for : Command → List ℕ → Option Plain
 script_for Region bytes = script_of_one_call bytes
-script_for Token bytes = script_of_one_call bytes
+script_for (Token below) bytes = script_of_one_call bytes
 script_for command bytes = script_of bytes

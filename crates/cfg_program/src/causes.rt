@@ -3,14 +3,24 @@ ghost use Rattle.std.specs.Prelude.{◌≡◌, ◌++◌, OnOk};
 ghost use Rattle.std.specs.List.{flat_map};
 ghost use Rattle.cfg_error_report.specs.Lines.{Line};
 ghost use Rattle.cfg_error_report.specs.CredentialsCauses.{causes_of as causes_of_error};
+ghost use Rattle.cfg_error_report.specs.TokenCauses.{token_causes_of as causes_of_token_error};
 ghost use Rattle.cfg_program.specs.CauseLines.{indent, lead as lead_of, shown_cause, shown_causes};
 ghost use Rattle.percent_encoding.specs.Percent.{percent_encode_byte as percent_encode_byte_of};
 ghost use Rattle.cfg_program.specs.Escapes.{escaped_in_line, is_control as is_control_character, turns_direction as turns_direction_of, line_character, line_text};
 
-use cfg_error_report::{CauseLine, LineKind, causes_of};
-use cfg_types::{CredentialsError, OutOfMemory};
+use cfg_error_report::{CauseLine, LineKind, causes_of, token_causes_of};
+use cfg_types::{CredentialsError, OutOfMemory, TokenError};
 use percent_encoding::percent_encode_byte;
 use std::alloc::AllocError;
+
+/// What stands below the line of an error.
+#[derive(Clone, Copy, Debug, PartialEq, Eq)]
+pub enum Below {
+    /// Nothing.
+    Nothing,
+    /// What the error comes of.
+    Causes,
+}
 
 /// Writes what an error comes of, from the outside in: each text on a line of its own, two spaces deeper than
 /// the error's line, and for each level of a chain's members two spaces more; a detail of a text two spaces
@@ -21,6 +31,16 @@ pub fn write_causes(lines: &mut Vec<u8>, error: &CredentialsError) -> Result<(),
     ensures { OnOk result (lines.new.items ≡ lines.old.items ++ shown_causes (causes_of_error error.now)) }
 {
     let causes = causes_of(*lines.allocator(), error)?;
+    write_lines(lines, causes.lines())?;
+    Ok(())
+}
+
+/// Writes what an error of tokens comes of, as [`write_causes`] writes it of an error of credentials. `OutOfMemory`
+/// where memory runs out.
+pub fn write_token_causes(lines: &mut Vec<u8>, error: &TokenError) -> Result<(), OutOfMemory>
+    ensures { OnOk result (lines.new.items ≡ lines.old.items ++ shown_causes (causes_of_token_error error.now)) }
+{
+    let causes = token_causes_of(*lines.allocator(), error)?;
     write_lines(lines, causes.lines())?;
     Ok(())
 }

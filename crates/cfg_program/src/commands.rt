@@ -2,6 +2,8 @@
 ghost use Rattle.std.specs.Prelude.{◌≡◌, ◌≤◌, ℕ, map, string_bytes, ◌∷◌, [], Some, IfSome};
 ghost use Rattle.cfg_program.specs.Commands.{command_named, count_of, most_profiles};
 
+use crate::causes::Below;
+
 /// What the program's arguments ask for.
 #[derive(Clone, Copy, Debug, PartialEq, Eq)]
 pub enum Command {
@@ -9,14 +11,12 @@ pub enum Command {
     Help,
     /// The text [`VERSION`].
     Version,
-    /// The calls that a script describes.
-    Resolve,
-    /// The same, and what each error comes of.
-    Why,
+    /// The calls that a script describes, with this below the line of an error.
+    Resolve(Below),
     /// The region that a script's default region chain gives.
     Region,
-    /// The bearer token that a script's default token chain gives.
-    Token,
+    /// The bearer token that a script's default token chain gives, with this below the line of an error.
+    Token(Below),
     /// One call over the variables and the world that are handed in.
     Local,
     /// One call over a set of so many profiles, at most [`MOST_PROFILES`].
@@ -37,6 +37,7 @@ usage: bujerova resolve < SCRIPT     a line for each call that the script descri
        bujerova why < SCRIPT         the same, and below an error what it comes of
        bujerova region < SCRIPT      a line for the region of the script's default region chain
        bujerova token < SCRIPT       a line for the token of the script's default token chain
+       bujerova why-token < SCRIPT   the same, and below an error what it comes of
        bujerova local                one line for a call over the variables and files here
        bujerova generate N           one line for a call over N profiles, 1 to 1000
        bujerova --help | --version
@@ -51,6 +52,7 @@ usage: bujerova resolve < SCRIPT
        bujerova why < SCRIPT
        bujerova region < SCRIPT
        bujerova token < SCRIPT
+       bujerova why-token < SCRIPT
        bujerova local
        bujerova generate N
        bujerova --help | --version";
@@ -73,13 +75,15 @@ fn named(name: &str) -> Option<Command>
     ensures most { (n : ℕ) → result ≡ Some (Command.Generate n) → n ≤ most_profiles }
 {
     if name == "resolve" {
-        Some(Command::Resolve)
+        Some(Command::Resolve(Below::Nothing))
     } else if name == "why" {
-        Some(Command::Why)
+        Some(Command::Resolve(Below::Causes))
     } else if name == "region" {
         Some(Command::Region)
     } else if name == "token" {
-        Some(Command::Token)
+        Some(Command::Token(Below::Nothing))
+    } else if name == "why-token" {
+        Some(Command::Token(Below::Causes))
     } else if name == "local" {
         Some(Command::Local)
     } else if name == "--help" {

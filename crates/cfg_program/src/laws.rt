@@ -6,6 +6,7 @@ ghost use Rattle.cfg_world.specs.declared.script.DeviceLists.{DeviceLists as Lis
 ghost use Rattle.cfg_chain.specs.Settings.{ChainSetting};
 ghost use Rattle.cfg_providers.specs.CustomSources.{NamedAnswer};
 ghost use Rattle.cfg_script.specs.Script.{Plain};
+ghost use Rattle.cfg_program.specs.declared.causes.Below.{Below};
 ghost use Rattle.cfg_program.specs.declared.status.Status.{Status as Ended};
 ghost use Rattle.cfg_program.specs.declared.commands.Command.{Command};
 ghost use Rattle.cfg_program.specs.declared.lines.LineForm.{LineForm as Form};
@@ -53,10 +54,10 @@ pub fn one_script_has_one_region()
         RegionAnswers script is_there line → RegionAnswers script is_other other → (is_there ≡ is_other) × (line ≡ other) }
 {}
 
-/// A script has one line of its default token chain, and one status.
+/// A script has one line of its default token chain, with what stands below it, and one status.
 pub fn one_script_has_one_token()
-    ensures { (script : Plain) (is_token is_other : Bool) (line other : List ℕ) →
-        TokenAnswers script is_token line → TokenAnswers script is_other other → (is_token ≡ is_other) × (line ≡ other) }
+    ensures { (below : Below) (script : Plain) (is_token is_other : Bool) (line other : List ℕ) →
+        TokenAnswers below script is_token line → TokenAnswers below script is_other other → (is_token ≡ is_other) × (line ≡ other) }
 {}
 
 /// The call over what is handed in has one line, and one status, for what the world's journal gained.

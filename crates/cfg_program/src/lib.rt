@@ -19,6 +19,7 @@ pub mod run;
 mod status;
 mod token;
 
+pub use causes::Below;
 pub use commands::{Command, HELP, MOST_PROFILES, USAGE, VERSION, command_of};
 pub use input::LIMIT;
 pub use lines::{ESCAPED, LineForm};

@@ -2,9 +2,11 @@
 ghost use Rattle.std.specs.Prelude.{◌≡◌, ◌<◌, ◌++◌, OnOk};
 ghost use Rattle.std.specs.List.{flat_map};
 ghost use Rattle.std.specs.Fmt.{decimal, signed_decimal};
-ghost use Rattle.cfg_program.specs.Lines.{shown_text, three_digits as three_digits_of, nine_digits as nine_digits_of, shown_expiry, name_of_question, name_of_request, kind as kind_of, later_kind, kinds as kinds_of, shown_credentials, shown_outcome, shown, shown_why, is_assume_role as is_assume_role_of, exchanges as exchanges_of, shown_generated, shown_as};
+ghost use Rattle.cfg_error_report.specs.CredentialsCauses.{causes_of};
+ghost use Rattle.cfg_program.specs.CauseLines.{with_below};
+ghost use Rattle.cfg_program.specs.Lines.{shown_text, three_digits as three_digits_of, nine_digits as nine_digits_of, shown_expiry, name_of_question, name_of_request, kind as kind_of, later_kind, kinds as kinds_of, shown_credentials, shown_outcome, shown, is_assume_role as is_assume_role_of, exchanges as exchanges_of, shown_generated, shown_as};
 
-use crate::causes::write_causes;
+use crate::causes::{Below, write_causes};
 use cfg_types::{Credentials, CredentialsError, Instant, OutOfMemory, Request};
 use cfg_world::{Answer, Entry, Question};
 use percent_encoding::{AsciiSet, CONTROLS, ascii_set, percent_encode};
@@ -17,12 +19,10 @@ pub const ESCAPED: AsciiSet = ascii_set!(CONTROLS.add(b' ').add(b'%'));
 /// The form of a call's line.
 #[derive(Clone, Copy, Debug, PartialEq, Eq)]
 pub enum LineForm {
-    /// What the call came to, and the questions that it asked.
-    Call,
-    /// The same, and below the line of an error what the error comes of.
-    Why,
+    /// What the call came to, and the questions that it asked, with this below the line of an error.
+    Call(Below),
     /// This number of profiles, how many roles were asked for, and the id of the last key. An error has the
-    /// line of `Call`.
+    /// line of `Call`, and nothing below it.
     Generated(u64),
 }
 
@@ -37,8 +37,7 @@ pub fn write_call(
     ensures { OnOk result (line.new.items ≡ line.old.items ++ shown_as form outcome.now journal.now) }
 {
     match form {
-        LineForm::Call => write_asked(line, outcome, journal)?,
-        LineForm::Why => write_why(line, outcome, journal)?,
+        LineForm::Call(below) => write_with_below(line, below, outcome, journal)?,
         LineForm::Generated(n) => match outcome {
             Ok(credentials) => write_generated(line, n, credentials, journal)?,
             Err(_) => write_asked(line, outcome, journal)?,
@@ -47,18 +46,19 @@ pub fn write_call(
     Ok(())
 }
 
-// The line, and below it what an error comes of.
-fn write_why(
+// The line, and what stands below it.
+fn write_with_below(
     line: &mut Vec<u8>,
+    below: Below,
     outcome: &Result<Credentials, CredentialsError>,
     journal: &[Entry],
 ) -> Result<(), OutOfMemory>
-    ensures { OnOk result (line.new.items ≡ line.old.items ++ shown_why outcome.now journal.now) }
+    ensures { OnOk result (line.new.items ≡ line.old.items ++ with_below causes_of below outcome.now (shown outcome.now journal.now)) }
 {
     write_asked(line, outcome, journal)?;
-    match outcome {
-        Ok(_) => Ok(()),
-        Err(error) => write_causes(line, error),
+    match (below, outcome) {
+        (Below::Causes, Err(error)) => write_causes(line, error),
+        _ => Ok(()),
     }
 }
 

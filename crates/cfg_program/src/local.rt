@@ -5,6 +5,7 @@ ghost use Rattle.cfg_chain.specs.Settings.{with_sources};
 ghost use Rattle.cfg_chain.specs.Views.{named_sources, chain_of};
 ghost use Rattle.cfg_program.specs.Local.{local_configuration, GrowsByCall, StopsInCall};
 
+use crate::causes::Below;
 use crate::lines::LineForm;
 use crate::outcome::{Answered, tell};
 use crate::resolve::chain_over;
@@ -52,7 +53,7 @@ fn call<D: Devices>(
     let mut lines = Vec::new(alloc);
     let is_ok = tell(
         &mut lines,
-        LineForm::Call,
+        LineForm::Call(Below::Nothing),
         &outcome.answer,
         &world.journal()[before..],
     )?;

@@ -1,7 +1,8 @@
 //! The calls that a script describes.
-ghost use Rattle.std.specs.Prelude.{◌≡◌, IfOk};
+ghost use Rattle.std.specs.Prelude.{◌≡◌, IfOk, IfSome};
 ghost use Rattle.cfg_world.specs.Script.{AllFit};
-ghost use Rattle.cfg_kept.specs.KeptStates.{states_of, kept_key};
+ghost use Rattle.cfg_kept.specs.KeptStates.{states_of, kept_key, kept_token};
+ghost use Rattle.cfg_kept.specs.KeyedStates.{HasNoRecords};
 ghost use Rattle.cfg_chain.specs.Settings.{with_sources};
 ghost use Rattle.cfg_chain.specs.Views.{named_sources, chain_of};
 ghost use Rattle.cfg_chain.specs.profile.Plans.{key_of};
@@ -104,7 +105,7 @@ fn calls(
 }
 
 // One call more, and its line behind the others: whether it gave credentials. The journal of the call
-// before it is gone.
+// before it is gone, and so are the records of the loads that it made.
 fn call(
     chain: &DefaultCredentialsChain,
     form: LineForm,
@@ -116,12 +117,14 @@ fn call(
     ensures call { IfOk result (λ is_ok. MakesCall (chain_of value repeated chain.now) form (states_of kept.old) (states_of kept.new)
         world.old.devices world.new.devices is_ok lines.old.items lines.new.items) }
     ensures key { kept_key kept.new ≡ kept_key kept.old }
+    ensures records { IfSome (kept_token kept.new) HasNoRecords }
 {
-    // A line tells of its own call alone, and memory for the entries of one call is enough.
+    // A line tells of its own call alone, and memory for the entries and the loads of one call is enough.
     world.clear_journal();
     let outcome = Outcome {
         answer: chain.provide_credentials(kept, world),
     };
+    kept.trim();
     let is_ok = tell(lines, form, &outcome.answer, world.journal())?;
     Ok(is_ok)
 }

@@ -18,6 +18,7 @@ ghost use Rattle.cfg_program.specs.Run.{EndsRun, EndsReading, EndsUnread, EndsLo
 ghost use Rattle.cfg_program.specs.Exclusion.{comes};
 ghost use Rattle.cfg_program.specs.Generated.{GeneratedWritten};
 
+use crate::causes::Below;
 use crate::commands::{Command, HELP, VERSION, command_of};
 use crate::generated::generate;
 use crate::input::{InputError, read_all};
@@ -70,10 +71,11 @@ pub fn run<S: Source, K: Sink, D: Devices>(
         None => Status::UnknownCommand,
         Some(Command::Help) => tell(sink, HELP),
         Some(Command::Version) => tell(sink, VERSION),
-        Some(Command::Resolve) => resolve_script(alloc, source, sink, custom, LineForm::Call),
-        Some(Command::Why) => resolve_script(alloc, source, sink, custom, LineForm::Why),
+        Some(Command::Resolve(below)) => {
+            resolve_script(alloc, source, sink, custom, LineForm::Call(below))
+        }
         Some(Command::Region) => region_line(alloc, source, sink),
-        Some(Command::Token) => token_line(alloc, source, sink),
+        Some(Command::Token(below)) => token_line(alloc, source, sink, below),
         Some(Command::Local) => local_line(alloc, sink, env, world, custom),
         Some(Command::Generate(n)) => generate_line(alloc, n, sink),
     }
@@ -124,13 +126,19 @@ fn region_line<S: Source, K: Sink>(alloc: Global, source: &mut S, sink: &mut K) 
     }
 }
 
-// Reads a script of one call, makes the call of its default token chain, and writes its line.
-fn token_line<S: Source, K: Sink>(alloc: Global, source: &mut S, sink: &mut K) -> Status
+// Reads a script of one call, makes the call of its default token chain, and writes its line, with this below that
+// of an error.
+fn token_line<S: Source, K: Sink>(
+    alloc: Global,
+    source: &mut S,
+    sink: &mut K,
+    below: Below,
+) -> Status
     ensures { EndsReading (source_seen ⟦<S as Source>⟧ source.old source.new) (sink_seen ⟦<K as Sink>⟧ sink.old sink.new)
-        script_of_one_call TokenAnswers result }
+        script_of_one_call (TokenAnswers below) result }
 {
     match one_call_in(alloc, source) {
-        Ok(script) => match find_token(alloc, script) {
+        Ok(script) => match find_token(alloc, script, below) {
             Ok(answered) => write_lines(sink, &answered),
             Err(OutOfMemory) => Status::OutOfMemory,
         },

@@ -6,8 +6,9 @@ ghost use Rattle.cfg_script.specs.Script.{plain};
 ghost use Rattle.cfg_script.specs.Devices.{lists_of};
 ghost use Rattle.cfg_sso.specs.BearerTokens.{is_memory};
 ghost use Rattle.cfg_program.specs.Calls.{in_region, IsFresh};
-ghost use Rattle.cfg_program.specs.Tokens.{shown_bearer, shown_token, TellsToken, TokenAnswers};
+ghost use Rattle.cfg_program.specs.Tokens.{shown_bearer, shown_token, shown_token_as, TellsToken, TokenAnswers};
 
+use crate::causes::{Below, write_token_causes};
 use crate::configuration::{configuration, region_named};
 use crate::lines::{write_expiry, write_kinds, write_word};
 use crate::outcome::Answered;
@@ -20,11 +21,11 @@ use cfg_world::{Devices, Entry, ScriptDevices, World};
 use std::alloc::{AllocError, Global};
 
 /// Makes the call of the default token chain over what the script configures, and over the devices with
-/// the script's answers. Nothing is kept before it. The script's region is the chain's. `OutOfMemory` where memory
-/// runs out.
-pub fn find_token(alloc: Global, script: Script) -> Result<Answered, OutOfMemory>
+/// the script's answers. Nothing is kept before it. The script's region is the chain's. Below the line of an error
+/// stands this. `OutOfMemory` where memory runs out.
+pub fn find_token(alloc: Global, script: Script, below: Below) -> Result<Answered, OutOfMemory>
     requires { AllFit (lists_of (plain script)) }
-    ensures { IfOk result (λ a. TokenAnswers (plain script) a.is_ok a.lines.items) }
+    ensures { IfOk result (λ a. TokenAnswers below (plain script) a.is_ok a.lines.items) }
 {
     let Script {
         variables,
@@ -40,7 +41,7 @@ pub fn find_token(alloc: Global, script: Script) -> Result<Answered, OutOfMemory
     let devices = ScriptDevices::new(alloc, devices)?;
     let mut world = World::new(alloc, devices);
     let chain = token_chain(alloc, config, region, &mut world)?;
-    ask_token(alloc, &chain, &mut world)
+    ask_token(alloc, &chain, below, &mut world)
 }
 
 // The default chain with this region, or none, in place of the configuration's. Nothing is asked.
@@ -57,40 +58,58 @@ fn token_chain<D: Devices>(
     builder.region(RegionSource::Fixed(region)).build(world)
 }
 
-// The chain's token, and its line.
+// The chain's token, and its line, with what stands below it.
 fn ask_token(
     alloc: Global,
     chain: &DefaultTokenChain,
+    below: Below,
     world: &mut World<ScriptDevices>,
 ) -> Result<Answered, OutOfMemory>
     requires { IsFresh world.old }
-    ensures { IfOk result (λ a. TellsToken chain.now world.old.devices.lists a.is_ok a.lines.items) }
+    ensures { IfOk result (λ a. TellsToken below chain.now world.old.devices.lists a.is_ok a.lines.items) }
 {
     let mut kept = chain.new_kept()?;
     let outcome = Outcome {
         answer: chain.provide_token(&mut kept, world),
     };
     let mut lines = Vec::new(alloc);
-    let is_ok = tell(&mut lines, &outcome.answer, world.journal())?;
+    let is_ok = tell(&mut lines, below, &outcome.answer, world.journal())?;
     Ok(Answered { is_ok, lines })
 }
 
-// Writes the call's line, and tells whether it gave a token. `OutOfMemory` where memory runs out, also where that is
-// what the call answered.
+// Writes the call's line, with what stands below it, and tells whether it gave a token. `OutOfMemory` where memory
+// runs out, also where that is what the call answered.
 fn tell(
     lines: &mut Vec<u8>,
+    below: Below,
     outcome: &Result<Token, TokenError>,
     journal: &[Entry],
 ) -> Result<bool, OutOfMemory>
     ensures memory { IfOk result (λ b. is_memory outcome.now ≡ false) }
     ensures token { IfOk result (λ b. b ≡ is_ok outcome.now) }
-    ensures line { IfOk result (λ b. lines.new.items ≡ lines.old.items ++ shown_token outcome.now journal.now) }
+    ensures line { IfOk result (λ b. lines.new.items ≡ lines.old.items ++ shown_token_as below outcome.now journal.now) }
 {
     if cfg_sso::is_memory(outcome) {
         return Err(OutOfMemory);
     }
-    write_token(lines, outcome, journal)?;
+    write_with_below(lines, below, outcome, journal)?;
     Ok(outcome.is_ok())
+}
+
+// The line, and what stands below it.
+fn write_with_below(
+    line: &mut Vec<u8>,
+    below: Below,
+    outcome: &Result<Token, TokenError>,
+    journal: &[Entry],
+) -> Result<(), OutOfMemory>
+    ensures { OnOk result (line.new.items ≡ line.old.items ++ shown_token_as below outcome.now journal.now) }
+{
+    write_token(line, outcome, journal)?;
+    match (below, outcome) {
+        (Below::Causes, Err(error)) => write_token_causes(line, error),
+        _ => Ok(()),
+    }
 }
 
 // What the call came to, and the kinds of the questions.

@@ -121,6 +121,11 @@ fn words(rt: HostRuntime) -> Result<(), Fail> {
             "Done token 3600.000000000 now,read,now\n",
         ),
         (
+            &["why-token"],
+            "{}",
+            "Refused error InvalidConfiguration -\n  invalid configuration\n  No profiles were defined\n    there are no profiles, or `default` is selected and is not there\n",
+        ),
+        (
             &["local"],
             "",
             "Done credentials =L =EnvironmentVariable none -\n",

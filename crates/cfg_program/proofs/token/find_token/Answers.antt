@@ -27,7 +27,7 @@ returns c =
     c.in_ok-chain.ensures.chain ∙ ap (λ (k : Configuration). record k { region = c.in_ok-region.region }) c.in_ok-config.ensures
     ∙ ap (λ r. record (configured (plain c.args.script)) { region = r }) c.in_ok-region.ensures in
     if_ok c.ask_token.result
-    (λ a t. subst (λ l. TellsToken (configuration_of (plain c.args.script)) l a.is_ok a.lines.items) lists
-    (tells_since (configuration_of (plain c.args.script)) world.devices c.token_chain.new.world.devices a.is_ok a.lines.items c.in_ok-chain.ensures.world.same
-    (subst (λ (k : Configuration). TellsToken k c.token_chain.new.world.devices.lists a.is_ok a.lines.items) conf t)))
+    (λ a t. subst (λ l. TellsToken c.args.below (configuration_of (plain c.args.script)) l a.is_ok a.lines.items) lists
+    (tells_since c.args.below (configuration_of (plain c.args.script)) world.devices c.token_chain.new.world.devices a.is_ok a.lines.items c.in_ok-chain.ensures.world.same
+    (subst (λ (k : Configuration). TellsToken c.args.below k c.token_chain.new.world.devices.lists a.is_ok a.lines.items) conf t)))
     c.ask_token.ensures
