@@ -3,6 +3,8 @@ pub mod StringSteps
 pub mod ListSteps
 pub mod Utf8
 pub mod PlainText
+pub mod Runs
+pub mod EscapeSteps
 pub mod Options
 pub mod WhiteSpaceLaws
 pub mod NumberLaws

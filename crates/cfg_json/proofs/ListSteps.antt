@@ -22,18 +22,11 @@ turn : (k : Bool) (value : List ℕ → Option Read) (n i : ℕ) (rest : List �
 unfolding items_at
 turn k value n i rest lt = let e : n - i ≡ suc (n - (i + 1)) = omega arith in rw e refl
 
-no_turn : (k : Bool) (value : List ℕ → Option Read) (n i : ℕ) (rest : List ℕ) (has : Bool) (total : Option Read) → i < n → turn_at k value rest ≡ None
+pub no_turn : (k : Bool) (value : List ℕ → Option Read) (n i : ℕ) (rest : List ℕ) (has : Bool) (total : Option Read) → i < n → turn_at k value rest ≡ None
     → or_front has (items_at k value (n - i) rest) ≡ total → total ≡ None
 no_turn k value n i rest has total lt h so_far =
     let none : items_at k value (n - i) rest ≡ None = turn k value n i rest lt ∙ rw h refl in
     sym so_far ∙ ap (or_front has) none
-
-pub items_fail : (k : Bool) (value : List ℕ → Option Read) (n i : ℕ) (rest : List ℕ) (has : Bool) (total : Option Read) (e : JsonError) → i < n → Fails e (turn_at k value rest)
-    → or_front has (items_at k value (n - i) rest) ≡ total → Fails e total
-items_fail k value n i rest has total e lt h so_far = elim h [
-  | inl m ↦ inl m
-  | inr p ↦ inr (p.0, no_turn k value n i rest has total lt p.1 so_far)
-]
 
 pub items_end : (k : Bool) (value : List ℕ → Option Read) (n i : ℕ) (rest next : List ℕ) (has b e : Bool) (total : Option Read) → i < n → turn_at k value rest ≡ Some (b, e, next) → e ≡ true
     → or_front has (items_at k value (n - i) rest) ≡ total → total ≡ Some (has || b, next)

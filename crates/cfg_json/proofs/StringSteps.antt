@@ -1,8 +1,9 @@
 -- Reading a string piece by piece, as the loops do.
-use Rattle.std.proofs.Common.{◌≡◌, ℕ, zero, suc, ◌+◌, ◌<◌, ◌≤◌, List, [], ◌∷◌, ◌++◌, length, drop, get_or, Bool, true, false, Option, Some, None, refl, sym, ap, ◌∙◌, append_assoc, add-one, arith, drop-cons}
-use Rattle.std.specs.Prelude.{◌==◌, ◌&&◌, not, option_map}
+use Rattle.std.proofs.Common.{◌≡◌, ℕ, zero, suc, ◌+◌, ◌<◌, ◌≤◌, List, [], ◌∷◌, ◌++◌, length, take, drop, get_or, Bool, true, false, Option, Some, None, refl, sym, ap, ◌∙◌, append_assoc, add-one, arith, drop-cons}
+use Rattle.std.specs.Prelude.{◌==◌, ◌&&◌, not, is_some, option_map}
 use Rattle.std.specs.Str.{IsUtf8, chars}
 use Rattle.std.specs.Char.{encode_utf8}
+use Rattle.std.proofs.lemmas.Bool.{true≢false}
 use Rattle.std.proofs.lemmas.List.{append-nil, nil_from_length, drop_all}
 use Rattle.std.proofs.lemmas.Str.{chars-append, chars-encodes}
 use lib.Utf8.{scalar}
@@ -10,7 +11,7 @@ use Rattle.cfg_base.specs.Text.{characters}
 use Rattle.cfg_base.proofs.TextLemmas.{characters-chars}
 use Rattle.cfg_json.specs.Ascii.{quotation_mark, backslash}
 use Rattle.cfg_json.specs.Reads.{◌>>=◌}
-use Rattle.cfg_json.specs.Reading.{piece_at, content_of, end_of}
+use Rattle.cfg_json.specs.Reading.{piece_at, content_of, end_of, utf8_of, text_of, string_at}
 
 -- the place so far, and what is left to find
 abbrev pub from_place : ℕ → Option ℕ → Option ℕ
@@ -50,9 +51,9 @@ no_end text i e total le so_far = let is : drop i text ≡ [] = drop_all i text 
 abbrev pub text_front : List ℕ → Option (List ℕ) → Option (List ℕ)
 text_front front read = read >>= λ s. Some (front ++ s)
 
-front_twice : (front : List ℕ) (c : ℕ) (read : Option (List ℕ)) → text_front front (read >>= λ s. Some (c ∷ s)) ≡ text_front (front ++ c ∷ []) read
-front_twice front c (Some s) = ap (λ (x : List ℕ). Some x) (simp append_assoc)
-front_twice front c None = refl
+front_twice : (a b : List ℕ) (read : Option (List ℕ)) → text_front (a ++ b) read ≡ text_front a (read >>= λ s. Some (b ++ s))
+front_twice a b (Some s) = ap (λ (x : List ℕ). Some x) (append_assoc a b s)
+front_twice a b None = refl
 
 pub skips : (k : ℕ) (t : List ℕ) → content_of k t ≡ content_of 0 (drop k t)
 unfolding content_of
@@ -70,23 +71,50 @@ pushed bytes c u ok =
     let one : chars (encode_utf8 c) ≡ c ∷ [] = ap chars (sym (append-nil (encode_utf8 c))) ∙ chars-encodes (c ∷ []) (rw ok refl) in
     characters-chars (bytes ++ encode_utf8 c) ∙ chars-append bytes (encode_utf8 c) u ∙ ap (λ (s : List ℕ). chars bytes ++ s) one ∙ ap (λ (s : List ℕ). s ++ c ∷ []) (sym (characters-chars bytes))
 
-pub content_further : (bytes after : List ℕ) (rest : List ℕ) (x : ℕ) (t : List ℕ) (c n : ℕ) (total : Option (List ℕ)) → IsUtf8 bytes → scalar c ≡ true → after ≡ bytes ++ encode_utf8 c
-    → rest ≡ x ∷ t → piece_at rest ≡ Some (c, n) → text_front (characters bytes) (content_of 0 rest) ≡ total → text_front (characters after) (content_of 0 (drop n t)) ≡ total
-content_further bytes after rest x t c n total u ok is cut p so_far =
-    ap (λ (s : List ℕ). text_front (characters s) (content_of 0 (drop n t))) is
-    ∙ ap (λ (s : List ℕ). text_front s (content_of 0 (drop n t))) (pushed bytes c u ok)
-    ∙ sym (front_twice (characters bytes) c (content_of 0 (drop n t)))
-    ∙ sym (ap (text_front (characters bytes)) (one_piece x c n t (sym (ap piece_at cut) ∙ p)))
-    ∙ sym (ap (λ (r : List ℕ). text_front (characters bytes) (content_of 0 r)) cut) ∙ so_far
+-- What was read of the rest is what was appended, and then what is read behind it.
+pub run_further : (bytes run after : List ℕ) (rest behind total : Option (List ℕ)) → IsUtf8 bytes → after ≡ bytes ++ run → rest ≡ (behind >>= λ s. Some (characters run ++ s))
+    → text_front (characters bytes) rest ≡ total → text_front (characters after) behind ≡ total
+run_further bytes run after rest behind total u is more so_far =
+    let parts : characters after ≡ characters bytes ++ characters run =
+    ap characters is ∙ characters-chars (bytes ++ run) ∙ chars-append bytes run u ∙ (λ i. sym (characters-chars bytes) i ++ sym (characters-chars run) i) in
+    ap (λ (s : List ℕ). text_front s behind) parts ∙ front_twice (characters bytes) (characters run) behind ∙ sym (ap (text_front (characters bytes)) more) ∙ so_far
 
-pub content_ends : (front rest : List ℕ) (total : Option (List ℕ)) → length rest ≡ 0 → text_front front (content_of 0 rest) ≡ total → total ≡ Some front
-unfolding content_of
-content_ends front rest total e so_far =
-    sym so_far ∙ ap (λ (r : List ℕ). text_front front (content_of 0 r)) (nil_from_length rest e) ∙ ap (λ (s : List ℕ). Some s) (append-nil front)
+pub character_further : (bytes after : List ℕ) (c : ℕ) (rest behind total : Option (List ℕ)) → IsUtf8 bytes → scalar c ≡ true → after ≡ bytes ++ encode_utf8 c → rest ≡ (behind >>= λ s. Some (c ∷ s))
+    → text_front (characters bytes) rest ≡ total → text_front (characters after) behind ≡ total
+character_further bytes after c rest behind total u ok is more so_far =
+    ap (λ (s : List ℕ). text_front s behind) (ap characters is ∙ pushed bytes c u ok) ∙ front_twice (characters bytes) (c ∷ []) behind ∙ sym (ap (text_front (characters bytes)) more) ∙ so_far
 
-pub content_fails : (front rest : List ℕ) (x : ℕ) (t : List ℕ) (total : Option (List ℕ)) → rest ≡ x ∷ t → piece_at rest ≡ None → text_front front (content_of 0 rest) ≡ total → total ≡ None
+none_left : (rest : List ℕ) → length rest ≡ 0 → content_of 0 (characters rest) ≡ Some []
 unfolding content_of
-content_fails front rest x t total cut p so_far =
-    let none : piece_at (x ∷ t) ≡ None = sym (ap piece_at cut) ∙ p in
-    let stops : content_of 0 (x ∷ t) ≡ None = rw none refl in
-    sym so_far ∙ ap (λ (r : List ℕ). text_front front (content_of 0 r)) cut ∙ ap (text_front front) stops
+none_left rest e = ap (λ (r : List ℕ). content_of 0 (characters r)) (nil_from_length rest e)
+
+pub content_ends : (front rest : List ℕ) (total : Option (List ℕ)) → length rest ≡ 0 → text_front front (content_of 0 (characters rest)) ≡ total → total ≡ Some front
+content_ends front rest total e so_far = sym so_far ∙ ap (text_front front) (none_left rest e) ∙ ap (λ (s : List ℕ). Some s) (append-nil front)
+
+pub content_fails : (front : List ℕ) (rest total : Option (List ℕ)) → rest ≡ None → text_front front rest ≡ total → total ≡ None
+content_fails front rest total none so_far = sym so_far ∙ ap (text_front front) none
+
+-- There is something to read of the rest where there is behind its front.
+pub is_further : (f : List ℕ → List ℕ) (rest behind : Option (List ℕ)) → rest ≡ (behind >>= λ s. Some (f s)) → is_some behind ≡ is_some rest
+is_further f rest behind is = by_read behind ∙ sym (ap is_some is) where
+  by_read : (o : Option (List ℕ)) → is_some o ≡ is_some (o >>= λ s. Some (f s))
+  by_read (Some s) = refl
+  by_read None = refl
+
+pub is_ended : (rest : List ℕ) → length rest ≡ 0 → is_some (content_of 0 (characters rest)) ≡ true
+is_ended rest e = ap is_some (none_left rest e)
+
+some_content : (o : Option (List ℕ)) → is_some o ≡ true → (s : List ℕ) × (o ≡ Some s)
+some_content (Some s) e = (s, refl)
+some_content None e = absurd (true≢false (sym e))
+
+-- a string that is passed over, whose content is one
+pub string_skipped : (t : List ℕ) (n : ℕ) (bytes text rest : List ℕ) → Some n ≡ end_of false t → bytes ≡ take n t → Some text ≡ utf8_of bytes → is_some (content_of 0 (characters text)) ≡ true → rest ≡ drop (n + 1) t
+    → (s : List ℕ) × (string_at t ≡ Some (s, rest))
+unfolding string_at text_of
+string_skipped t n bytes text rest ends front valid some left =
+    let p = some_content (content_of 0 (characters text)) some in
+    let is : text_of (take n t) ≡ Some p.0 = ap text_of (sym front) ∙ ap (λ (o : Option (List ℕ)). o >>= λ b. content_of 0 (characters b)) (sym valid) ∙ p.1 in (
+      p.0,
+      ap (λ (o : Option ℕ). o >>= λ n. text_of (take n t) >>= λ s. Some (s, drop (n + 1) t)) (sym ends) ∙ ap (λ (o : Option (List ℕ)). o >>= λ s. Some (s, drop (n + 1) t)) is ∙ ap (λ (r : List ℕ). Some (p.0, r)) (sym left),
+    )

@@ -7,6 +7,8 @@ pub mod Numbers
 pub mod Values
 pub mod Objects
 pub mod Places
+pub mod Texts
+pub mod Scans
 pub mod Reading
 pub mod ReadingValues
 pub mod ReadingObjects

@@ -8,9 +8,9 @@ use crate::dates::reading::parse_date;
 use crate::lookup::last_text;
 use crate::member::{Member, Members};
 use crate::reading::only_members;
+use crate::text::JsonText;
 use cfg_types::{
     Field, FieldFault, Instant, InvalidJsonCredentials, JsonError, OutOfMemory, ShownAccount, Text,
-    TryCopy,
 };
 use std::alloc::Global;
 use std::fmt;
@@ -75,7 +75,10 @@ pub fn is_memory<T>(said: &Result<T, InvalidJsonCredentials>) -> bool
 /// - `JsonError(NotObject)`, `JsonError(Syntax)`: as [`only_members`] says.
 /// - `Other`: more than white space follows the object.
 /// - `OutOfMemory`: memory runs out.
-pub fn document_members(alloc: Global, bytes: &[u8]) -> Result<Members, InvalidJsonCredentials>
+pub fn document_members<'t>(
+    alloc: Global,
+    bytes: &'t [u8],
+) -> Result<Members<'t>, InvalidJsonCredentials>
     ensures { ReadsDocument bytes.now result }
 {
     match only_members(alloc, bytes) {
@@ -85,7 +88,11 @@ pub fn document_members(alloc: Global, bytes: &[u8]) -> Result<Members, InvalidJ
 }
 
 /// The last text of a field, or of another one, where one is there.
-pub fn find_text<'a>(members: &'a [Member], field: Field, other: Field) -> Option<&'a Text>
+pub fn find_text<'a, 't>(
+    members: &'a [Member<'t>],
+    field: Field,
+    other: Field,
+) -> Option<&'a JsonText<'t>>
     ensures { option_map (λ t. t.now) result ≡ field_text members.now field other }
 {
     last_text(members, field.as_str(), other.as_str())
@@ -93,11 +100,11 @@ pub fn find_text<'a>(members: &'a [Member], field: Field, other: Field) -> Optio
 
 /// The last text of a field, or of another one, one of which has to be there. `MissingField` of the first
 /// where neither is.
-pub fn required<'a>(
-    members: &'a [Member],
+pub fn required<'a, 't>(
+    members: &'a [Member<'t>],
     field: Field,
     other: Field,
-) -> Result<&'a Text, InvalidJsonCredentials>
+) -> Result<&'a JsonText<'t>, InvalidJsonCredentials>
     ensures { IsSaid (λ t. t.now) (required_text field (field_text members.now field other)) result }
 {
     match find_text(members, field, other) {
@@ -139,9 +146,9 @@ pub fn dated(moment: Option<Instant>) -> Result<Instant, InvalidJsonCredentials>
 fn with_keys(
     alloc: Global,
     members: &[Member],
-    id: &Text,
-    secret: &Text,
-    token: &Text,
+    id: &JsonText,
+    secret: &JsonText,
+    token: &JsonText,
     expiration: Instant,
 ) -> Result<JsonCredentials, OutOfMemory>
     ensures { IfOk result (λ d. d ≡ document.RefreshableCredentials id.now secret.now token.now (account_text members.now) expiration) }
@@ -183,7 +190,7 @@ fn message_of(alloc: Global, members: &[Member]) -> Result<Text, OutOfMemory>
 fn refused(
     alloc: Global,
     members: &[Member],
-    code: &Text,
+    code: &JsonText,
 ) -> Result<JsonCredentials, InvalidJsonCredentials>
     ensures { UnlessMemory result (Ok (refused_of members.now code.now)) }
 {

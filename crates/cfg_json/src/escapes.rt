@@ -1,34 +1,34 @@
-//! What one character of a string is spelled by (RFC 8259, section 7).
+//! Escapes (RFC 8259, section 7). Each is spelled in ASCII.
 ghost use Rattle.std.specs.Prelude.{◌≡◌, ◌<◌, ◌+◌, ◌≤◌, length, IfSome};
 ghost use Rattle.cfg_json.specs.Characters.{short_escape, code_unit, hex_digit};
-ghost use Rattle.cfg_json.specs.Reading.{hex_at, low_at, unit_at, escape_at, piece_at};
+ghost use Rattle.cfg_json.specs.Reading.{hex_at, low_at, unit_at, escape_at};
 
 #[tactic(auto, unfolding(crate::specs::Characters::short_escape))]
-fn short_character(x: char) -> Option<char>
+fn short_character(x: u8) -> Option<char>
     ensures { result ≡ short_escape x }
 {
     match x {
-        '"' => Some('"'),
-        '\\' => Some('\\'),
-        '/' => Some('/'),
-        'b' => Some('\u{8}'),
-        'f' => Some('\u{c}'),
-        'n' => Some('\n'),
-        'r' => Some('\r'),
-        't' => Some('\t'),
+        b'"' => Some('"'),
+        b'\\' => Some('\\'),
+        b'/' => Some('/'),
+        b'b' => Some('\u{8}'),
+        b'f' => Some('\u{c}'),
+        b'n' => Some('\n'),
+        b'r' => Some('\r'),
+        b't' => Some('\t'),
         _ => None,
     }
 }
 
-fn hex_value(c: char) -> Option<u32>
+fn hex_value(c: u8) -> Option<u32>
     ensures value { result ≡ hex_digit c }
     ensures small { IfSome result (λ d. d < 16) }
 {
-    c.to_digit(16)
+    (c as char).to_digit(16)
 }
 
 #[tactic(auto, unfolding(crate::specs::Characters::code_unit))]
-fn four_digits(a: char, b: char, c: char, d: char) -> Option<u32>
+fn four_digits(a: u8, b: u8, c: u8, d: u8) -> Option<u32>
     ensures value { result ≡ code_unit a b c d }
     ensures small { IfSome result (λ u. u < 65536) }
 {
@@ -40,7 +40,7 @@ fn four_digits(a: char, b: char, c: char, d: char) -> Option<u32>
 }
 
 #[tactic(auto, unfolding(crate::specs::Reading::hex_at))]
-fn code_unit_at(text: &[char]) -> Option<u32>
+fn code_unit_at(text: &[u8]) -> Option<u32>
     ensures value { result ≡ hex_at text.now }
     ensures small { IfSome result (λ u. u < 65536) }
     ensures within { IfSome result (λ _. 4 ≤ length text.now) }
@@ -52,7 +52,7 @@ fn code_unit_at(text: &[char]) -> Option<u32>
 }
 
 #[tactic(auto, unfolding(crate::specs::Reading::low_at))]
-fn low_surrogate_at(text: &[char]) -> Option<u32>
+fn low_surrogate_at(text: &[u8]) -> Option<u32>
     ensures value { result ≡ low_at text.now }
     ensures low { IfSome result (λ u. (0xdc00 ≤ u) × (u < 0xe000)) }
     ensures within { IfSome result (λ _. 6 ≤ length text.now) }
@@ -60,7 +60,7 @@ fn low_surrogate_at(text: &[char]) -> Option<u32>
     let [x, y, rest @ ..] = text else {
         return None;
     };
-    if *x != '\\' || *y != 'u' {
+    if *x != b'\\' || *y != b'u' {
         return None;
     }
     let u = code_unit_at(rest)?;
@@ -72,7 +72,7 @@ fn low_surrogate_at(text: &[char]) -> Option<u32>
 }
 
 #[tactic(auto, unfolding(crate::specs::Reading::unit_at))]
-fn unicode_escape(text: &[char]) -> Option<(char, usize)>
+fn unicode_escape(text: &[u8]) -> Option<(char, usize)>
     ensures value { result ≡ unit_at text.now }
     ensures within { IfSome result (λ p. p.1 < length text.now + 2) }
 {
@@ -89,37 +89,19 @@ fn unicode_escape(text: &[char]) -> Option<(char, usize)>
     Some((c, 5))
 }
 
+/// The character that an escape stands for whose backslash was read, and how many bytes spell it. None where
+/// there is no such escape.
 #[tactic(auto, unfolding(crate::specs::Reading::escape_at))]
-fn escape(text: &[char]) -> Option<(char, usize)>
+pub fn escape(text: &[u8]) -> Option<(char, usize)>
     ensures value { result ≡ escape_at text.now }
     ensures within { IfSome result (λ p. p.1 < length text.now + 1) }
 {
     let [x, rest @ ..] = text else {
         return None;
     };
-    if *x == 'u' {
+    if *x == b'u' {
         return unicode_escape(rest);
     }
     let c = short_character(*x)?;
     Some((c, 1))
-}
-
-/// The character that is spelled at the front, and how many characters spell it beside the first. None
-/// where no character of a string is spelled there.
-#[tactic(auto, unfolding(crate::specs::Reading::piece_at))]
-pub fn piece(text: &[char]) -> Option<(char, usize)>
-    ensures value { result ≡ piece_at text.now }
-    ensures within { IfSome result (λ p. p.1 < length text.now) }
-{
-    let [x, rest @ ..] = text else {
-        return None;
-    };
-    if *x == '\\' {
-        return escape(rest);
-    }
-    if ' ' <= *x && *x != '"' && *x != '\\' {
-        Some((*x, 0))
-    } else {
-        None
-    }
 }

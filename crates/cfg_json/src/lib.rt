@@ -14,7 +14,9 @@ mod numbers;
 mod objects;
 mod process;
 mod reading;
+mod scan;
 mod strings;
+mod text;
 mod white_space;
 mod writer;
 
@@ -26,4 +28,5 @@ pub use member::{Member, MemberValue, Members};
 pub use process::parse_credential_process_json_credentials;
 pub use reading::{members, only_members};
 pub use strings::utf8_text;
+pub use text::JsonText;
 pub use writer::ObjectWriter;

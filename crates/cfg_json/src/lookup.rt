@@ -3,7 +3,7 @@ ghost use Rattle.std.specs.Prelude.{◌≡◌, option_map};
 ghost use Rattle.cfg_json.specs.Lookups.{is_named, text_under, number_under, last_text as last_text_of, last_number as last_number_of};
 
 use crate::member::{Member, MemberValue};
-use cfg_types::Text;
+use crate::text::JsonText;
 
 fn has_name(member: &Member, name: &str, other: &str) -> bool
     ensures { result ≡ is_named name.now other.now member.now.key }
@@ -12,7 +12,7 @@ fn has_name(member: &Member, name: &str, other: &str) -> bool
     key.eq_ignore_ascii_case(name) || key.eq_ignore_ascii_case(other)
 }
 
-fn text_of<'a>(member: &'a Member, name: &str, other: &str) -> Option<&'a Text>
+fn text_of<'a, 't>(member: &'a Member<'t>, name: &str, other: &str) -> Option<&'a JsonText<'t>>
     ensures { option_map (λ t. t.now) result ≡ text_under name.now other.now member.now }
 {
     if !has_name(member, name, other) {
@@ -24,7 +24,7 @@ fn text_of<'a>(member: &'a Member, name: &str, other: &str) -> Option<&'a Text>
     }
 }
 
-fn number_of<'a>(member: &'a Member, name: &str) -> Option<&'a Text>
+fn number_of<'a, 't>(member: &'a Member<'t>, name: &str) -> Option<&'a JsonText<'t>>
     ensures { option_map (λ t. t.now) result ≡ number_under name.now member.now }
 {
     if !has_name(member, name, name) {
@@ -38,7 +38,11 @@ fn number_of<'a>(member: &'a Member, name: &str) -> Option<&'a Text>
 
 /// The last text under a name, or under another one, without regard to the case of ASCII letters.
 /// Members of another kind change nothing.
-pub fn last_text<'a>(members: &'a [Member], name: &str, other: &str) -> Option<&'a Text>
+pub fn last_text<'a, 't>(
+    members: &'a [Member<'t>],
+    name: &str,
+    other: &str,
+) -> Option<&'a JsonText<'t>>
     ensures { option_map (λ t. t.now) result ≡ last_text_of name.now other.now members.now }
 {
     let mut found = None;
@@ -51,7 +55,7 @@ pub fn last_text<'a>(members: &'a [Member], name: &str, other: &str) -> Option<&
 
 /// The last number under a name, as it is written, without regard to the case of ASCII letters. Members of
 /// another kind change nothing.
-pub fn last_number<'a>(members: &'a [Member], name: &str) -> Option<&'a Text>
+pub fn last_number<'a, 't>(members: &'a [Member<'t>], name: &str) -> Option<&'a JsonText<'t>>
     ensures { option_map (λ t. t.now) result ≡ last_number_of name.now members.now }
 {
     let mut found = None;

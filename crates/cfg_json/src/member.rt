@@ -1,13 +1,14 @@
 //! Members of an object. Their values may be secrets, so no type here has a Debug text.
-use cfg_types::{Seq, Text};
+use crate::text::JsonText;
+use cfg_types::Seq;
 
 /// What a member of an object holds.
 #[derive(Drop)]
-pub enum MemberValue {
+pub enum MemberValue<'t> {
     /// A string, unescaped.
-    Text(Text),
+    Text(JsonText<'t>),
     /// A number, as it is written.
-    Number(Text),
+    Number(JsonText<'t>),
     /// An object, by the place of its opening brace and the place after its closing one. Places are counted
     /// in bytes, from the first one that was read.
     Object { from: usize, to: usize },
@@ -18,14 +19,14 @@ pub enum MemberValue {
 }
 
 /// A member of an object.
-pub struct Member {
+pub struct Member<'t> {
     /// Its key, unescaped.
-    pub key: Text,
+    pub key: JsonText<'t>,
     /// What it holds.
-    pub value: MemberValue,
+    pub value: MemberValue<'t>,
 }
 
-impl Drop for Member {
+impl<'t> Drop for Member<'t> {
     fn drop(self) {
         let Member { key: _, value: _ } = self;
     }
@@ -34,9 +35,9 @@ impl Drop for Member {
 /// The members of an object in their order, repeats kept, and how many bytes the object takes with
 /// what stands before it.
 #[derive(Drop)]
-pub struct Members {
+pub struct Members<'t> {
     /// The members.
-    pub list: Seq<Member>,
+    pub list: Seq<Member<'t>>,
     /// The place after the closing brace, in bytes.
     pub end: usize,
 }

@@ -1,5 +1,5 @@
 //! The members of the outer object (RFC 8259, section 4).
-ghost use Rattle.std.specs.Prelude.{◌≡◌, length};
+ghost use Rattle.std.specs.Prelude.{◌≡◌, length, option_map};
 ghost use Rattle.cfg_json.specs.Reads.{Reads};
 ghost use Rattle.cfg_json.specs.ReadingObjects.{text_from, number_value_at, text_value_at, nested_value_at, word_value_at, member_value_at, member_at, member_turn_at, members_at, object_at};
 
@@ -7,38 +7,42 @@ use crate::member::{Member, MemberValue};
 use crate::nesting::{read_key, skip_value};
 use crate::numbers::{skip_number, skip_word};
 use crate::strings::{read_string, utf8_text};
+use crate::text::JsonText;
 use crate::white_space::skip_white_space;
-use cfg_types::{JsonError, Text};
+use cfg_types::JsonError;
 use std::alloc::Global;
 
 /// How deep values nest inside the outer object: 128 levels in all, its own taken. Each level is a call, so that the
 /// depth of a text has to have an end.
 const INNER_DEPTH: u8 = 127;
 
+/// Room is made at once for a member of so many bytes each, so that a list seldom moves as it grows.
+const MEMBER_BYTES: usize = 32;
+
 #[tactic(auto, unfolding(crate::specs::ReadingObjects::text_from))]
-fn text_of_bytes(alloc: Global, bytes: &[u8]) -> Result<Text, JsonError>
-    ensures { Reads (λ t. t) result (text_from bytes.now) }
+fn text_of_bytes<'t>(bytes: &'t [u8]) -> Option<JsonText<'t>>
+    ensures { result ≡ text_from bytes.now }
 {
-    let Some(text) = utf8_text(bytes) else {
-        return Err(JsonError::Syntax);
-    };
-    Ok(Text::of(alloc, text)?)
+    let text = utf8_text(bytes)?;
+    Some(JsonText::of(text))
 }
 
 #[tactic(auto, unfolding(crate::specs::ReadingObjects::number_value_at))]
-fn read_number(alloc: Global, text: &[u8]) -> Result<(MemberValue, &[u8]), JsonError>
+fn read_number<'t>(text: &'t [u8]) -> Result<(MemberValue<'t>, &'t [u8]), JsonError>
     ensures { Reads (λ p. (p.0, p.1.now)) result (number_value_at text.now) }
 {
     let Some(rest) = skip_number(text) else {
         return Err(JsonError::Syntax);
     };
     let length = text.len().saturating_sub(rest.len());
-    let number = text_of_bytes(alloc, text.split_at(length).0)?;
+    let Some(number) = text_of_bytes(text.split_at(length).0) else {
+        return Err(JsonError::Syntax);
+    };
     Ok((MemberValue::Number(number), rest))
 }
 
 #[tactic(auto, unfolding(crate::specs::ReadingObjects::text_value_at))]
-fn read_text(alloc: Global, text: &[u8]) -> Result<(MemberValue, &[u8]), JsonError>
+fn read_text<'t>(alloc: Global, text: &'t [u8]) -> Result<(MemberValue<'t>, &'t [u8]), JsonError>
     ensures { Reads (λ p. (p.0, p.1.now)) result (text_value_at text.now) }
 {
     let (text, rest) = read_string(alloc, text)?;
@@ -46,15 +50,16 @@ fn read_text(alloc: Global, text: &[u8]) -> Result<(MemberValue, &[u8]), JsonErr
 }
 
 #[tactic(auto, unfolding(crate::specs::ReadingObjects::nested_value_at))]
-fn read_nested(
-    alloc: Global,
-    text: &[u8],
+fn read_nested<'t>(
+    text: &'t [u8],
     total: usize,
     keyed: bool,
-) -> Result<(MemberValue, &[u8]), JsonError>
+) -> Result<(MemberValue<'t>, &'t [u8]), JsonError>
     ensures { Reads (λ p. (p.0, p.1.now)) result (nested_value_at total keyed text.now) }
 {
-    let (has_object, rest) = skip_value(alloc, text, INNER_DEPTH)?;
+    let Some((has_object, rest)) = skip_value(text, INNER_DEPTH) else {
+        return Err(JsonError::Syntax);
+    };
     if keyed {
         let from = total.saturating_sub(text.len());
         let to = total.saturating_sub(rest.len());
@@ -65,7 +70,11 @@ fn read_nested(
 }
 
 #[tactic(auto, unfolding(crate::specs::ReadingObjects::member_value_at, crate::specs::ReadingObjects::word_value_at))]
-fn read_value(alloc: Global, text: &[u8], total: usize) -> Result<(MemberValue, &[u8]), JsonError>
+fn read_value<'t>(
+    alloc: Global,
+    text: &'t [u8],
+    total: usize,
+) -> Result<(MemberValue<'t>, &'t [u8]), JsonError>
     ensures { Reads (λ p. (p.0, p.1.now)) result (member_value_at total text.now) }
 {
     let Some((x, inside)) = text.split_first() else {
@@ -75,16 +84,20 @@ fn read_value(alloc: Global, text: &[u8], total: usize) -> Result<(MemberValue, 
         return read_text(alloc, inside);
     }
     if *x == b'{' || *x == b'[' {
-        return read_nested(alloc, text, total, *x == b'{');
+        return read_nested(text, total, *x == b'{');
     }
     if let Some(rest) = skip_word(text) {
         return Ok((MemberValue::Other, rest));
     }
-    read_number(alloc, text)
+    read_number(text)
 }
 
 #[tactic(auto, unfolding(crate::specs::ReadingObjects::member_at))]
-fn read_member(alloc: Global, text: &[u8], total: usize) -> Result<(Member, &[u8]), JsonError>
+fn read_member<'t>(
+    alloc: Global,
+    text: &'t [u8],
+    total: usize,
+) -> Result<(Member<'t>, &'t [u8]), JsonError>
     ensures { Reads (λ p. (p.0, p.1.now)) result (member_at total text.now) }
 {
     let (key, rest) = read_key(alloc, text)?;
@@ -93,7 +106,11 @@ fn read_member(alloc: Global, text: &[u8], total: usize) -> Result<(Member, &[u8
 }
 
 #[tactic(auto, unfolding(crate::specs::ReadingObjects::member_turn_at))]
-fn read_turn(alloc: Global, text: &[u8], total: usize) -> Result<(Member, bool, &[u8]), JsonError>
+fn read_turn<'t>(
+    alloc: Global,
+    text: &'t [u8],
+    total: usize,
+) -> Result<(Member<'t>, bool, &'t [u8]), JsonError>
     ensures { Reads (λ p. (p.0, p.1, p.2.now)) result (member_turn_at total text.now) }
 {
     let (member, after) = read_member(alloc, text, total)?;
@@ -109,10 +126,14 @@ fn read_turn(alloc: Global, text: &[u8], total: usize) -> Result<(Member, bool, 
     }
 }
 
-fn read_members(alloc: Global, text: &[u8], total: usize) -> Result<(Vec<Member>, &[u8]), JsonError>
+fn read_members<'t>(
+    alloc: Global,
+    text: &'t [u8],
+    total: usize,
+) -> Result<(Vec<Member<'t>>, &'t [u8]), JsonError>
     ensures { Reads (λ p. (p.0.items, p.1.now)) result (members_at total (length text.now) text.now) }
 {
-    let mut members = Vec::new(alloc);
+    let mut members = Vec::with_capacity(alloc, text.len() / MEMBER_BYTES + 1)?;
     let mut rest = text;
     for _ in 0..text.len() {
         let (member, ends, next) = match read_turn(alloc, rest, total) {
@@ -132,11 +153,11 @@ fn read_members(alloc: Global, text: &[u8], total: usize) -> Result<(Vec<Member>
 /// many bytes in total: the places of members that are objects are counted from the first of these.
 /// `Syntax` where there is no such object, `OutOfMemory` where memory runs out.
 #[tactic(auto, unfolding(crate::specs::ReadingObjects::object_at))]
-pub fn read_object(
+pub fn read_object<'t>(
     alloc: Global,
-    text: &[u8],
+    text: &'t [u8],
     total: usize,
-) -> Result<(Vec<Member>, &[u8]), JsonError>
+) -> Result<(Vec<Member<'t>>, &'t [u8]), JsonError>
     ensures { Reads (λ p. (p.0.items, p.1.now)) result (object_at total text.now) }
 {
     let Some((x, rest)) = skip_white_space(text).split_first() else {

@@ -10,9 +10,10 @@ use crate::credentials::{dated, document_members, find_text, optional, required}
 use crate::dates::reading::parse_offset_date;
 use crate::lookup::last_number;
 use crate::member::Member;
+use crate::text::JsonText;
 use cfg_types::{
     AccountId, Credentials, CredentialsBuilder, Field, FieldFault, Instant, InvalidJsonCredentials,
-    OutOfMemory, Text, TryCopy,
+    OutOfMemory, TryCopy,
 };
 use std::alloc::Global;
 
@@ -85,8 +86,8 @@ fn account_of(
 fn with_keys(
     alloc: Global,
     members: &[Member],
-    id: &Text,
-    secret: &Text,
+    id: &JsonText,
+    secret: &JsonText,
     end: Option<Instant>,
     profile: Option<&AccountId>,
 ) -> Result<Credentials, OutOfMemory>

@@ -12,7 +12,7 @@ use cfg_types::{JsonError, Seq};
 use std::alloc::Global;
 
 #[tactic(auto, using(crate::proofs::AnswerLaws::answers_from_reads), unfolding(crate::specs::ReadingObjects::object_answer))]
-fn read_front(alloc: Global, bytes: &[u8]) -> Result<(Vec<Member>, &[u8]), JsonError>
+fn read_front<'t>(alloc: Global, bytes: &'t [u8]) -> Result<(Vec<Member<'t>>, &'t [u8]), JsonError>
     ensures { Answers (λ p. (p.0.items, p.1.now)) result (object_answer bytes.now) }
 {
     let Some((x, inside)) = skip_white_space(bytes).split_first() else {
@@ -25,7 +25,7 @@ fn read_front(alloc: Global, bytes: &[u8]) -> Result<(Vec<Member>, &[u8]), JsonE
 }
 
 #[tactic(auto, unfolding(crate::specs::Answers::only_answer))]
-fn read_only(alloc: Global, bytes: &[u8]) -> Result<(Vec<Member>, &[u8]), JsonError>
+fn read_only<'t>(alloc: Global, bytes: &'t [u8]) -> Result<(Vec<Member<'t>>, &'t [u8]), JsonError>
     ensures { Answers (λ p. (p.0.items, p.1.now)) result (only_answer bytes.now) }
 {
     let (list, rest) = read_front(alloc, bytes)?;
@@ -36,7 +36,7 @@ fn read_only(alloc: Global, bytes: &[u8]) -> Result<(Vec<Member>, &[u8]), JsonEr
 }
 
 #[tactic(auto, unfolding(crate::specs::Answers::list_answer))]
-fn front_list(alloc: Global, bytes: &[u8]) -> Result<Members, JsonError>
+fn front_list<'t>(alloc: Global, bytes: &'t [u8]) -> Result<Members<'t>, JsonError>
     ensures { Answers member_list result (list_answer bytes.now) }
 {
     let (list, rest) = read_front(alloc, bytes)?;
@@ -47,7 +47,7 @@ fn front_list(alloc: Global, bytes: &[u8]) -> Result<Members, JsonError>
 }
 
 #[tactic(auto, unfolding(crate::specs::Answers::only_list_answer))]
-fn only_list(alloc: Global, bytes: &[u8]) -> Result<Members, JsonError>
+fn only_list<'t>(alloc: Global, bytes: &'t [u8]) -> Result<Members<'t>, JsonError>
     ensures { Answers member_list result (only_list_answer bytes.now) }
 {
     let (list, rest) = read_only(alloc, bytes)?;
@@ -66,7 +66,7 @@ fn only_list(alloc: Global, bytes: &[u8]) -> Result<Members, JsonError>
 /// - `NotObject`: the first byte that is no white space is not `{`, or there is none.
 /// - `Syntax`: it is `{`, and no prefix of the bytes is such an object behind white space.
 /// - `OutOfMemory`: memory runs out.
-pub fn members(alloc: Global, bytes: &[u8]) -> Result<Members, JsonError>
+pub fn members<'t>(alloc: Global, bytes: &'t [u8]) -> Result<Members<'t>, JsonError>
     ensures found { IfOk result (λ m. HasObject bytes.now m.list m.end) }
     ensures only { (list : List Member) (end : ℕ) → HasObject bytes.now list end → Answers member_list result (Ok (list, end)) }
 
@@ -85,7 +85,7 @@ pub fn members(alloc: Global, bytes: &[u8]) -> Result<Members, JsonError>
 /// # Errors
 ///
 /// Those of [`members`], and `More`: an object stands first, and more than white space follows.
-pub fn only_members(alloc: Global, bytes: &[u8]) -> Result<Members, JsonError>
+pub fn only_members<'t>(alloc: Global, bytes: &'t [u8]) -> Result<Members<'t>, JsonError>
     ensures found { IfOk result (λ m. HasObject bytes.now m.list m.end × OnlyWhiteSpaceFrom bytes.now m.end) }
     ensures only { (list : List Member) (end : ℕ) → HasObject bytes.now list end → OnlyWhiteSpaceFrom bytes.now end
         → Answers member_list result (Ok (list, end)) }

@@ -1,15 +1,18 @@
 //! Strings (RFC 8259, section 7).
-ghost use Rattle.std.specs.Prelude.{◌≡◌, ◌<◌, ◌++◌, ◌==◌, ◌&&◌, not, length, take, IfSome, IfOk, OnOk, true, false, Some, None, option_map, string_bytes};
-ghost use Rattle.std.specs.List.{list_all};
+ghost use Rattle.std.specs.Prelude.{◌≡◌, ◌<◌, ◌≤◌, ◌++◌, ◌∷◌, [], ◌==◌, ◌&&◌, not, length, take, IfSome, IfOk, OnOk, MatchOption, false, true, is_some, Some, None, option_map, string_bytes};
 ghost use Rattle.std.specs.Char.{encode_utf8};
+ghost use Rattle.std.specs.List.{list_all};
 ghost use lib.Utf8.{scalar};
 ghost use Rattle.cfg_base.specs.Text.{characters};
 ghost use Rattle.cfg_json.specs.Ascii.{quotation_mark, backslash};
 ghost use Rattle.cfg_json.specs.Reads.{Reads};
 ghost use Rattle.cfg_json.specs.Characters.{is_plain as is_plain_character};
 ghost use Rattle.cfg_json.specs.Reading.{end_of, plain_end as plain_end_of, content_of, utf8_of, text_of, string_at};
+ghost use Rattle.cfg_json.specs.Scans.{ReadsNothing, ReadsOn, StopsAt, SkipsString};
 
-use crate::escapes::piece;
+use crate::escapes::escape;
+use crate::scan::plain_run;
+use crate::text::JsonText;
 use cfg_types::{JsonError, OutOfMemory, Text};
 use std::alloc::{AllocError, Global};
 
@@ -40,12 +43,6 @@ fn string_end(text: &[u8]) -> Option<usize>
     None
 }
 
-fn is_plain(byte: u8) -> bool
-    ensures { result ≡ is_plain_character byte }
-{
-    byte >= b' ' && byte != b'"' && byte != b'\\'
-}
-
 /// The place of the quotation mark that ends the string, where no escape is before it.
 fn plain_end(text: &[u8]) -> Option<usize>
     ensures value { result ≡ plain_end_of text.now }
@@ -53,12 +50,12 @@ fn plain_end(text: &[u8]) -> Option<usize>
     ensures ends { IfSome result (λ n. Some n ≡ end_of false text.now) }
     ensures plain { IfSome result (λ n. list_all is_plain_character (take n text.now) ≡ true) }
 {
-    for (i, x) in text.iter().enumerate() {
-        if !is_plain(*x) {
-            return if *x == b'"' { Some(i) } else { None };
-        }
+    let end = plain_run(text);
+    if end < text.len() && text[end] == b'"' {
+        Some(end)
+    } else {
+        None
     }
-    None
 }
 
 /// Appends the character in UTF-8. `OutOfMemory` where memory runs out.
@@ -70,19 +67,65 @@ pub fn push_character(out: &mut String, c: char) -> Result<(), OutOfMemory>
     Ok(())
 }
 
-fn unescaped(alloc: Global, text: &[char]) -> Result<String, JsonError>
-    ensures { Reads (λ s. characters (string_bytes s)) result (content_of 0 text.now) }
+// What stands for itself at the front of a string's content, and what follows.
+fn split_plain(text: &str) -> (&str, &str)
+    ensures reads { ReadsOn text.now (characters result.0.now) result.1.now }
+    ensures stops { StopsAt result.1.now }
+    ensures within { length result.1.now ≤ length text.now }
 {
-    let mut out = String::new(alloc);
+    text.split_at(plain_run(text.as_bytes()))
+}
+
+// The character that the escape at the front stands for, and what follows it.
+fn read_escape(text: &str) -> Option<(char, &str)>
+    requires some { 0 < length text.now }
+    requires stops { StopsAt text.now }
+    ensures reads { MatchOption result (ReadsNothing text.now) (λ p. ReadsOn text.now (p.0 ∷ []) p.1.now) }
+    ensures shorter { IfSome result (λ p. length p.1.now < length text.now) }
+{
+    let (x, behind) = text.as_bytes().split_first()?;
+    if *x != b'\\' {
+        return None;
+    }
+    let (c, n) = escape(behind)?;
+    Some((c, text.split_at(n + 1).1))
+}
+
+fn unescaped(alloc: Global, text: &str) -> Result<String, JsonError>
+    ensures { Reads (λ s. characters (string_bytes s)) result (content_of 0 (characters text.now)) }
+{
+    // No content is longer than it is written.
+    let mut out = String::with_capacity(alloc, text.len())?;
     let mut rest = text;
-    while let Some((_, after)) = rest.split_first() {
-        let Some((c, n)) = piece(rest) else {
+    loop {
+        let (run, behind) = split_plain(rest);
+        out.push_str(run)?;
+        if behind.is_empty() {
+            return Ok(out);
+        }
+        let Some((c, after)) = read_escape(behind) else {
             return Err(JsonError::Syntax);
         };
         push_character(&mut out, c)?;
-        rest = after.split_at(n).1;
+        rest = after;
     }
-    Ok(out)
+}
+
+// Whether it is the content of a string.
+fn is_content(text: &str) -> bool
+    ensures { result ≡ is_some (content_of 0 (characters text.now)) }
+{
+    let mut rest = text;
+    loop {
+        let (_, behind) = split_plain(rest);
+        if behind.is_empty() {
+            return true;
+        }
+        let Some((_, after)) = read_escape(behind) else {
+            return false;
+        };
+        rest = after;
+    }
 }
 
 /// The characters of a text, in order. `AllocError` where memory runs out.
@@ -90,14 +133,6 @@ pub fn characters_of(alloc: Global, text: &str) -> Result<Vec<char>, AllocError>
     ensures { IfOk result (λ v. v.items ≡ characters text.now) }
 {
     text.chars().collect(alloc)
-}
-
-fn content(alloc: Global, text: &str) -> Result<Text, JsonError>
-    ensures { Reads (λ t. t) result (content_of 0 (characters text.now)) }
-{
-    let characters = characters_of(alloc, text)?;
-    let unescaped = unescaped(alloc, characters.as_slice())?;
-    Ok(Text::from_string(unescaped))
 }
 
 /// The bytes as a text, if they are UTF-8.
@@ -111,35 +146,34 @@ pub fn utf8_text(bytes: &[u8]) -> Option<&str>
 }
 
 #[tactic(auto, unfolding(crate::specs::Reading::text_of))]
-fn text_between(alloc: Global, bytes: &[u8]) -> Result<Text, JsonError>
+fn content<'t>(alloc: Global, bytes: &'t [u8]) -> Result<JsonText<'t>, JsonError>
     ensures { Reads (λ t. t) result (text_of bytes.now) }
 {
     let Some(text) = utf8_text(bytes) else {
         return Err(JsonError::Syntax);
     };
-    content(alloc, text)
+    let unescaped = unescaped(alloc, text)?;
+    Ok(JsonText::of_own(Text::from_string(unescaped)))
 }
 
 #[tactic(auto, unfolding(crate::specs::Reading::text_of))]
-fn plain_text(alloc: Global, bytes: &[u8]) -> Result<Text, JsonError>
+fn plain_text<'t>(bytes: &'t [u8]) -> Option<JsonText<'t>>
     requires { list_all is_plain_character bytes.now ≡ true }
-    ensures { Reads (λ t. t) result (text_of bytes.now) }
+    ensures { result ≡ text_of bytes.now }
 {
-    let Some(text) = utf8_text(bytes) else {
-        return Err(JsonError::Syntax);
-    };
-    Ok(Text::of(alloc, text)?)
+    let text = utf8_text(bytes)?;
+    Some(JsonText::of(text))
 }
 
 #[tactic(auto, unfolding(crate::specs::Reading::string_at))]
-fn read_escaped(alloc: Global, text: &[u8]) -> Result<(Text, &[u8]), JsonError>
+fn read_escaped<'t>(alloc: Global, text: &'t [u8]) -> Result<(JsonText<'t>, &'t [u8]), JsonError>
     ensures { Reads (λ x. (x.0, x.1.now)) result (string_at text.now) }
 {
     let Some(end) = string_end(text) else {
         return Err(JsonError::Syntax);
     };
-    let text_before = text_between(alloc, text.split_at(end).0)?;
-    Ok((text_before, text.split_at(end + 1).1))
+    let content = content(alloc, text.split_at(end).0)?;
+    Ok((content, text.split_at(end + 1).1))
 }
 
 /// The characters of the string whose first quotation mark was read, unescaped, and what follows it.
@@ -150,12 +184,38 @@ fn read_escaped(alloc: Global, text: &[u8]) -> Result<(Text, &[u8]), JsonError>
 ///   escape that is none.
 /// - `OutOfMemory`: memory runs out.
 #[tactic(auto, unfolding(crate::specs::Reading::string_at))]
-pub fn read_string(alloc: Global, text: &[u8]) -> Result<(Text, &[u8]), JsonError>
+pub fn read_string<'t>(alloc: Global, text: &'t [u8]) -> Result<(JsonText<'t>, &'t [u8]), JsonError>
     ensures { Reads (λ x. (x.0, x.1.now)) result (string_at text.now) }
 {
     let Some(end) = plain_end(text) else {
         return read_escaped(alloc, text);
     };
-    let text_before = plain_text(alloc, text.split_at(end).0)?;
-    Ok((text_before, text.split_at(end + 1).1))
+    let Some(content) = plain_text(text.split_at(end).0) else {
+        return Err(JsonError::Syntax);
+    };
+    Ok((content, text.split_at(end + 1).1))
+}
+
+#[tactic(auto, unfolding(crate::specs::Reading::string_at, crate::specs::Reading::text_of))]
+fn skip_escaped(text: &[u8]) -> Option<&[u8]>
+    ensures { SkipsString text.now (option_map (λ r. r.now) result) }
+{
+    let end = string_end(text)?;
+    let content = utf8_text(text.split_at(end).0)?;
+    if !is_content(content) {
+        return None;
+    }
+    Some(text.split_at(end + 1).1)
+}
+
+/// What follows the string whose first quotation mark was read; none where there is no such string.
+#[tactic(auto, unfolding(crate::specs::Reading::string_at))]
+pub fn skip_string(text: &[u8]) -> Option<&[u8]>
+    ensures { SkipsString text.now (option_map (λ r. r.now) result) }
+{
+    let Some(end) = plain_end(text) else {
+        return skip_escaped(text);
+    };
+    let _content = plain_text(text.split_at(end).0)?;
+    Some(text.split_at(end + 1).1)
 }

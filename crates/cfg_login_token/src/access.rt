@@ -66,7 +66,7 @@ pub fn access(alloc: Global, text: &[u8]) -> Result<AccessKeys, LoginTokenError>
 }
 
 // They are an object, so that nothing but memory can be wanting.
-fn inner_members(alloc: Global, text: &[u8]) -> Result<Members, LoginTokenError>
+fn inner_members<'t>(alloc: Global, text: &'t [u8]) -> Result<Members<'t>, LoginTokenError>
     requires { IsObjectText text.now }
     ensures { ReadsInner text.now result }
 {

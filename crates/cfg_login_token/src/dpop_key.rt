@@ -4,12 +4,13 @@ ghost use lib.Utf8.{scalar};
 ghost use Rattle.cfg_base.specs.Text.{characters};
 ghost use Rattle.cfg_login_token.specs.DpopKeys.{with_line_feeds as line_feeds_in, written_and_left};
 
+use cfg_json::JsonText;
 use cfg_types::{OutOfMemory, Text};
 use std::alloc::{AllocError, Global};
 
 /// The text in which each backslash that is followed by `n` is, with it, a line feed. aws-config reads the
 /// key so, after JSON's own escapes. `OutOfMemory` where memory runs out.
-pub fn with_line_feeds(alloc: Global, text: &Text) -> Result<Text, OutOfMemory>
+pub fn with_line_feeds(alloc: Global, text: &JsonText) -> Result<Text, OutOfMemory>
     ensures { IfOk result (λ t. t ≡ line_feeds_in text.now) }
 {
     let all = characters_of(alloc, text.as_str())?;

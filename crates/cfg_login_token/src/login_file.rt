@@ -10,11 +10,11 @@ use crate::access::{AccessKeys, access, between};
 use crate::dpop_key::with_line_feeds;
 use crate::login_token::{LoginToken, LoginTokenFields};
 use crate::lookup::last_place;
-use cfg_json::{Member, Members, members};
+use cfg_json::{JsonText, Member, Members, members};
 use cfg_token::lookup::{copy_text, find_text};
 use cfg_types::{
     AccountId, Credentials, CredentialsBuilder, Field, JsonError, LoginJsonFault, LoginTokenError,
-    OutOfMemory, Text, TryCopy,
+    OutOfMemory, Text,
 };
 use std::alloc::Global;
 
@@ -52,7 +52,7 @@ fn read(alloc: Global, bytes: &[u8]) -> Result<LoginToken, LoginTokenError>
 }
 
 // The members of a file's object.
-fn file_members(alloc: Global, bytes: &[u8]) -> Result<Members, LoginTokenError>
+fn file_members<'t>(alloc: Global, bytes: &'t [u8]) -> Result<Members<'t>, LoginTokenError>
     ensures reads { ReadsMembers bytes.now result }
     ensures found { IfOk result (λ m. HasObject bytes.now m.list m.end) }
 {
@@ -119,7 +119,10 @@ fn required_account(keys: &AccessKeys) -> Result<&Text, LoginTokenError>
     }
 }
 
-fn required_text(members: &[Member], field: Field) -> Result<&Text, LoginTokenError>
+fn required_text<'a, 't>(
+    members: &'a [Member<'t>],
+    field: Field,
+) -> Result<&'a JsonText<'t>, LoginTokenError>
     ensures { IsSaid (λ t. t.now) (required field (text_of members.now field)) result }
 {
     match find_text(members, field) {
@@ -178,9 +181,9 @@ fn with_texts(
     alloc: Global,
     members: &[Member],
     access_token: Credentials,
-    client_id: &Text,
+    client_id: &JsonText,
     dpop_key: Text,
-    refresh_token: &Text,
+    refresh_token: &JsonText,
 ) -> Result<LoginToken, OutOfMemory>
     ensures { IfOk result (λ token. token ≡ token_with members.now access_token client_id.now dpop_key refresh_token.now) }
 {

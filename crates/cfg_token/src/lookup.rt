@@ -2,8 +2,8 @@
 ghost use Rattle.std.specs.Prelude.{◌≡◌, IfOk, option_map};
 ghost use Rattle.cfg_token.specs.SsoFile.{is_named, text_under_name, last_text as last_text_of, text_of};
 
-use cfg_json::{Member, MemberValue};
-use cfg_types::{Field, OutOfMemory, Text, TryCopy};
+use cfg_json::{JsonText, Member, MemberValue};
+use cfg_types::{Field, OutOfMemory, Text};
 use std::alloc::Global;
 
 /// Whether the member has this name, without regard to the case of ASCII letters.
@@ -13,7 +13,7 @@ pub fn has_name(member: &Member, name: &str) -> bool
     member.key.as_str().eq_ignore_ascii_case(name)
 }
 
-fn text_under<'a>(member: &'a Member, name: &str) -> Option<&'a Text>
+fn text_under<'a, 't>(member: &'a Member<'t>, name: &str) -> Option<&'a JsonText<'t>>
     ensures { option_map (λ t. t.now) result ≡ text_under_name name.now member.now }
 {
     if !has_name(member, name) {
@@ -26,7 +26,7 @@ fn text_under<'a>(member: &'a Member, name: &str) -> Option<&'a Text>
 }
 
 // The last text under a name.
-fn last_text<'a>(members: &'a [Member], name: &str) -> Option<&'a Text>
+fn last_text<'a, 't>(members: &'a [Member<'t>], name: &str) -> Option<&'a JsonText<'t>>
     ensures { option_map (λ t. t.now) result ≡ last_text_of name.now members.now }
 {
     let mut found = None;
@@ -38,7 +38,7 @@ fn last_text<'a>(members: &'a [Member], name: &str) -> Option<&'a Text>
 
 /// The last text of a field, without regard to the case of ASCII letters. Members of another kind
 /// change nothing.
-pub fn find_text(members: &[Member], field: Field) -> Option<&Text>
+pub fn find_text<'a, 't>(members: &'a [Member<'t>], field: Field) -> Option<&'a JsonText<'t>>
     ensures { option_map (λ t. t.now) result ≡ text_of members.now field }
 {
     last_text(members, field.as_str())

@@ -5,8 +5,8 @@ ghost use Rattle.cfg_token.specs.SsoFile.{text_of, required as required_text, da
 
 use crate::lookup::{copy_text, find_text};
 use crate::sso_token::{CachedSsoToken, SsoTokenFields};
-use cfg_json::{Member, Members, only_members, parse_date};
-use cfg_types::{CachedSsoTokenError, Field, Instant, JsonError, OutOfMemory, Text, TryCopy};
+use cfg_json::{JsonText, Member, Members, only_members, parse_date};
+use cfg_types::{CachedSsoTokenError, Field, Instant, JsonError, OutOfMemory, Text};
 use std::alloc::Global;
 
 /// The token that a file keeps: one JSON object with the fields `accessToken` and `expiresAt`, and,
@@ -43,7 +43,7 @@ fn read(alloc: Global, bytes: &[u8]) -> Result<CachedSsoToken, CachedSsoTokenErr
 }
 
 // The members of a file's object.
-fn file_members(alloc: Global, bytes: &[u8]) -> Result<Members, CachedSsoTokenError>
+fn file_members<'t>(alloc: Global, bytes: &'t [u8]) -> Result<Members<'t>, CachedSsoTokenError>
     ensures { ReadsMembers bytes.now result }
 {
     match only_members(alloc, bytes) {
@@ -82,7 +82,10 @@ fn more_fault(alloc: Global) -> CachedSsoTokenError
     }
 }
 
-fn required(members: &[Member], field: Field) -> Result<&Text, CachedSsoTokenError>
+fn required<'a, 't>(
+    members: &'a [Member<'t>],
+    field: Field,
+) -> Result<&'a JsonText<'t>, CachedSsoTokenError>
     ensures { IsSaid (λ t. t.now) (required_text field (text_of members.now field)) result }
 {
     match find_text(members, field) {
@@ -92,7 +95,7 @@ fn required(members: &[Member], field: Field) -> Result<&Text, CachedSsoTokenErr
 }
 
 #[tactic(auto, unfolding(cfg_json::specs::Documents::date_in))]
-fn date(field: Field, text: &Text) -> Result<Instant, CachedSsoTokenError>
+fn date(field: Field, text: &JsonText) -> Result<Instant, CachedSsoTokenError>
     ensures { IsSaid (λ m. m) (dated field (date_in text.now)) result }
 {
     match parse_date(text.as_str()) {
@@ -128,7 +131,7 @@ fn token(alloc: Global, members: &[Member]) -> Result<CachedSsoToken, CachedSsoT
 fn with_texts(
     alloc: Global,
     members: &[Member],
-    access: &Text,
+    access: &JsonText,
     expires_at: Instant,
     registration_expires_at: Option<Instant>,
 ) -> Result<CachedSsoToken, OutOfMemory>

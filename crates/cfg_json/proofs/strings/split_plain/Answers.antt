@@ -1,0 +1,18 @@
+use Rattle.std.proofs.Common.{◌≤◌, ℕ, List, length, ap, subst, ◌∙◌}
+use Rattle.std.specs.List.{prefix_len}
+use Rattle.cfg_json.specs.Characters.{is_plain}
+use Rattle.cfg_json.proofs.PlainEnds.{run_cut, run_reads, run_stops}
+use Rattle.cfg_json.proofs.strings.split_plain.Goals as goal
+
+pub split_at-requires : goal.split_at-requires
+split_at-requires c =
+    run_cut c.args.text.now c.plain_run.result (c.plain_run.ensures.value ∙ ap (prefix_len is_plain) c.as_bytes.ensures.value)
+    (subst (λ (b : List ℕ). c.plain_run.result ≤ length b) c.as_bytes.ensures.value c.plain_run.ensures.within)
+
+pub returns-clause-reads : goal.returns-clause-reads
+returns-clause-reads c =
+    run_reads c.args.text.now c.plain_run.result _ _ c.utf8.text (c.plain_run.ensures.value ∙ ap (prefix_len is_plain) c.as_bytes.ensures.value)
+    (subst (λ (b : List ℕ). c.plain_run.result ≤ length b) c.as_bytes.ensures.value c.plain_run.ensures.within) c.split_at.ensures.front c.split_at.ensures.back
+
+pub returns-clause-stops : goal.returns-clause-stops
+returns-clause-stops c = run_stops c.args.text.now c.plain_run.result _ (c.plain_run.ensures.value ∙ ap (prefix_len is_plain) c.as_bytes.ensures.value) c.split_at.ensures.back
