@@ -3,7 +3,7 @@ use Rattle.std.proofs.Common.{◌≡◌, inl, inr, List, refl, sym, ap, subst, �
 use Rattle.std.specs.Prelude.{Ok, Err}
 use Rattle.cfg_types.specs.declared.errors.login.LoginJsonFault.TheVariants.{Document}
 use Rattle.cfg_types.specs.declared.errors.login.LoginTokenError.{LoginTokenError}
-use Rattle.cfg_types.specs.declared.errors.login.LoginTokenError.TheVariants.{JsonError as Json}
+use Rattle.cfg_types.specs.declared.errors.login.LoginTokenError.TheVariants.{JsonError as Json, OutOfMemory}
 use Rattle.cfg_types.specs.declared.document.InvalidJsonCredentials.{InvalidJsonCredentials}
 use Rattle.cfg_types.specs.declared.document.InvalidJsonCredentials.TheVariants as invalid
 use Rattle.cfg_json.specs.declared.credentials.JsonCredentials.{JsonCredentials}
@@ -24,7 +24,7 @@ fault_is e said result f u says = elim u [
   | inr s ↦ as_said result (keys_of said) (says ∙ ap (λ (x : LoginTokenError). let r : Read AccessKeys = Err x in r) f ∙ ap keys_of (sym s))
 ]
   where
-    no_memory : Json Document ≡ fault_said invalid.OutOfMemory → ⊥
+    no_memory : Json Document ≡ OutOfMemory → ⊥
     no_memory h = cc
 
 pub document_said : (ms : List Member) (read : documents.Read JsonCredentials) (result : Read AccessKeys) → documents.UnlessMemory read (document_of ms) → SaysKeys read result → UnlessMemory result (keys_of (document_of ms))

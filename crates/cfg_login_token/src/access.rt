@@ -93,7 +93,6 @@ fn holds_objects(members: &[Member]) -> bool
 }
 
 // The keys in the document whose members these are.
-#[tactic(auto, using(crate::proofs::Documents::document_said))]
 fn document_keys(alloc: Global, members: &[Member]) -> Result<AccessKeys, LoginTokenError>
     ensures { UnlessMemory result (keys_said (document_of members.now)) }
 {
