@@ -23,7 +23,7 @@ shown_bearer (Ok token) = codes "token " ++ shown_expiry token.expiry
 shown_bearer (Err e) = codes "error " ++ token_class_name (token_class e)
 
 -- The line of a call: what it came to, and the questions that it asked.
-abbrev pub shown_token : Bearer → List Pair → List ℕ
+unfoldable pub shown_token : Bearer → List Pair → List ℕ
 shown_token out journal = shown_bearer out ++ (codes " " ++ (kinds journal ++ codes "\n"))
 
 -- The line of a call, with what stands below it.

@@ -113,7 +113,7 @@ fn write_with_below(
 }
 
 // What the call came to, and the kinds of the questions.
-#[tactic(auto, using(std::proofs::lemmas::Grind::common_steps))]
+#[tactic(auto, using(std::proofs::lemmas::Grind::common_steps), unfolding(crate::specs::Tokens::shown_token))]
 fn write_token(
     line: &mut Vec<u8>,
     outcome: &Result<Token, TokenError>,
