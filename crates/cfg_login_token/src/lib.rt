@@ -17,6 +17,6 @@ mod renewal;
 
 pub use cfg_types::{Field, IoStep, LoginJsonFault, LoginTokenError, OutOfMemory};
 pub use login_file::parse_cached_login_token;
-pub use login_token::LoginToken;
+pub use login_token::{LoginToken, LoginTokenFields};
 pub use login_writing::write_cached_login_token;
 pub use paths::cached_login_token_path;

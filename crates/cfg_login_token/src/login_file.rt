@@ -8,7 +8,7 @@ ghost use Rattle.cfg_login_token.specs.LoginFile.{required, key_of, token_with, 
 
 use crate::access::{AccessKeys, access, between};
 use crate::dpop_key::with_line_feeds;
-use crate::login_token::LoginToken;
+use crate::login_token::{LoginToken, LoginTokenFields};
 use crate::lookup::last_place;
 use cfg_json::{Member, Members, members};
 use cfg_token::lookup::{copy_text, find_text};
@@ -188,12 +188,13 @@ fn with_texts(
     let identity_token = copy_text(alloc, members, Field::IdToken)?;
     let refresh_token = refresh_token.copy(alloc)?;
     let client_id = client_id.copy(alloc)?;
-    Ok(LoginToken {
+    let fields = LoginTokenFields {
         access_token,
         token_type,
         identity_token,
         refresh_token,
         client_id,
         dpop_key,
-    })
+    };
+    LoginToken::new(alloc, fields)
 }

@@ -1,11 +1,14 @@
-use cfg_types::{Credentials, OutOfMemory, Text, TryCopy, copy_option};
+ghost use Rattle.std.specs.Prelude.{◌≡◌, IfOk};
+
+use cfg_types::{Credentials, OutOfMemory, Shared, Text, TryCopy};
 use std::alloc::Global;
 use std::fmt;
+use std::marker::Model;
+use std::ops::Deref;
 
-/// A token of a sign-in session, as its file keeps it: credentials that end, and what a refresh of
-/// them needs. The key proves possession (DPoP, RFC 9449).
+/// What the file of a token of a sign-in session keeps. The key proves possession (DPoP, RFC 9449).
 #[derive(PartialEq, Eq)]
-pub struct LoginToken {
+pub struct LoginTokenFields {
     /// Credentials from `Login`, with an end, a session token and an account. Without an end the token
     /// counts as one that has expired.
     pub access_token: Credentials,
@@ -21,9 +24,9 @@ pub struct LoginToken {
     pub dpop_key: Text,
 }
 
-impl Drop for LoginToken {
+impl Drop for LoginTokenFields {
     fn drop(self) {
-        let LoginToken {
+        let LoginTokenFields {
             access_token: _,
             token_type: _,
             identity_token: _,
@@ -34,22 +37,53 @@ impl Drop for LoginToken {
     }
 }
 
+/// A token of a sign-in session, as its file keeps it: credentials that end, and what a refresh of
+/// them needs. Contracts see its fields. A copy shares them with its source.
+#[derive(PartialEq, Eq)]
+pub struct LoginToken {
+    fields: Shared<LoginTokenFields>,
+}
+
+impl Model for LoginToken {
+    ghost use Rattle.cfg_login_token.specs.declared.login_token.LoginTokenFields.{LoginTokenFields};
+
+    ghost Value = { LoginTokenFields };
+
+    ghost view = { λ t. t.fields };
+
+    ghost inverse = { λ f. record { fields = f } };
+}
+
+impl Drop for LoginToken {
+    fn drop(self) {
+        let LoginToken { fields: _ } = self;
+    }
+}
+
+impl LoginToken {
+    /// The token with these fields. `OutOfMemory` where memory runs out.
+    pub fn new(alloc: Global, fields: LoginTokenFields) -> Result<LoginToken, OutOfMemory>
+        ensures { IfOk result (λ t. t ≡ fields) }
+    {
+        let fields = Shared::new(alloc, fields)?;
+        Ok(LoginToken { fields })
+    }
+}
+
+impl Deref for LoginToken {
+    type Target = LoginTokenFields;
+
+    ghost deref_gives = { λ t f. f ≡ t };
+
+    fn deref(&self) -> &LoginTokenFields {
+        self.fields.get()
+    }
+}
+
 impl TryCopy for LoginToken {
     fn copy(&self, alloc: Global) -> Result<LoginToken, OutOfMemory> {
-        let access_token = self.access_token.copy(alloc)?;
-        let token_type = copy_option(alloc, &self.token_type)?;
-        let identity_token = copy_option(alloc, &self.identity_token)?;
-        let refresh_token = self.refresh_token.copy(alloc)?;
-        let client_id = self.client_id.copy(alloc)?;
-        let dpop_key = self.dpop_key.copy(alloc)?;
-        Ok(LoginToken {
-            access_token,
-            token_type,
-            identity_token,
-            refresh_token,
-            client_id,
-            dpop_key,
-        })
+        let fields = self.fields.copy(alloc)?;
+        Ok(LoginToken { fields })
     }
 }
 

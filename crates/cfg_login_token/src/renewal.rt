@@ -2,7 +2,7 @@
 ghost use Rattle.std.specs.Prelude.{◌≡◌, IfOk, option_map};
 ghost use Rattle.cfg_login_token.specs.LoginTokens.{renewed_keys, renewed as renewed_token, refusal_words as words_of, refusal_message as message_of, by_token, fails};
 
-use crate::login_token::LoginToken;
+use crate::login_token::{LoginToken, LoginTokenFields};
 use cfg_token::file_token::Renewal;
 use cfg_token::lifetime::end_of;
 use cfg_types::{
@@ -91,14 +91,15 @@ fn renewed(
     let refresh_token = given.refresh_token.copy(alloc)?;
     let client_id = token.client_id.copy(alloc)?;
     let dpop_key = token.dpop_key.copy(alloc)?;
-    Ok(LoginToken {
+    let fields = LoginTokenFields {
         access_token,
         token_type,
         identity_token,
         refresh_token,
         client_id,
         dpop_key,
-    })
+    };
+    LoginToken::new(alloc, fields)
 }
 
 // The reply's keys, of the old account.

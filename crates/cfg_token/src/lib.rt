@@ -33,7 +33,7 @@ pub use file_token::FileToken;
 pub use history::{Load, Record};
 pub use paths::cached_sso_token_path;
 pub use sso_file::parse_cached_sso_token;
-pub use sso_token::CachedSsoToken;
+pub use sso_token::{CachedSsoToken, SsoTokenFields};
 pub use sso_writing::write_cached_sso_token;
 pub use state::{TokenState, finish, next_question, section, section_after};
 pub use token_key::TokenKey;

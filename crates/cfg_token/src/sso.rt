@@ -9,7 +9,7 @@ use crate::file_token::{FileToken, Renewal, Unsaved};
 use crate::lifetime::end_of;
 use crate::paths::cached_sso_token_path;
 use crate::sso_file::parse_cached_sso_token;
-use crate::sso_token::CachedSsoToken;
+use crate::sso_token::{CachedSsoToken, SsoTokenFields};
 use crate::sso_writing::write_cached_sso_token;
 use crate::token_key::TokenKey;
 use cfg_types::{
@@ -206,7 +206,7 @@ fn renewed(
     let client_secret = copy_option(alloc, &token.client_secret)?;
     let region = Text::of(alloc, region.as_str())?;
     let start_url = start_url.copy(alloc)?;
-    Ok(CachedSsoToken {
+    let fields = SsoTokenFields {
         access_token,
         expires_at,
         refresh_token,
@@ -215,7 +215,8 @@ fn renewed(
         registration_expires_at: token.registration_expires_at,
         region: Some(region),
         start_url: Some(start_url),
-    })
+    };
+    CachedSsoToken::new(alloc, fields)
 }
 
 fn new_or_old(

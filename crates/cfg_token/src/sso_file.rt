@@ -4,7 +4,7 @@ ghost use Rattle.cfg_json.specs.Documents.{date_in};
 ghost use Rattle.cfg_token.specs.SsoFile.{text_of, required as required_text, dated, optional_date, token_with, token_of, sso_file, UnlessMemory, AnswersFile, IsFaultOf, ReadsMembers};
 
 use crate::lookup::{copy_text, find_text};
-use crate::sso_token::CachedSsoToken;
+use crate::sso_token::{CachedSsoToken, SsoTokenFields};
 use cfg_json::{Member, Members, only_members, parse_date};
 use cfg_types::{CachedSsoTokenError, Field, Instant, JsonError, OutOfMemory, Text, TryCopy};
 use std::alloc::Global;
@@ -140,7 +140,7 @@ fn with_texts(
     let client_secret = copy_text(alloc, members, Field::ClientSecret)?;
     let region = copy_text(alloc, members, Field::Region)?;
     let start_url = copy_text(alloc, members, Field::StartUrl)?;
-    Ok(CachedSsoToken {
+    let fields = SsoTokenFields {
         access_token,
         expires_at,
         refresh_token,
@@ -149,5 +149,6 @@ fn with_texts(
         registration_expires_at,
         region,
         start_url,
-    })
+    };
+    CachedSsoToken::new(alloc, fields)
 }

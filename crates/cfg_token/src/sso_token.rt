@@ -1,11 +1,14 @@
-use cfg_types::{Instant, OutOfMemory, Text, TryCopy, copy_option};
+ghost use Rattle.std.specs.Prelude.{◌≡◌, IfOk};
+
+use cfg_types::{Instant, OutOfMemory, Shared, Text, TryCopy};
 use std::alloc::Global;
 use std::fmt;
+use std::marker::Model;
+use std::ops::Deref;
 
-/// A token of IAM Identity Center, as its file keeps it. With the client's id and secret, a refresh
-/// token, and a registration of the client that has not expired, it can be refreshed.
+/// What the file of a token of IAM Identity Center keeps.
 #[derive(PartialEq, Eq)]
-pub struct CachedSsoToken {
+pub struct SsoTokenFields {
     /// What is sent with requests for credentials, and handed out as a bearer token.
     pub access_token: Text,
     /// When the access token ends.
@@ -24,9 +27,9 @@ pub struct CachedSsoToken {
     pub start_url: Option<Text>,
 }
 
-impl Drop for CachedSsoToken {
+impl Drop for SsoTokenFields {
     fn drop(self) {
-        let CachedSsoToken {
+        let SsoTokenFields {
             access_token: _,
             expires_at: _,
             refresh_token: _,
@@ -39,24 +42,54 @@ impl Drop for CachedSsoToken {
     }
 }
 
+/// A token of IAM Identity Center, as its file keeps it. With the client's id and secret, a refresh
+/// token, and a registration of the client that has not expired, it can be refreshed. Contracts see its
+/// fields. A copy shares them with its source.
+#[derive(PartialEq, Eq)]
+pub struct CachedSsoToken {
+    fields: Shared<SsoTokenFields>,
+}
+
+impl Model for CachedSsoToken {
+    ghost use Rattle.cfg_token.specs.declared.sso_token.SsoTokenFields.{SsoTokenFields};
+
+    ghost Value = { SsoTokenFields };
+
+    ghost view = { λ t. t.fields };
+
+    ghost inverse = { λ f. record { fields = f } };
+}
+
+impl Drop for CachedSsoToken {
+    fn drop(self) {
+        let CachedSsoToken { fields: _ } = self;
+    }
+}
+
+impl CachedSsoToken {
+    /// The token with these fields. `OutOfMemory` where memory runs out.
+    pub fn new(alloc: Global, fields: SsoTokenFields) -> Result<CachedSsoToken, OutOfMemory>
+        ensures { IfOk result (λ t. t ≡ fields) }
+    {
+        let fields = Shared::new(alloc, fields)?;
+        Ok(CachedSsoToken { fields })
+    }
+}
+
+impl Deref for CachedSsoToken {
+    type Target = SsoTokenFields;
+
+    ghost deref_gives = { λ t f. f ≡ t };
+
+    fn deref(&self) -> &SsoTokenFields {
+        self.fields.get()
+    }
+}
+
 impl TryCopy for CachedSsoToken {
     fn copy(&self, alloc: Global) -> Result<CachedSsoToken, OutOfMemory> {
-        let access_token = self.access_token.copy(alloc)?;
-        let refresh_token = copy_option(alloc, &self.refresh_token)?;
-        let client_id = copy_option(alloc, &self.client_id)?;
-        let client_secret = copy_option(alloc, &self.client_secret)?;
-        let region = copy_option(alloc, &self.region)?;
-        let start_url = copy_option(alloc, &self.start_url)?;
-        Ok(CachedSsoToken {
-            access_token,
-            expires_at: self.expires_at,
-            refresh_token,
-            client_id,
-            client_secret,
-            registration_expires_at: self.registration_expires_at,
-            region,
-            start_url,
-        })
+        let fields = self.fields.copy(alloc)?;
+        Ok(CachedSsoToken { fields })
     }
 }
 

@@ -1,5 +1,5 @@
 //! The text of a token's file, read and written again, and what is shown of the token.
-use cfg_token::{CachedSsoToken, parse_cached_sso_token, write_cached_sso_token};
+use cfg_token::{CachedSsoToken, SsoTokenFields, parse_cached_sso_token, write_cached_sso_token};
 use cfg_types::{Instant, OutOfMemory, Text};
 use std::alloc::{AllocError, Global};
 use std::test::Fail;
@@ -71,7 +71,7 @@ fn written(alloc: Global, seconds: i64, nanos: u32) -> Result<String, OutOfMemor
     let Some(expires_at) = Instant::new(seconds, nanos) else {
         return Ok(String::from_str(alloc, "no moment")?);
     };
-    let token = CachedSsoToken {
+    let fields = SsoTokenFields {
         access_token: Text::of(alloc, "t")?,
         expires_at,
         refresh_token: None,
@@ -81,6 +81,7 @@ fn written(alloc: Global, seconds: i64, nanos: u32) -> Result<String, OutOfMemor
         region: None,
         start_url: None,
     };
+    let token = CachedSsoToken::new(alloc, fields)?;
     match write_cached_sso_token(alloc, &token) {
         Ok(text) => Ok(String::from_str(alloc, text.as_str())?),
         Err(error) => Ok(format!(in alloc; "{error:?}")?),

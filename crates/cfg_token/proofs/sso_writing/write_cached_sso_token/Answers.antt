@@ -7,7 +7,7 @@ returns-clause-read_back c =
     written_token c.args.token.now c.in_ok-text.text c.in_ok-text.ensures.texts (record {
       expiry = c.in_ok-expiry.expiry;
       registration = c.in_ok-registration.registration;
-      is_expiry = c.in_ok-expiry.ensures.answers;
-      is_registration = c.in_ok-registration.ensures.answers;
+      is_expiry = rw c.deref.ensures at c.in_ok-expiry.ensures.answers;
+      is_registration = rw c.deref-2.ensures at c.in_ok-registration.ensures.answers;
       is = c.in_ok-text.ensures.is;
     })
