@@ -9,9 +9,17 @@ use Rattle.cfg_types.specs.declared.errors.login.LoginTokenError.{LoginTokenErro
 use Rattle.cfg_types.specs.declared.errors.login.LoginTokenError.TheVariants.{NoHomeDirectory}
 use Rattle.cfg_token.specs.Paths.{joined}
 
--- the file of a session in a cache: it is named by the session without the white space around it
+-- the file of this name in a cache
+abbrev pub path_of_name : List ℕ → List ℕ → List ℕ
+path_of_name cache name = characters (joined cache name ++ codes ".json")
+
+-- the name of a session's file, by the session without the white space around it
+abbrev pub login_name : List ℕ → List ℕ
+login_name session = encode_lower (sha256 (trim (encode_utf8_all session)))
+
+-- the file of a session in a cache
 abbrev pub login_path : List ℕ → List ℕ → List ℕ
-login_path cache session = characters (joined cache (encode_lower (sha256 (trim session))) ++ codes ".json")
+login_path cache session = path_of_name cache (encode_lower (sha256 (trim session)))
 
 -- The cache: the variable's value where it is readable, or else a folder below the home directory.
 abbrev pub cache_directory : Result (List ℕ) VarError → Result (List ℕ) VarError → Result (List ℕ) LoginTokenError

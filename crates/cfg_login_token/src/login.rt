@@ -6,7 +6,7 @@ ghost use Rattle.cfg_login_token.specs.LoginTokens.{first_moment};
 use crate::login_file::parse_cached_login_token;
 use crate::login_token::LoginToken;
 use crate::login_writing::write_cached_login_token;
-use crate::paths::{cache_directory, cached_login_token_path};
+use crate::paths::{cache_directory, hashed, path_of_name};
 use crate::renewal::{by_refusal, by_reply, failed};
 use cfg_token::TokenKey;
 use cfg_token::file_token::{FileToken, Renewal, Unsaved};
@@ -20,10 +20,13 @@ use std::alloc::Global;
 impl FileToken for LoginToken {
     ghost use Rattle.cfg_login_token.specs.LoginTokens.{login_rules};
     ghost use Rattle.cfg_login_token.specs.LoginTells.{login_tells};
+    ghost use Rattle.cfg_login_token.specs.Paths.{login_name};
 
     type Error = LoginTokenError;
 
     ghost rules = { login_rules };
+
+    ghost name_of = { login_name };
 
     ghost tells = { login_tells };
 
@@ -38,17 +41,22 @@ impl FileToken for LoginToken {
         true
     }
 
+    fn file_name(alloc: Global, session: &Text) -> Result<String, OutOfMemory> {
+        hashed(alloc, session.as_str())
+    }
+
     fn path(
         alloc: Global,
         key: &TokenKey,
+        name: &str,
         env: &Env,
     ) -> Result<Result<Text, LoginTokenError>, OutOfMemory> {
-        let TokenKey::Login { session } = key else {
+        let TokenKey::Login { session: _ } = key else {
             unreachable!()
         };
         match cache_directory(alloc, env)? {
             Ok(cache) => {
-                let path = cached_login_token_path(alloc, cache.as_str(), session.as_str())?;
+                let path = path_of_name(cache, name)?;
                 Ok(Ok(path))
             }
             Err(error) => Ok(Err(error)),

@@ -3,7 +3,7 @@ ghost use Rattle.std.specs.Str.{trim};
 ghost use Rattle.hex.specs.Hex.{encode_lower};
 ghost use Rattle.sha2.specs.Sha256.{sha256};
 ghost use Rattle.cfg_types.specs.Environment.{variable};
-ghost use Rattle.cfg_login_token.specs.Paths.{login_path, cache_directory as directory_of};
+ghost use Rattle.cfg_login_token.specs.Paths.{login_path, path_of_name as path_by_name, cache_directory as directory_of};
 ghost use Rattle.cfg_base.specs.Gives.{IsSaid};
 
 use cfg_token::paths::push_part;
@@ -23,13 +23,21 @@ pub fn cached_login_token_path(
     ensures { IfOk result (λ path. path ≡ login_path cache_dir.now session.now) }
 {
     let name = hashed(alloc, session)?;
-    let mut path = String::from_str(alloc, cache_dir)?;
-    push_part(&mut path, name.as_str())?;
+    path_of_name(String::from_str(alloc, cache_dir)?, name.as_str())
+}
+
+/// The path of the file of this name in the folder of a cache. `OutOfMemory` where memory runs out.
+pub(crate) fn path_of_name(cache: String, name: &str) -> Result<Text, OutOfMemory>
+    ensures { IfOk result (λ path. path ≡ path_by_name (string_bytes cache) name.now) }
+{
+    let mut path = cache;
+    push_part(&mut path, name)?;
     path.push_str(".json")?;
     Ok(Text::from_string(path))
 }
 
-fn hashed(alloc: Global, session: &str) -> Result<String, OutOfMemory>
+/// The name of the file of a session's token. `OutOfMemory` where memory runs out.
+pub(crate) fn hashed(alloc: Global, session: &str) -> Result<String, OutOfMemory>
     ensures { IfOk result (λ name. string_bytes name ≡ encode_lower (sha256 (trim session.now))) }
 {
     let digest = Sha256::digest(session.trim().as_bytes());

@@ -1,5 +1,6 @@
 pub mod ShownTokens
 pub mod Paths
+pub mod FileNames
 pub mod SsoFile
 pub mod DateTexts
 pub mod SsoText

@@ -1,5 +1,6 @@
 //! What a section asks of a token and its file.
-ghost use Rattle.std.specs.Prelude.{◌≡◌, true, IfOk};
+ghost use Rattle.std.specs.Prelude.{◌≡◌, true, IfOk, string_bytes};
+ghost use Rattle.cfg_token.specs.FileNames.{session_of};
 
 use crate::token_key::TokenKey;
 use cfg_types::{Bytes, CallSettings, Env, Instant, OutOfMemory, Request, Text, TryCopy};
@@ -29,12 +30,16 @@ pub enum Unsaved {
 /// A token that a file keeps. The kinds differ in their rules, and one section serves them all. A call
 /// of these rules answers `OutOfMemory` where memory runs out, and each other error as its value.
 pub trait FileToken: TryCopy {
+    ghost use Rattle.std.specs.Prelude.{ℕ, List};
     ghost use Rattle.cfg_token.specs.Rules.{Rules, Tells};
 
     /// Why a section gives no token.
     type Error: TryCopy;
 
     ghost rules: { Rules Self Self.Error };
+
+    /// The name of a session's file, in bytes.
+    ghost name_of: { List ℕ → List ℕ };
 
     /// When the token ends.
     fn expires_at(&self) -> Instant
@@ -44,13 +49,19 @@ pub trait FileToken: TryCopy {
     fn can_refresh(&self, now: Instant) -> bool
         ensures { result ≡ rules.refreshable self.now now };
 
-    /// The path of the token's file for a key of this kind, or why there is none.
+    /// The name of the file of this session's token, in its folder.
+    fn file_name(alloc: Global, session: &Text) -> Result<String, OutOfMemory>
+        ensures { IfOk result (λ name. string_bytes name ≡ name_of session.now) };
+
+    /// The path of the token's file for a key of this kind, whose name this is, or why there is none.
     fn path(
         alloc: Global,
         key: &TokenKey,
+        name: &str,
         env: &Env,
     ) -> Result<Result<Text, Self::Error>, OutOfMemory>
-        requires { rules.is_kind key.now ≡ true }
+        requires kind { rules.is_kind key.now ≡ true }
+        requires name { name.now ≡ name_of (session_of key.now) }
         ensures { IfOk result (λ r. r ≡ rules.path key.now env.now) };
 
     /// The token in a file's bytes, or why they have none.

@@ -5,6 +5,7 @@
 #![tactic(auto)]
 
 pub mod decision;
+mod file_name;
 pub mod file_token;
 mod history;
 pub mod laws;

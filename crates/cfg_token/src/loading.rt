@@ -1,5 +1,6 @@
 //! The steps of a load.
 ghost use Rattle.std.specs.Prelude.{◌≡◌, true, Err, None};
+ghost use Rattle.cfg_token.specs.FileNames.{session_of};
 ghost use Rattle.cfg_token.specs.Notes.{Notes};
 ghost use Rattle.cfg_token.specs.Sections.{saves, refreshes, judges, load as load_of, or_unsaved, while_it_lasts, gives};
 
@@ -20,23 +21,25 @@ pub struct Loaded<T, E> {
     pub noted: Option<Instant>,
 }
 
-/// What follows where no kept token is handed out: the path, the file, and what is done with its token
+/// What follows where no kept token is handed out: the path of the file of this name, the file, and what is done with its token
 /// by a second reading of the clock and the last attempt. The receipts of what was asked are added. An
 /// error says why it was stopped: memory ran out, or a question was left open.
 #[tactic(auto, using(crate::proofs::NotedSteps::noted_steps), unfolding(crate::specs::Sections::load))]
 pub fn load<T: FileToken, A: Asking>(
     alloc: Global,
     key: &TokenKey,
+    name: &str,
     env: &Env,
     settings: &CallSettings,
     last: Option<Instant>,
     asking: &mut A,
     receipts: &mut Vec<Receipt>,
 ) -> Result<Loaded<T, T::Error>, Stop>
-    requires { T.rules.is_kind key.now ≡ true }
+    requires kind { T.rules.is_kind key.now ≡ true }
+    requires name { name.now ≡ T.name_of (session_of key.now) }
     ensures { Notes ⟦<A as Asking>⟧ (load_of T.rules key.now env.now settings.now last) asking.old receipts.old.items asking.new receipts.new.items result }
 {
-    let path = match T::path(alloc, key, env)? {
+    let path = match T::path(alloc, key, name, env)? {
         Ok(path) => path,
         Err(error) => return Ok(failed(error)),
     };

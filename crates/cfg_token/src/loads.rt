@@ -6,6 +6,7 @@ ghost use Rattle.cfg_token.specs.Sections.{hit as hit_of, answer_of, ok_of, note
 ghost use Rattle.cfg_token.specs.Histories.{token_in, kept_in, last_in};
 ghost use Rattle.cfg_token.specs.SectionCalls.{is_memory, Answers, Interrupted, EndsWithReading, AnswersAfter, InterruptedAfter};
 
+use crate::file_name::{FileName, file_name};
 use crate::file_token::FileToken;
 use crate::history::{
     Load, Record, copied_load, copy_load, copy_records, finished_load, put_in_place, token_load,
@@ -14,7 +15,7 @@ use crate::leaves::{ask_clock, note_receipt};
 use crate::loading::{Loaded, load};
 use crate::sections::{Sectioned, hit};
 use crate::token_key::TokenKey;
-use cfg_types::{CallSettings, Env, Instant, OutOfMemory, TryCopy, copy_option};
+use cfg_types::{CallSettings, Env, Instant, OutOfMemory, Shared, TryCopy, copy_option};
 use cfg_world::{Asking, Devices, Question, Receipt, Stop, World};
 use std::alloc::Global;
 use std::marker::Model;
@@ -28,6 +29,8 @@ pub struct Loads<T: FileToken> {
     last: Option<Instant>,
     records: Vec<Record<T>>,
     latest: Latest<T>,
+    // The name of the file that was looked for last.
+    file: Option<Shared<FileName>>,
 }
 
 // What the loads leave: the kept token, the last attempt, and the last one before the last record.
@@ -39,6 +42,8 @@ struct Latest<T> {
 }
 
 impl<T: FileToken> Model for Loads<T> {
+    ghost use Rattle.std.specs.Prelude.{IfSome};
+    ghost use Rattle.cfg_token.specs.FileNames.{IsNameBy};
     ghost use Rattle.cfg_token.specs.Histories.{History, IsStored};
 
     ghost Value = { History T T.Error };
@@ -46,7 +51,7 @@ impl<T: FileToken> Model for Loads<T> {
     ghost view = { λ s. record { load = s.load; last = s.last; records = s.records.items } };
 
     ghost invariant = { λ s. IsStored T.rules (record { load = s.load; last = s.last; records = s.records.items })
-        s.latest.kept s.latest.attempt s.latest.before };
+        s.latest.kept s.latest.attempt s.latest.before × IfSome s.file (IsNameBy T.name_of) };
 }
 
 impl<T: FileToken> Loads<T> {
@@ -66,6 +71,7 @@ impl<T: FileToken> Loads<T> {
                 attempt: None,
                 before: None,
             },
+            file: None,
         }
     }
 
@@ -234,10 +240,12 @@ impl<T: FileToken> Loads<T> {
         let Ok(()) = self.records.reserve(1) else {
             return Err(Stop::OutOfMemory);
         };
+        let file = file_name::<T>(self.alloc, &self.file, key.session())?;
         let mut receipts = first_receipt(self.alloc, first)?;
         let loaded = load(
             self.alloc,
             key,
+            file.get().name.as_str(),
             env,
             settings,
             attempt,
@@ -248,6 +256,7 @@ impl<T: FileToken> Loads<T> {
         let latest = latest_after(self.alloc, &loaded, &self.latest)?;
         put_in_place(&mut self.records, record);
         self.latest = latest;
+        self.file = Some(file);
         Ok(Sectioned::Load(loaded))
     }
 }
@@ -300,6 +309,7 @@ impl<T: FileToken> TryCopy for Loads<T> {
         let load = copy_load(alloc, &self.load)?;
         let records = copy_records(alloc, &self.records)?;
         let kept = copy_option(alloc, &self.latest.kept)?;
+        let file = copy_option(alloc, &self.file)?;
         Ok(Loads {
             alloc,
             load,
@@ -310,6 +320,7 @@ impl<T: FileToken> TryCopy for Loads<T> {
                 attempt: self.latest.attempt,
                 before: self.latest.before,
             },
+            file,
         })
     }
 }

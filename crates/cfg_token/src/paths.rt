@@ -2,7 +2,7 @@
 ghost use Rattle.std.specs.Prelude.{◌≡◌, ◌-◌, length, slice_get, IfOk, OnOk, string_bytes};
 ghost use Rattle.hex.specs.Hex.{encode_lower};
 ghost use Rattle.sha1.specs.Sha1.{sha1};
-ghost use Rattle.cfg_token.specs.Paths.{is_open, as_folder, joined, sso_path};
+ghost use Rattle.cfg_token.specs.Paths.{is_open, as_folder, joined, sso_path, path_of_name as path_by_name};
 
 use cfg_types::{OutOfMemory, Text};
 use sha1::Sha1;
@@ -20,15 +20,24 @@ pub fn cached_sso_token_path(
     ensures { IfOk result (λ path. path ≡ sso_path identifier.now home.now) }
 {
     let name = hashed(alloc, identifier)?;
+    path_of_name(alloc, name.as_str(), home)
+}
+
+/// The path of the file of this name, as [`cached_sso_token_path`] says. `OutOfMemory` where memory runs
+/// out.
+pub(crate) fn path_of_name(alloc: Global, name: &str, home: &str) -> Result<Text, OutOfMemory>
+    ensures { IfOk result (λ path. path ≡ path_by_name name.now home.now) }
+{
     let mut path = String::from_str(alloc, home)?;
     push_part(&mut path, ".aws/sso/cache")?;
-    push_part(&mut path, name.as_str())?;
+    push_part(&mut path, name)?;
     path.push_str(".json")?;
     Ok(Text::from_string(path))
 }
 
-// The identifier is hashed as it is, be it empty or `a/../b`: the path has its digest alone.
-fn hashed(alloc: Global, identifier: &str) -> Result<String, OutOfMemory>
+/// The name of an identifier's file. The identifier is hashed as it is, be it empty or `a/../b`: the path
+/// has its digest alone. `OutOfMemory` where memory runs out.
+pub(crate) fn hashed(alloc: Global, identifier: &str) -> Result<String, OutOfMemory>
     ensures { IfOk result (λ name. string_bytes name ≡ encode_lower (sha1 identifier.now)) }
 {
     let digest = Sha1::digest(identifier.as_bytes());

@@ -83,6 +83,16 @@ fn follow_reading<T: FileToken, A: Asking>(
     if let Some(token) = hit(alloc, kept, reading)? {
         return Ok(Sectioned::Hit(token));
     }
-    let loaded = load(alloc, key, env, settings, last, asking, receipts)?;
+    let name = T::file_name(alloc, key.session())?;
+    let loaded = load(
+        alloc,
+        key,
+        name.as_str(),
+        env,
+        settings,
+        last,
+        asking,
+        receipts,
+    )?;
     Ok(Sectioned::Load(loaded))
 }

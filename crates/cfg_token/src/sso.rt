@@ -7,7 +7,7 @@ ghost use Rattle.cfg_token.specs.SsoTokens.{is_sso, ends_after as ends_after_mom
 use crate::decision::is_before;
 use crate::file_token::{FileToken, Renewal, Unsaved};
 use crate::lifetime::end_of;
-use crate::paths::cached_sso_token_path;
+use crate::paths::{hashed, path_of_name};
 use crate::sso_file::parse_cached_sso_token;
 use crate::sso_token::{CachedSsoToken, SsoTokenFields};
 use crate::sso_writing::write_cached_sso_token;
@@ -22,10 +22,13 @@ use std::alloc::Global;
 impl FileToken for CachedSsoToken {
     ghost use Rattle.cfg_token.specs.SsoTokens.{sso_rules};
     ghost use Rattle.cfg_token.specs.SsoTells.{sso_tells};
+    ghost use Rattle.cfg_token.specs.Paths.{sso_name};
 
     type Error = SsoTokenProviderError;
 
     ghost rules = { sso_rules };
+
+    ghost name_of = { sso_name };
 
     ghost tells = { sso_tells };
 
@@ -40,17 +43,22 @@ impl FileToken for CachedSsoToken {
             && ends_after(self.registration_expires_at, now)
     }
 
+    fn file_name(alloc: Global, session: &Text) -> Result<String, OutOfMemory> {
+        hashed(alloc, session.as_str())
+    }
+
     fn path(
         alloc: Global,
         key: &TokenKey,
+        name: &str,
         env: &Env,
     ) -> Result<Result<Text, SsoTokenProviderError>, OutOfMemory> {
-        let TokenKey::Sso { session, .. } = key else {
+        let TokenKey::Sso { .. } = key else {
             unreachable!()
         };
         match env.get("HOME") {
             Ok(home) => {
-                let path = cached_sso_token_path(alloc, session.as_str(), home)?;
+                let path = path_of_name(alloc, name, home)?;
                 Ok(Ok(path))
             }
             Err(_) => Ok(Err(SsoTokenProviderError::FailedToLoadToken(

@@ -1,3 +1,6 @@
+ghost use Rattle.std.specs.Prelude.{◌≡◌};
+ghost use Rattle.cfg_token.specs.FileNames.{session_of};
+
 use cfg_types::{OutOfMemory, Region, Text, TryCopy};
 use std::alloc::Global;
 
@@ -25,6 +28,18 @@ impl Drop for TokenKey {
                 start_url: _,
             } => {}
             TokenKey::Login { session: _ } => {}
+        }
+    }
+}
+
+impl TokenKey {
+    /// The session whose token it is.
+    pub fn session(&self) -> &Text
+        ensures { result.now ≡ session_of self.now }
+    {
+        match self {
+            TokenKey::Sso { session, .. } => session,
+            TokenKey::Login { session } => session,
         }
     }
 }

@@ -6,12 +6,12 @@ use Rattle.cfg_token.proofs.loads.Loads.trim.Goals as goal
 
 pub token_load-requires : goal.token_load-requires
 token_load-requires g c =
-    rw (c.self.invariant.before_is _ _ c.in-Some.ensures.items) (last_is_load g.T.FileToken.rules _ _ _ _ _ c.in-Some.ensures.items c.self.invariant.history)
+    rw (c.self.invariant.0.before_is _ _ c.in-Some.ensures.items) (last_is_load g.T.FileToken.rules _ _ _ _ _ c.in-Some.ensures.items c.self.invariant.0.history)
 
 pub returns-in-Some-clause-is : goal.returns-in-Some-clause-is
 returns-in-Some-clause-is g c =
     is_trimmed (record { load = c.self.inside.load; last = c.self.inside.last; records = c.self.inside.records.items }) c.pop.new.self.items _ c.in-Some.record _ c.self.inside.latest.before c.self.inside.latest.attempt
-    c.in-Some.ensures.items (c.self.invariant.before_is _ _ c.in-Some.ensures.items) c.token_load.ensures c.self.invariant.attempt_is c.clear.ensures.items
+    c.in-Some.ensures.items (c.self.invariant.0.before_is _ _ c.in-Some.ensures.items) c.token_load.ensures c.self.invariant.0.attempt_is c.clear.ensures.items
     ∙ ap trimmed c.self.view_is
 
 pub returns-in-Some-clause-kept : goal.returns-in-Some-clause-kept
