@@ -192,8 +192,16 @@ fn refused(
     Ok(JsonCredentials::Error { code, message })
 }
 
+/// What the members of an object say of credentials, as [`parse_json_credentials`] reads them.
+///
+/// # Errors
+///
+/// `MissingField`, `InvalidField` and `OutOfMemory`, as there.
 #[tactic(auto, unfolding(crate::specs::Documents::document_of))]
-fn document(alloc: Global, members: &[Member]) -> Result<JsonCredentials, InvalidJsonCredentials>
+pub fn credentials_of(
+    alloc: Global,
+    members: &[Member],
+) -> Result<JsonCredentials, InvalidJsonCredentials>
     ensures { UnlessMemory result (document_of members.now) }
 {
     let Some(code) = find_text(members, Field::Code, Field::Code) else {
@@ -232,7 +240,7 @@ pub fn parse_json_credentials(
     ensures { AnswersDocument IsTable text.now result }
 {
     let members = document_members(alloc, text.as_bytes())?;
-    document(alloc, members.list.as_slice())
+    credentials_of(alloc, members.list.as_slice())
 }
 
 // The text depends on neither the secret nor the session token.

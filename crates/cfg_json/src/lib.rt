@@ -19,7 +19,7 @@ mod white_space;
 mod writer;
 
 pub use cfg_types::{Field, FieldFault, InvalidJsonCredentials, JsonError, OutOfMemory};
-pub use credentials::{JsonCredentials, is_memory, parse_json_credentials};
+pub use credentials::{JsonCredentials, credentials_of, is_memory, parse_json_credentials};
 pub use dates::reading::{parse_date, parse_offset_date};
 pub use dates::writing::write_date;
 pub use member::{Member, MemberValue, Members};

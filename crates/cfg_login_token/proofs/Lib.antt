@@ -1,7 +1,6 @@
 pub mod LoginTexts
 pub mod Files
 pub mod Inner
-pub mod ObjectTexts
 pub mod Documents
 pub mod TextFields
 pub mod FirstObject

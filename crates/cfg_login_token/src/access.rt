@@ -5,9 +5,7 @@ ghost use Rattle.cfg_json.specs.Documents.{document_of};
 ghost use Rattle.cfg_json.specs.Places.{between as between_places};
 ghost use Rattle.cfg_login_token.specs.Access.{IsObjectText, has_object as has_object_in, holds_object, members_in, keys_of as keys_said, access_of, UnlessMemory, ReadsInner, SaysKeys, fault_said};
 
-use cfg_json::{
-    JsonCredentials, Member, MemberValue, Members, only_members, parse_json_credentials,
-};
+use cfg_json::{JsonCredentials, Member, MemberValue, Members, credentials_of, only_members};
 use cfg_types::{Instant, InvalidJsonCredentials, LoginJsonFault, LoginTokenError, Text};
 use std::alloc::Global;
 
@@ -60,10 +58,11 @@ pub fn access(alloc: Global, text: &[u8]) -> Result<AccessKeys, LoginTokenError>
     ensures { UnlessMemory result (access_of (members_in text.now)) }
 {
     let members = inner_members(alloc, text)?;
-    if holds_objects(members.list.as_slice()) {
+    let list = members.list.as_slice();
+    if holds_objects(list) {
         return Err(LoginTokenError::JsonError(LoginJsonFault::Nested));
     }
-    document_keys(alloc, text)
+    document_keys(alloc, list)
 }
 
 // They are an object, so that nothing but memory can be wanting.
@@ -93,15 +92,11 @@ fn holds_objects(members: &[Member]) -> bool
     members.iter().any(|m| has_object(&m.value))
 }
 
-// The keys in the document that the bytes are.
-fn document_keys(alloc: Global, text: &[u8]) -> Result<AccessKeys, LoginTokenError>
-    requires { IsObjectText text.now }
-    ensures { UnlessMemory result (keys_said (document_of (members_in text.now))) }
+// The keys in the document whose members these are.
+fn document_keys(alloc: Global, members: &[Member]) -> Result<AccessKeys, LoginTokenError>
+    ensures { UnlessMemory result (keys_said (document_of members.now)) }
 {
-    match str::from_utf8(text) {
-        Ok(text) => keys_in(parse_json_credentials(alloc, text)),
-        Err(_) => unreachable!(),
-    }
+    keys_in(credentials_of(alloc, members))
 }
 
 // The keys that a document has, where it was read as one that has any.

@@ -9,4 +9,4 @@ returns-in_err-members c = let p = err_from_is_err_and c.from_residual.result c.
 
 pub returns : goal.returns
 returns c =
-    fields_answer IsTable c.args.text.now c.in_ok-members.members.list (document_of c.in_ok-members.members.list) c.document.result (rw c.as_bytes.ensures.value at c.in_ok-members.ensures) refl (document_fields c.in_ok-members.members.list) (rw c.as_slice.ensures at c.document.ensures)
+    fields_answer IsTable c.args.text.now c.in_ok-members.members.list (document_of c.in_ok-members.members.list) c.credentials_of.result (rw c.as_bytes.ensures.value at c.in_ok-members.ensures) refl (document_fields c.in_ok-members.members.list) (rw c.as_slice.ensures at c.credentials_of.ensures)
