@@ -22,9 +22,9 @@ use Rattle.cfg_world.specs.Fits.{Pair}
 use Rattle.cfg_world.specs.Held.{Held}
 use Rattle.cfg_world.specs.Leaves.{assuming, granted_of}
 use Rattle.cfg_exchange.specs.SafeJournals.{AsksNoHttp}
-use Rattle.cfg_exchange.specs.Gains.{Gains}
+use Rattle.cfg_world.specs.Gains.{Gains}
 use Rattle.cfg_exchange.proofs.NoHttp.{NeverAsksHttp, begun_without}
-use Rattle.cfg_exchange.proofs.SafeJournals.{grew_by_nothing}
+use Rattle.cfg_world.proofs.Gains.{grew_by_nothing}
 use Rattle.cfg_kept.specs.Kinds.{Value, States}
 use Rattle.cfg_kept.specs.KeptInquiry.{KeptInquiry, Gives, Begins, Reads, lift}
 use Rattle.cfg_kept.proofs.Splits.{split_onwards, lowered}

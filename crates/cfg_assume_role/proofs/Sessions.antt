@@ -11,7 +11,7 @@ use Rattle.cfg_kept.proofs.CallParts.{read_of_run}
 use Rattle.cfg_kept.proofs.Told.{run_begins}
 use Rattle.cfg_providers.specs.CustomSources.{Answer}
 use Rattle.cfg_providers.specs.EnvironmentKeys.{environment}
-use Rattle.cfg_exchange.specs.Gains.{Gains}
+use Rattle.cfg_world.specs.Gains.{Gains}
 use Rattle.cfg_chain.specs.Settings.{setting}
 use Rattle.cfg_chain.proofs.MemberCauses.{resolved}
 use Rattle.cfg_chain.proofs.Sessions.{fits_first, begun_lift, begun_said, chain_reads, chain_begun_in}

@@ -12,7 +12,7 @@ use Rattle.cfg_providers.specs.CustomSources.{Answer}
 use Rattle.cfg_providers.specs.EnvironmentKeys.{environment}
 use Rattle.cfg_sso.specs.RoleRequests.{AsksNoRole}
 use Rattle.cfg_sso.proofs.NoRoleAsked.{NeverAsks, begins_without}
-use Rattle.cfg_exchange.specs.Gains.{Gains}
+use Rattle.cfg_world.specs.Gains.{Gains}
 use Rattle.cfg_chain.proofs.Sessions.{begun_said}
 use Rattle.cfg_chain.proofs.SignOns.{none_then, signs_then, chain_signs}
 use Rattle.cfg_assume_role.specs.declared.call.RoleCall.{RoleCall}

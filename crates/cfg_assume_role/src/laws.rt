@@ -3,7 +3,7 @@ ghost use Rattle.std.specs.Prelude.{List};
 ghost use Rattle.cfg_world.specs.Held.{Held};
 ghost use Rattle.cfg_kept.specs.Kinds.{Value, States};
 ghost use Rattle.cfg_providers.specs.CustomSources.{Answer};
-ghost use Rattle.cfg_exchange.specs.Gains.{Gains};
+ghost use Rattle.cfg_world.specs.Gains.{Gains};
 ghost use Rattle.cfg_assume_role.specs.declared.call.RoleCall.{RoleCall as Call};
 ghost use Rattle.cfg_assume_role.specs.Bases.{Base};
 ghost use Rattle.cfg_assume_role.specs.Provides.{Provides, Interrupted};

@@ -9,7 +9,7 @@ use Rattle.cfg_types.specs.declared.settings.CallSettings.{CallSettings}
 use Rattle.cfg_world.specs.declared.ask.Question.TheVariants.{Send}
 use Rattle.cfg_world.specs.Inquiry.{Inquiry, Done, after}
 use Rattle.cfg_world.specs.Leaves.{clock, moment_of, contents_of, reading_file, getting_role_credentials}
-use Rattle.cfg_exchange.specs.SafeJournals.{is_of_http}
+use Rattle.cfg_exchange.specs.SafeJournals.{is_http_or_look_up}
 use Rattle.cfg_exchange.proofs.NoHttp.{NeverAsksHttp, after_without}
 use Rattle.cfg_imds_credentials.proofs.NoHttp.{NeverPutsHttp, lift_without, onwards_without, holding_without}
 use Rattle.cfg_kept.specs.KeptInquiry.{Gives, lift}
@@ -47,7 +47,7 @@ cond_without : {R : Type 0} (b : Bool) (p q : Inquiry R) → NeverAsksHttp p →
 cond_without true p q n m = n
 cond_without false p q n m = m
 
-module _ {T E : Type 0} (t : Rules T E) (other : (key : TokenKey) (settings : CallSettings) (file : T) → is_of_http (Send (t.request key settings file)) ≡ false) where
+module _ {T E : Type 0} (t : Rules T E) (other : (key : TokenKey) (settings : CallSettings) (file : T) → is_http_or_look_up (Send (t.request key settings file)) ≡ false) where
   text_without : (path : List ℕ) (now : Moment) (token : T) (text : Option (List ℕ)) → NeverAsksHttp (Sections.saves_text t path now token text)
   text_without path now token None = tt
   text_without path now token (Some text) = (refl, λ a. tt)

@@ -11,9 +11,10 @@ use Rattle.cfg_world.specs.Held.{Held}
 use Rattle.cfg_world.specs.Inquiry.{Inquiry}
 use Rattle.cfg_exchange.specs.Containers.{IsContainerUri}
 use Rattle.cfg_exchange.specs.SafeJournals.{AsksNoHttp, AsksSafely}
-use Rattle.cfg_exchange.specs.Gains.{Gains}
+use Rattle.cfg_world.specs.Gains.{Gains}
 use Rattle.cfg_exchange.proofs.NoHttp.{NeverAsksHttp}
-use Rattle.cfg_exchange.proofs.SafeJournals.{none_then, part_safely, safely_behind, safely_before, unset_without, grew_by_nothing}
+use Rattle.cfg_exchange.proofs.SafeJournals.{none_then, part_safely, safely_behind, safely_before, unset_without}
+use Rattle.cfg_world.proofs.Gains.{grew_by_nothing}
 use Rattle.cfg_imds_credentials.specs.Metadata.{metadata}
 use Rattle.cfg_imds_credentials.proofs.NoHttp.{NeverPutsHttp, begins_without, lift_without, if_ok_without, metadata_without}
 use Rattle.cfg_kept.specs.Chains.{passed}

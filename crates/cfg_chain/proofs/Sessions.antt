@@ -27,7 +27,7 @@ use Rattle.cfg_login.proofs.SignInCauses.{sign_in_cause}
 use Rattle.cfg_login.proofs.LastReadings.{credentials_last}
 use Rattle.cfg_login.proofs.OtherSpots.{begins_elsewhere}
 use Rattle.cfg_chain.specs.declared.member.Member.TheVariants.{Environment, Profile}
-use Rattle.cfg_exchange.specs.Gains.{Gains}
+use Rattle.cfg_world.specs.Gains.{Gains}
 use Rattle.cfg_chain.specs.Settings.{Setting, ChainSetting, Services, names_of, setting}
 use Rattle.cfg_chain.specs.Members.{member_tree, credentials_chain, default_members, default_chain}
 use Rattle.cfg_chain.specs.Provides.{Provides, Interrupted}

@@ -24,7 +24,7 @@ use Rattle.cfg_sso.proofs.BegunRequests.{begun_sends}
 use Rattle.cfg_sso.proofs.NoRoleAsked.{NeverAsks, begins_without, onwards_without, if_ok_without}
 use Rattle.cfg_chain.specs.declared.member.Member.{Member}
 use Rattle.cfg_chain.specs.declared.member.Member.TheVariants.{Environment, Profile, WebIdentityToken, EcsContainer, Ec2InstanceMetadata}
-use Rattle.cfg_exchange.specs.Gains.{Gains}
+use Rattle.cfg_world.specs.Gains.{Gains}
 use Rattle.cfg_chain.specs.Settings.{Setting, ChainSetting, Services, container_settings, chain_metadata, names_of, setting}
 use Rattle.cfg_chain.specs.Members.{member_tree, credentials_chain, default_chain}
 use Rattle.cfg_chain.specs.Provides.{Provides, Interrupted}

@@ -42,7 +42,7 @@ ghost use Rattle.cfg_sso.specs.Tokens.{sso_key};
 ghost use Rattle.cfg_chain.specs.Provides.{IsCall, Provides, Interrupted};
 ghost use Rattle.cfg_chain.specs.BegunCalls.{IsBegunCall, HasBegun, HasEnded, CallAsksOne};
 ghost use Rattle.cfg_chain.specs.Callers.{TellsWho};
-ghost use Rattle.cfg_exchange.specs.Gains.{Gains};
+ghost use Rattle.cfg_world.specs.Gains.{Gains};
 ghost use Rattle.cfg_sso.specs.declared.config.SsoProviderConfig.{SsoProviderConfig as SignOn};
 ghost use Rattle.cfg_chain.specs.SignOns.{SignsOn};
 ghost use Rattle.cfg_chain.specs.Sessions.{ReadsSession, ChainReadsSession, StopsInSession};

@@ -26,9 +26,16 @@ fn script_of(alloc: Global, variables: &str) -> Result<String, AllocError> {
 fn word_of(alloc: Global, entry: &Entry) -> Result<String, AllocError> {
     match entry.question() {
         Question::Now => String::from_str(alloc, " now"),
-        Question::Send(Request::MetadataToken(_)) => String::from_str(alloc, " imds-token"),
-        Question::Send(Request::MetadataGet(_)) => String::from_str(alloc, " imds-get"),
-        Question::Send(Request::AssumeRole(call)) => {
+        Question::Send(request) => request_word(alloc, request.get()),
+        _ => String::from_str(alloc, " other"),
+    }
+}
+
+fn request_word(alloc: Global, request: &Request) -> Result<String, AllocError> {
+    match request {
+        Request::MetadataToken(_) => String::from_str(alloc, " imds-token"),
+        Request::MetadataGet(_) => String::from_str(alloc, " imds-get"),
+        Request::AssumeRole(call) => {
             let role = call.role_arn.as_str();
             let region = &call.settings.region;
             format!(in alloc; " {role} in {region:?}")

@@ -8,7 +8,7 @@ use Rattle.cfg_world.specs.declared.devices.Devices.{Ghosts}
 use Rattle.cfg_world.specs.Fits.{Pair}
 use Rattle.cfg_world.specs.Held.{Held}
 use Rattle.cfg_exchange.specs.SafeJournals.{AsksNoHttp}
-use Rattle.cfg_exchange.specs.Gains.{Gains}
+use Rattle.cfg_world.specs.Gains.{Gains}
 use Rattle.cfg_exchange.proofs.SafeJournals.{none_then, part_safely, unset_without}
 use Rattle.cfg_exchange.proofs.Unset.{passed_over}
 use Rattle.cfg_imds_credentials.specs.Metadata.{metadata}

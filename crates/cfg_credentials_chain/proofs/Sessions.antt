@@ -22,7 +22,7 @@ use Rattle.cfg_login.proofs.LastReadings.{credentials_last}
 use Rattle.cfg_login.proofs.OtherSpots.{lift_elsewhere, begins_elsewhere}
 use Rattle.cfg_login.proofs.SignInCauses.{sign_in_cause}
 use Rattle.cfg_sso.specs.SsoCredentials.{sso_credentials}
-use Rattle.cfg_exchange.specs.Gains.{Gains}
+use Rattle.cfg_world.specs.Gains.{Gains}
 use Rattle.cfg_chain.specs.Settings.{setting}
 use Rattle.cfg_chain.proofs.MemberCauses.{resolved}
 use Rattle.cfg_chain.proofs.OtherSessions.{Elsewhere, metadata_elsewhere, sign_on_elsewhere}

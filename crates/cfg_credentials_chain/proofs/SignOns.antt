@@ -20,7 +20,7 @@ use Rattle.cfg_login.specs.SignIns.{sign_in_credentials}
 use Rattle.cfg_sso.specs.RoleRequests.{AsksNoRole}
 use Rattle.cfg_sso.proofs.BegunRequests.{begun_sends}
 use Rattle.cfg_sso.proofs.NoRoleAsked.{NeverAsks, begins_without}
-use Rattle.cfg_exchange.specs.Gains.{Gains}
+use Rattle.cfg_world.specs.Gains.{Gains}
 use Rattle.cfg_chain.proofs.OtherBases.{sign_in_without, process_without}
 use Rattle.cfg_chain.proofs.SignOns.{profile_signs, chain_signs}
 use Rattle.cfg_chain.proofs.WithoutRoles.{web_identity_without, container_without, metadata_without}

@@ -10,7 +10,7 @@ ghost use Rattle.cfg_kept.specs.declared.kept.Kept.{Kept};
 ghost use Rattle.cfg_meta.specs.FirstAnswers.{IsFirstAnswer, IsNoneLoaded};
 ghost use Rattle.cfg_meta.specs.MemberParts.{Keeping, keeping_of, IsMemberPart, AreMemberParts, AreBegunParts, IsMemberBeginning};
 ghost use Rattle.cfg_providers.specs.CustomSources.{Answer};
-ghost use Rattle.cfg_exchange.specs.Gains.{Gains};
+ghost use Rattle.cfg_world.specs.Gains.{Gains};
 ghost use Rattle.cfg_credentials_chain.specs.Causes.{HasCause};
 ghost use Rattle.cfg_meta.specs.CredentialsAnswers.{credentials_rules};
 ghost use Rattle.cfg_credentials_chain.specs.Members.{Asked, IsMemberTree, NamedAsked, name_in, IsNamedTree};

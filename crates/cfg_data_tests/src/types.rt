@@ -1,6 +1,7 @@
 //! The tests of cfg_types, over public calls: what no clause says.
 mod addresses;
 mod errors;
+mod markers;
 mod replies;
 mod requests;
 mod shown;

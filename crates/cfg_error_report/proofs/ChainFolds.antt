@@ -1,5 +1,7 @@
 -- The lines of a chain's error, one level down.
-use Rattle.std.proofs.Common.{◌≡◌, ℕ, List, sym, ap, ◌∙◌, refl, map, [], ◌∷◌, ◌++◌, append_assoc}
+use Rattle.std.proofs.Common.{◌≡◌, ℕ, List, Option, Some, sym, ap, ◌∙◌, refl, map, [], ◌∷◌, ◌++◌, append_assoc, codes, subst}
+use Rattle.std.specs.Prelude.{IfSome}
+use Rattle.cfg_types.specs.ChainTexts as texts
 use Rattle.cfg_types.specs.declared.errors.ProviderAttempt.{ProviderAttempt}
 use Rattle.cfg_types.specs.declared.errors.ProviderChainError.{ProviderChainError}
 use Rattle.cfg_types.specs.declared.errors.NotLoadedCause.{NotLoadedCause}
@@ -12,8 +14,9 @@ use Rattle.cfg_types.specs.declared.errors.token.TokenCause.TheVariants as token
 use Rattle.cfg_types.specs.declared.errors.token.TokenError.{TokenError}
 use Rattle.cfg_types.specs.declared.errors.token.TokenCause.TheOpen.{TokenCause-F}
 use Rattle.cfg_types.specs.declared.errors.token.TokenCause.TheFolds.{fold-roll-TokenCause}
-use Rattle.cfg_error_report.specs.Lines.{Line, Telling, cause_line}
-use Rattle.cfg_error_report.specs.CredentialsCauses.{chain_words, chain_lines, members_lines, member_lines, error_level, not_loaded_level, provider_level, error_lines, not_loaded_lines}
+use Rattle.cfg_error_report.specs.Lines.{Line, Telling, cause_line, detailed}
+use Rattle.cfg_error_report.specs.Words.{known}
+use Rattle.cfg_error_report.specs.CredentialsCauses.{chain_words, chain_lines, members_lines, member_lines, error_level, not_loaded_level, provider_level, error_lines, no_container, no_role, not_loaded_lines}
 use Rattle.cfg_error_report.specs.TokenCauses.{token_cause_level, token_level, token_lines, token_cause_lines}
 
 -- an attempt with the lines of its error in the error's place
@@ -63,3 +66,29 @@ pub token_cause-behind : (c : TokenCause) (chain : ProviderChainError TokenError
 token_cause-behind c chain depth first second words old so_far e w f s is =
     chain-behind token_lines depth chain.attempts first second words old so_far w f s is
     ∙ ap (λ (l : List Line). old ++ l) (sym (token_cause-chain chain depth) ∙ ap (λ (x : TokenCause). token_cause_lines x depth) (sym e))
+
+-- ---- causes with a detail
+
+detail-told : (c : NotLoadedCause) (words detail : List ℕ) (old new : List Line) (depth : ℕ) → texts.not_loaded_text c ≡ Some words → not_loaded_lines c depth ≡ detailed (known (texts.not_loaded_text c)) detail depth
+    → IfSome (texts.not_loaded_text c) (λ t. new ≡ old ++ detailed t detail depth) → new ≡ old ++ not_loaded_lines c depth
+detail-told c words detail old new depth text lines h =
+    let told : new ≡ old ++ detailed words detail depth = subst (λ (o : Option (List ℕ)). IfSome o (λ t. new ≡ old ++ detailed t detail depth)) text h in
+    told ∙ ap (λ (l : List Line). old ++ l) (ap (λ (o : Option (List ℕ)). detailed (known o) detail depth) (sym text) ∙ sym lines)
+
+pub not_configured-told : (c : NotLoadedCause) (old new : List Line) (depth : ℕ) → c ≡ cause.NotConfigured
+    → IfSome (texts.not_loaded_text c) (λ t. new ≡ old ++ detailed t no_container depth) → new ≡ old ++ not_loaded_lines c depth
+not_configured-told c old new depth is h = rw is (
+    detail-told cause.NotConfigured (codes "ECS provider not configured") no_container old new depth
+    (ap texts.not_loaded_text (sym cause.rolls-NotConfigured) ∙ fold-roll-NotLoadedCause (Option (List ℕ)) (Option (List ℕ)) ℕ texts.credentials_line_level texts.not_loaded_level (λ _. 0) NotLoadedCause-F.NotConfigured)
+    (ap (λ (x : NotLoadedCause). not_loaded_lines x depth) (sym cause.rolls-NotConfigured)
+    ∙ ap (λ (t : Telling). t depth) (fold-roll-NotLoadedCause Telling Telling Telling error_level not_loaded_level provider_level NotLoadedCause-F.NotConfigured))
+    (rw is at h))
+
+pub no_role-told : (c : NotLoadedCause) (old new : List Line) (depth : ℕ) → c ≡ cause.MetadataNoRole
+    → IfSome (texts.not_loaded_text c) (λ t. new ≡ old ++ detailed t no_role depth) → new ≡ old ++ not_loaded_lines c depth
+no_role-told c old new depth is h = rw is (
+    detail-told cause.MetadataNoRole (codes "received 404 from IMDS") no_role old new depth
+    (ap texts.not_loaded_text (sym cause.rolls-MetadataNoRole) ∙ fold-roll-NotLoadedCause (Option (List ℕ)) (Option (List ℕ)) ℕ texts.credentials_line_level texts.not_loaded_level (λ _. 0) NotLoadedCause-F.MetadataNoRole)
+    (ap (λ (x : NotLoadedCause). not_loaded_lines x depth) (sym cause.rolls-MetadataNoRole)
+    ∙ ap (λ (t : Telling). t depth) (fold-roll-NotLoadedCause Telling Telling Telling error_level not_loaded_level provider_level NotLoadedCause-F.MetadataNoRole))
+    (rw is at h))

@@ -1,5 +1,5 @@
 pub mod ChainFolds
 pub mod ShownNames
-pub mod Cuts
+pub mod Schemes
 pub mod BlankCauses
 pub mod Told

@@ -33,12 +33,19 @@ members_lines tells depth attempts = flat_map (member_lines tells depth) attempt
 abbrev pub chain_lines : {E : Type 0} → (E → Telling) → ℕ → List (ProviderAttempt E) → List Line
 chain_lines tells depth attempts = cause_line depth (chain_words attempts) ∷ members_lines tells depth attempts
 
+-- why a container gives nothing, and instance metadata
+abbrev pub no_container : List ℕ
+no_container = codes "neither `AWS_CONTAINER_CREDENTIALS_RELATIVE_URI` nor `AWS_CONTAINER_CREDENTIALS_FULL_URI` can be read"
+
+abbrev pub no_role : List ℕ
+no_role = codes "the machine has no role: the listing of roles is not there"
+
 abbrev pub not_loaded_level : NotLoadedCause-F Telling Telling Telling → Telling
 not_loaded_level (NotLoadedCause-F.NotSet name) = detailed (known (not_loaded_text (cause.NotSet name))) (variable_words name)
 not_loaded_level (NotLoadedCause-F.Profile e) = profile_lines e
-not_loaded_level NotLoadedCause-F.NotConfigured = just (known (not_loaded_text cause.NotConfigured))
+not_loaded_level NotLoadedCause-F.NotConfigured = detailed (known (not_loaded_text cause.NotConfigured)) no_container
 not_loaded_level NotLoadedCause-F.MetadataDisabled = just (known (not_loaded_text cause.MetadataDisabled))
-not_loaded_level NotLoadedCause-F.MetadataNoRole = just (known (not_loaded_text cause.MetadataNoRole))
+not_loaded_level NotLoadedCause-F.MetadataNoRole = detailed (known (not_loaded_text cause.MetadataNoRole)) no_role
 not_loaded_level NotLoadedCause-F.MetadataUnreachable = detailed (known (not_loaded_text cause.MetadataUnreachable)) (codes "the request for a session token could not be sent")
 not_loaded_level (NotLoadedCause-F.NotLoadedCause::Custom text) = just (encode_utf8_all text)
 not_loaded_level (NotLoadedCause-F.Chain chain) = λ depth. chain_lines (λ tells. tells) depth chain.attempts

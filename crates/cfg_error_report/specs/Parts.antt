@@ -1,7 +1,7 @@
 -- The texts of errors that hold no error of their own kind: each error, and then what it comes of.
 use Rattle.std.specs.Prelude.{[], ◌∷◌, ◌++◌, codes}
 use Rattle.cfg_types.specs.CauseTexts.{config_text, fail_text, unhandled_text}
-use Rattle.cfg_types.specs.ErrorTexts.{build_text, cached_token_text, endpoint_mode_text, full_uri_text, imds_text, login_token_text, sso_token_text}
+use Rattle.cfg_types.specs.ErrorTexts.{build_text, cached_token_text, endpoint_mode_text, imds_text, login_token_text, sso_token_text}
 use Rattle.cfg_types.specs.declared.reply.FailKind.TheVariants as kind
 use Rattle.cfg_types.specs.declared.errors.ConfigCause.{ConfigCause}
 use Rattle.cfg_types.specs.declared.errors.ConfigCause.TheVariants as config
@@ -20,12 +20,12 @@ use Rattle.cfg_types.specs.declared.errors.sso.CachedSsoTokenError.TheVariants a
 use Rattle.cfg_types.specs.declared.errors.sso.SsoTokenProviderError.{SsoTokenProviderError}
 use Rattle.cfg_types.specs.declared.errors.sso.SsoTokenProviderError.TheVariants as sso
 use Rattle.cfg_error_report.specs.Lines.{Telling, nothing, followed, just, detailed, detail_line}
-use Rattle.cfg_error_report.specs.Words.{address_lines, json_fault_words, known, lifetime_words, profile_lines, quoted_address, refusal_lines, session_token_lines}
+use Rattle.cfg_error_report.specs.Words.{endpoint_lines, json_fault_words, known, lifetime_words, profile_lines, refusal_lines, scheme_lines, session_token_lines}
 
 -- what it comes of that a client of the metadata service is not built
 abbrev pub below_build : BuildError → Telling
 below_build (build.InvalidEndpointMode m) = just (endpoint_mode_text m)
-below_build (build.InvalidEndpointUri uri) = address_lines uri (codes "` is no URI with a scheme and a host")
+below_build (build.InvalidEndpointUri uri) = endpoint_lines uri
 below_build build.OutOfMemory = nothing
 
 -- why such a client is not built
@@ -80,14 +80,12 @@ login_token_lines e = followed (login_token_text e) (below_login_token e)
 -- what is wrong with the configuration
 abbrev pub config_lines : ConfigCause → Telling
 config_lines (config.Profile e) = profile_lines e
-config_lines (config.RelativeUri uri) = just (quoted_address uri (codes "` is no path of the container's endpoint"))
-config_lines (config.FullUri e uri) = address_lines uri (codes "`: " ++ full_uri_text e)
+config_lines (config.FullUri e uri) = followed (known (config_text (config.FullUri e uri))) (scheme_lines uri)
 config_lines (config.AssumeRole refusal) = followed (known (config_text (config.AssumeRole refusal))) (refusal_lines refusal)
 config_lines (config.LoginToken e) = login_token_lines e
 config_lines cause = just (known (config_text cause))
 
 -- what no rule allows for
 abbrev pub unhandled_lines : UnhandledCause → Telling
-unhandled_lines (unhandled.StsArn arn) = just (codes "the ARN in the reply of STS names no account")
 unhandled_lines (unhandled.LoginToken e) = login_token_lines e
 unhandled_lines cause = just (unhandled_text cause)

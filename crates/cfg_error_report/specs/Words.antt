@@ -3,8 +3,9 @@ use Rattle.std.specs.Prelude.{ℕ, ℤ, List, [], ◌∷◌, ◌++◌, Option, S
 use Rattle.std.specs.List.{flat_map}
 use Rattle.std.specs.Str.{encode_utf8_all, bytes_eq}
 use Rattle.std.specs.Fmt.{debug_str, signed_decimal}
-use Rattle.cfg_error_report.specs.Lines.{Telling, nothing, just, detailed, cause_line, detail_line}
-use Rattle.cfg_error_report.specs.Addresses.{shown_address, has_scheme}
+use Rattle.cfg_error_report.specs.Lines.{Telling, nothing, just, followed, detailed, detail_line}
+use Rattle.cfg_error_report.specs.Addresses.{has_scheme}
+use Rattle.cfg_types.specs.Addresses.{shown_address}
 use Rattle.cfg_base.specs.WhiteSpace.{is_blank}
 use Rattle.cfg_types.specs.CauseTexts.{ended_text, fail_text, process_text}
 use Rattle.cfg_types.specs.declared.errors.process.ProcessCause.{ProcessCause}
@@ -79,17 +80,16 @@ json_fault_words fault.ErrorDocument = codes "the member `accessToken` is the do
 abbrev pub lifetime_words : ℤ → List ℕ
 lifetime_words seconds = codes "the lifetime is " ++ (signed_decimal seconds ++ codes " seconds")
 
--- an address in backquotes, and what is wrong with it: `behind` begins with the closing backquote
-abbrev pub quoted_address : List ℕ → List ℕ → List ℕ
-quoted_address uri behind = codes "`" ++ (shown_address (encode_utf8_all uri) ++ behind)
-
 -- that an address has no scheme, where that is so
 abbrev pub scheme_lines : List ℕ → Telling
 scheme_lines address depth = if has_scheme (encode_utf8_all address) then [] else detail_line depth (codes "the scheme is missing") ∷ []
 
--- an address with what is wrong with it
-abbrev pub address_lines : List ℕ → List ℕ → Telling
-address_lines address behind depth = cause_line depth (quoted_address address behind) ∷ scheme_lines address depth
+-- an endpoint that cannot be asked
+abbrev pub endpoint_words : List ℕ → List ℕ
+endpoint_words address = codes "`" ++ (shown_address (encode_utf8_all address) ++ codes "` is no URI with a scheme and a host")
+
+abbrev pub endpoint_lines : List ℕ → Telling
+endpoint_lines address = followed (endpoint_words address) (scheme_lines address)
 
 -- why the variable of this name gives nothing
 abbrev pub variable_words : List ℕ → List ℕ

@@ -58,6 +58,20 @@ fn tell_not_loaded(
             causes.tell_detail(depth, detail.as_str())
         }
         NotLoadedCause::Profile(error) => tell_profile(causes, depth, error),
+        NotLoadedCause::NotConfigured => {
+            causes.tell_detailed(
+                depth,
+                cause,
+                "neither `AWS_CONTAINER_CREDENTIALS_RELATIVE_URI` nor `AWS_CONTAINER_CREDENTIALS_FULL_URI` can be read",
+            )
+        }
+        NotLoadedCause::MetadataNoRole => {
+            causes.tell_detailed(
+                depth,
+                cause,
+                "the machine has no role: the listing of roles is not there",
+            )
+        }
         NotLoadedCause::MetadataUnreachable => {
             causes.tell_detailed(
                 depth,

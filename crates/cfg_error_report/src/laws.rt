@@ -1,10 +1,9 @@
 //! Laws of what errors tell, each on a call that carries it.
-ghost use Rattle.std.specs.Prelude.{◌≡◌, ◌++◌, ℕ, List, Some, codes};
+ghost use Rattle.std.specs.Prelude.{◌≡◌, ℕ, List, Some};
 ghost use Rattle.cfg_types.specs.declared.errors.profile.ProfileFileError.{ProfileFileError as Told};
 ghost use Rattle.cfg_types.specs.ErrorTexts.{profile_text};
 ghost use Rattle.cfg_types.specs.declared.errors.CredentialsError.{CredentialsError as Error};
 ghost use Rattle.cfg_error_report.specs.Words.{profile_words};
-ghost use Rattle.cfg_error_report.specs.Addresses.{HasNoQuery, HasNoAt, shown_address};
 ghost use Rattle.cfg_error_report.specs.Blanks.{blanked};
 ghost use Rattle.cfg_error_report.specs.CredentialsCauses.{causes_of};
 
@@ -18,10 +17,4 @@ pub fn a_profiles_error_is_told_as_it_is_shown()
 /// reply gave: it is the same without them.
 pub fn what_is_told_is_of_no_reply()
     ensures { (error : Error) → causes_of (blanked error) ≡ causes_of error }
-{}
-
-/// An address is told without its user information and its query, whatever these are.
-pub fn an_address_is_told_without_user_information_and_query()
-    ensures { (user host query : List ℕ) → HasNoQuery user → HasNoQuery host → HasNoAt host → HasNoAt query →
-        shown_address (user ++ codes "@" ++ host ++ codes "?" ++ query) ≡ codes "..@" ++ host ++ codes ".." }
 {}

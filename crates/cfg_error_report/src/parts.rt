@@ -1,19 +1,17 @@
 //! Errors that hold no error of their own kind: each, and then what it comes of. A call adds its lines at this
 //! depth. Where memory runs out it is `OutOfMemory`, and some of them may have been added.
-ghost use Rattle.std.specs.Prelude.{◌≡◌, ◌++◌, OnOk, codes};
-ghost use Rattle.cfg_types.specs.ErrorTexts.{full_uri_text};
-ghost use Rattle.cfg_error_report.specs.Words.{address_lines};
+ghost use Rattle.std.specs.Prelude.{◌≡◌, ◌++◌, OnOk};
 ghost use Rattle.cfg_error_report.specs.Parts.{build_lines, below_build, unexpected_lines, below_imds, imds_lines, cached_token_lines, below_sso_token, sso_token_lines, below_login_token, login_token_lines, config_lines, unhandled_lines};
 
 use crate::lines::Causes;
 use crate::words::{
-    json_fault, lifetime, tell_address, tell_endpoint, tell_profile, tell_refusal,
+    json_fault, lifetime, tell_endpoint, tell_profile, tell_refusal, tell_scheme,
     tell_session_token,
 };
 use cfg_types::imds::{BuildError, ImdsError, UnexpectedCause};
 use cfg_types::{
-    CachedSsoTokenError, ConfigCause, FailKind, InvalidFullUriError, LoginTokenError, OutOfMemory,
-    SsoTokenProviderError, Text, UnhandledCause,
+    CachedSsoTokenError, ConfigCause, FailKind, LoginTokenError, OutOfMemory,
+    SsoTokenProviderError, UnhandledCause,
 };
 
 /// What is wrong with the configuration.
@@ -26,15 +24,10 @@ pub fn tell_config(
 {
     match cause {
         ConfigCause::Profile(error) => tell_profile(causes, depth, error),
-        ConfigCause::RelativeUri(uri) => {
-            tell_address(
-                causes,
-                depth,
-                uri,
-                "` is no path of the container's endpoint",
-            )
+        ConfigCause::FullUri { error: _, uri } => {
+            causes.tell(depth, cause)?;
+            tell_scheme(causes, depth, uri)
         }
-        ConfigCause::FullUri { error, uri } => tell_full_uri(causes, depth, *error, uri),
         ConfigCause::AssumeRole(kind) => {
             causes.tell(depth, cause)?;
             tell_refusal(causes, depth, *kind)
@@ -42,18 +35,6 @@ pub fn tell_config(
         ConfigCause::LoginToken(error) => tell_login_token(causes, depth, error),
         _ => causes.tell(depth, cause),
     }
-}
-
-fn tell_full_uri(
-    causes: &mut Causes,
-    depth: usize,
-    error: InvalidFullUriError,
-    uri: &Text,
-) -> Result<(), OutOfMemory>
-    ensures { OnOk result (causes.new ≡ causes.old ++ address_lines uri.now (codes "`: " ++ full_uri_text error) depth) }
-{
-    let behind = format!(in causes.alloc(); "`: {error}")?;
-    tell_endpoint(causes, depth, uri, behind.as_str())
 }
 
 /// What no rule allows for.
@@ -65,10 +46,6 @@ pub fn tell_unhandled(
     ensures { OnOk result (causes.new ≡ causes.old ++ unhandled_lines cause.now depth) }
 {
     match cause {
-        // The ARN is what a reply gave.
-        UnhandledCause::StsArn(_) => {
-            causes.tell_words(depth, "the ARN in the reply of STS names no account")
-        }
         UnhandledCause::LoginToken(error) => tell_login_token(causes, depth, error),
         _ => causes.tell(depth, cause),
     }
@@ -201,9 +178,7 @@ fn tell_below_build(
 {
     match error {
         BuildError::InvalidEndpointMode(error) => causes.tell(depth, error),
-        BuildError::InvalidEndpointUri(uri) => {
-            tell_endpoint(causes, depth, uri, "` is no URI with a scheme and a host")
-        }
+        BuildError::InvalidEndpointUri(uri) => { tell_endpoint(causes, depth, uri) }
         BuildError::OutOfMemory => Ok(()),
     }
 }

@@ -7,14 +7,14 @@ ghost use Rattle.std.specs.Char.{is_ascii as is_ascii_byte};
 ghost use Rattle.cfg_types.specs.CauseTexts.{ended_text};
 ghost use Rattle.cfg_error_report.specs.Lines.{cause_line, detailed, followed};
 ghost use Rattle.cfg_types.specs.ProviderTexts.{provider_text};
-ghost use Rattle.cfg_error_report.specs.Words.{quoted, later_quoted, quoted_names, loop_words as loop_words_of, profile_lines, refusal_lines, session_token_lines, json_fault_words, lifetime_words, quoted_address, address_lines, scheme_lines, variable_words as variable_words_of, blank_words as blank_words_of, process_lines};
+ghost use Rattle.cfg_error_report.specs.Words.{quoted, later_quoted, quoted_names, loop_words as loop_words_of, profile_lines, refusal_lines, session_token_lines, json_fault_words, lifetime_words, endpoint_lines, endpoint_words as endpoint_words_of, scheme_lines, variable_words as variable_words_of, blank_words as blank_words_of, process_lines};
 
-use crate::addresses::{has_scheme, write_address};
+use crate::addresses::has_scheme;
 use crate::lines::Causes;
 use cfg_types::imds::{FailedToLoadToken, TokenError};
 use cfg_types::{
-    LoginJsonFault, OutOfMemory, ProcessCause, ProfileFileError, ProviderCause, RefusalKind, Text,
-    is_blank,
+    LoginJsonFault, OutOfMemory, ProcessCause, ProfileFileError, ProviderCause, RefusalKind,
+    ShownAddress, Text, is_blank,
 };
 use std::alloc::Global;
 
@@ -165,36 +165,24 @@ pub fn lifetime(alloc: Global, seconds: i64) -> Result<String, OutOfMemory>
     Ok(format!(in alloc; "the lifetime is {seconds} seconds")?)
 }
 
-/// An address in backquotes, without user information and query, and what is wrong with it: `behind` begins with
-/// the closing backquote.
-pub fn tell_address(
-    causes: &mut Causes,
-    depth: usize,
-    address: &Text,
-    behind: &str,
-) -> Result<(), OutOfMemory>
-    ensures { OnOk result (causes.new ≡ causes.old ++ cause_line depth (quoted_address address.now behind.now) ∷ []) }
+/// An endpoint that cannot be asked, without user information and query, and whether its scheme is missing.
+pub fn tell_endpoint(causes: &mut Causes, depth: usize, address: &Text) -> Result<(), OutOfMemory>
+    ensures { OnOk result (causes.new ≡ causes.old ++ endpoint_lines address.now depth) }
 {
-    let mut words = String::from_str(causes.alloc(), "`")?;
-    write_address(&mut words, address.as_str())?;
-    words.push_str(behind)?;
-    causes.tell_text(depth, words)
-}
-
-/// The same of an address that has to have a scheme, and whether it has none.
-pub fn tell_endpoint(
-    causes: &mut Causes,
-    depth: usize,
-    address: &Text,
-    behind: &str,
-) -> Result<(), OutOfMemory>
-    ensures { OnOk result (causes.new ≡ causes.old ++ address_lines address.now behind.now depth) }
-{
-    tell_address(causes, depth, address, behind)?;
+    let words = endpoint_words(causes.alloc(), address)?;
+    causes.tell_text(depth, words)?;
     tell_scheme(causes, depth, address)
 }
 
-fn tell_scheme(causes: &mut Causes, depth: usize, address: &Text) -> Result<(), OutOfMemory>
+fn endpoint_words(alloc: Global, address: &Text) -> Result<String, OutOfMemory>
+    ensures { IfOk result (λ words. string_bytes words ≡ endpoint_words_of address.now) }
+{
+    let shown = ShownAddress(address);
+    Ok(format!(in alloc; "`{shown}` is no URI with a scheme and a host")?)
+}
+
+/// That the scheme of an address is missing, where it is.
+pub fn tell_scheme(causes: &mut Causes, depth: usize, address: &Text) -> Result<(), OutOfMemory>
     ensures { OnOk result (causes.new ≡ causes.old ++ scheme_lines address.now depth) }
 {
     if has_scheme(address.as_str()) {

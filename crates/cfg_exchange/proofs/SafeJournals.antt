@@ -12,8 +12,7 @@ use Rattle.cfg_exchange.specs.declared.container.ContainerUri.{ContainerUri}
 use Rattle.cfg_exchange.specs.Containers.{token_file, IsContainerUri, container}
 use Rattle.cfg_exchange.specs.ContainerUnset.{IsTokenPart, IsUnset}
 use Rattle.cfg_exchange.specs.ContainerRequests.{look_ups, IsSafeQuestion}
-use Rattle.cfg_exchange.specs.SafeJournals.{IsSafeHttp, is_of_http, AsksNoHttp, AsksSafely}
-use Rattle.cfg_exchange.specs.Gains.{Gains}
+use Rattle.cfg_exchange.specs.SafeJournals.{IsSafeHttp, is_http_or_look_up, AsksNoHttp, AsksSafely}
 use Rattle.cfg_exchange.proofs.SafeRequests.{requests_safe}
 
 pub none_then : (one other : List Pair) → AsksNoHttp one → AsksNoHttp other → AsksNoHttp (one ++ other)
@@ -21,7 +20,7 @@ none_then [] other h k = k
 none_then (e ∷ one) other h k = (h.0, none_then one other h.1 k)
 
 module _ (env : Variables) (found : List Pair) where
-  free_safe : (q : Question) → is_of_http q ≡ false → IsSafeHttp env found q
+  free_safe : (q : Question) → is_http_or_look_up q ≡ false → IsSafeHttp env found q
   free_safe (question.Send (request.Http call)) h = absurd cc
   free_safe _ h = tt
 
@@ -99,7 +98,3 @@ token_without None part h = subst AsksNoHttp (sym h) tt
 
 pub unset_without : (env : Variables) (part : List Pair) → IsUnset env part → AsksNoHttp part
 unset_without env part h = token_without (token_file env) part h.asks
-
--- a journal that grew by nothing
-pub grew_by_nothing : (Holds : List Pair → Type 0) (before later : List Pair) → later ≡ before → Holds [] → Gains before later Holds
-grew_by_nothing Holds before later same holds = record { part = []; grows = same ∙ sym (append-nil before); said = holds }

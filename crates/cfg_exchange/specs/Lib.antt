@@ -15,4 +15,3 @@ pub mod ContainerCauses
 pub mod ContainerUnset
 pub mod ContainerRequests
 pub mod SafeJournals
-pub mod Gains

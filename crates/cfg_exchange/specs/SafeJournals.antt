@@ -18,14 +18,14 @@ IsSafeHttp env found (question.Send (request.Http call)) = IsSafeRequest env fou
 IsSafeHttp env found _ = Unit {0}
 
 -- an `Http` request, or a look-up of a host
-abbrev pub is_of_http : Question → Bool
-is_of_http (question.Send (request.Http call)) = true
-is_of_http (question.LookUp host) = true
-is_of_http _ = false
+abbrev pub is_http_or_look_up : Question → Bool
+is_http_or_look_up (question.Send (request.Http call)) = true
+is_http_or_look_up (question.LookUp host) = true
+is_http_or_look_up _ = false
 
 -- No entry is an `Http` request or a look-up.
 abbrev pub AsksNoHttp : List Pair → Type 0
-AsksNoHttp part = AllByRecursion (λ e. is_of_http e.0 ≡ false) part
+AsksNoHttp part = AllByRecursion (λ e. is_http_or_look_up e.0 ≡ false) part
 
 -- One piece of the stretch is a container's part, whole or begun, at what the variables name. All `Http`
 -- requests and all look-ups stand in this piece. Each request goes to a target that is safe over its look-ups.

@@ -95,7 +95,7 @@ fn attempt<A: Asking>(alloc: Global, request: &Request, asking: &mut A) -> Resul
     ensures asks { IfOk result (λ e. e.0 ≡ Question.Send request.now) }
 {
     let request = request.copy(alloc)?;
-    asking.put(Question::Send(request))
+    asking.put(Question::send(alloc, request)?)
 }
 
 // Whether an attempt with this answer is repeated, and what its document says, where that was read.

@@ -12,7 +12,7 @@ use Rattle.cfg_exchange.specs.declared.reading.ReplyKind.{ReplyKind}
 use Rattle.cfg_exchange.specs.declared.reading.ReplyKind.TheVariants as kind
 use Rattle.cfg_exchange.specs.Attempts.{asked}
 use Rattle.cfg_exchange.specs.Classifiers.{is_repeated}
-use Rattle.cfg_exchange.specs.SafeJournals.{is_of_http, AsksNoHttp}
+use Rattle.cfg_exchange.specs.SafeJournals.{is_http_or_look_up, AsksNoHttp}
 use Rattle.cfg_exchange.proofs.NoHttp.{NeverAsksHttp, after_without, either_without, attempts_without}
 use Rattle.cfg_imds.specs.Clients.{ClientRules, place_of, settle, fetch, usable_error}
 use Rattle.cfg_imds.specs.Fetches.{fetched, fetch_at}
@@ -32,7 +32,7 @@ use Rattle.cfg_imds_credentials.specs.Settings.{MetadataSetting}
 -- None of the tree's questions is such a request or look-up, whatever is answered and found.
 abbrev pub NeverPutsHttp : {R : Type 0} → KeptInquiry R → Type 0
 NeverPutsHttp (Gives r) = Unit {0}
-NeverPutsHttp (Puts q next) = (is_of_http q ≡ false) × ((a : Given) → NeverPutsHttp (next a))
+NeverPutsHttp (Puts q next) = (is_http_or_look_up q ≡ false) × ((a : Given) → NeverPutsHttp (next a))
 NeverPutsHttp (Finds spot next) = (v : Value) → NeverPutsHttp (next v)
 NeverPutsHttp (Leaves v rest) = NeverPutsHttp rest
 
@@ -43,7 +43,7 @@ begins_without (Gives r) old new (f ∷ found) part n h = absurd h
 begins_without (Puts q next) old new [] [] n h = tt
 begins_without (Puts q next) old new (f ∷ found) [] n h = absurd h
 begins_without (Puts q next) old new found (e ∷ part) n h =
-    (subst (λ x. is_of_http x ≡ false) (sym h.0) n.0, begins_without (next e.1) old new found part (n.1 e.1) h.1)
+    (subst (λ x. is_http_or_look_up x ≡ false) (sym h.0) n.0, begins_without (next e.1) old new found part (n.1 e.1) h.1)
 begins_without (Finds spot next) old new [] [] n h = tt
 begins_without (Finds spot next) old new [] (e ∷ part) n h = absurd h
 begins_without (Finds spot next) old new (f ∷ found) part n h = begins_without (next f) old new found part (n f) h.2
@@ -77,7 +77,7 @@ holding_without spot at asks n = λ v. onwards_without (lift (asks v)) (left_by 
 
 -- ---- instance metadata
 
-tries_without : (s : Service) (k : ReplyKind) (r : Request) → is_of_http (Send r) ≡ false → NeverAsksHttp (tries s k r)
+tries_without : (s : Service) (k : ReplyKind) (r : Request) → is_http_or_look_up (Send r) ≡ false → NeverAsksHttp (tries s k r)
 unfolding tries
 tries_without s k r n = attempts_without (s.settings.max_attempts - 1) (Send r) (is_repeated k s.repeats) n
 

@@ -115,7 +115,7 @@ fn is_assume_role(question: &Question) -> bool
     ensures { result ≡ is_assume_role_of question.now }
 {
     match question {
-        Question::Send(Request::AssumeRole(_)) => true,
+        Question::Send(request) => matches!(request.get(), Request::AssumeRole(_)),
         _ => false,
     }
 }
@@ -193,7 +193,7 @@ fn question_name(question: &Question) -> &'static [u8]
         Question::Write { .. } => b"write",
         Question::Run { .. } => b"run",
         Question::LookUp { .. } => b"lookup",
-        Question::Send(request) => request_name(request),
+        Question::Send(request) => request_name(request.get()),
     }
 }
 

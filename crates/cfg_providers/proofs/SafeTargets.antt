@@ -6,9 +6,10 @@ use Rattle.cfg_world.specs.declared.devices.Devices.{Ghosts}
 use Rattle.cfg_world.specs.Fits.{Pair}
 use Rattle.cfg_world.specs.Held.{Held}
 use Rattle.cfg_exchange.specs.SafeJournals.{AsksSafely}
-use Rattle.cfg_exchange.specs.Gains.{Gains}
+use Rattle.cfg_world.specs.Gains.{Gains}
 use Rattle.cfg_exchange.proofs.Checks.{read_begun}
-use Rattle.cfg_exchange.proofs.SafeJournals.{part_safely, grew_by_nothing}
+use Rattle.cfg_exchange.proofs.SafeJournals.{part_safely}
+use Rattle.cfg_world.proofs.Gains.{grew_by_nothing}
 use Rattle.cfg_providers.specs.ContainerSetups.{ContainerSetup, settings_in, asks_container, ProvidesContainer, InterruptedContainer}
 
 module _ {D : Type 0} (d : Ghosts D) (setup : ContainerSetup) (before later : Held D) where

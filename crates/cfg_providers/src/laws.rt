@@ -10,7 +10,7 @@ ghost use Rattle.cfg_world.specs.Fits.{Pair};
 ghost use Rattle.cfg_world.specs.Held.{Held};
 ghost use Rattle.cfg_world.specs.Inquiry.{Reads};
 ghost use Rattle.cfg_exchange.specs.SafeJournals.{AsksSafely};
-ghost use Rattle.cfg_exchange.specs.Gains.{Gains};
+ghost use Rattle.cfg_world.specs.Gains.{Gains};
 ghost use Rattle.cfg_profile.specs.Configuration.{Configuration};
 ghost use Rattle.cfg_profile.specs.Laws.{lowered};
 ghost use Rattle.cfg_profile.specs.NamedSources.{is_named, is_custom};

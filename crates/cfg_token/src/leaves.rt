@@ -73,7 +73,7 @@ pub fn ask_renewal<T: FileToken, A: Asking>(
         asking.old receipts.old.items asking.new receipts.new.items result }
 {
     let request = file.refresh_request(alloc, key, settings)?;
-    let receipt = asking.put(Question::Send(request))?;
+    let receipt = asking.put(Question::send(alloc, request)?)?;
     let renewal = file.renew(alloc, key, now, receipt.entry().answer())?;
     note_receipt(receipts, receipt)?;
     Ok(renewal)

@@ -3,3 +3,4 @@ mod Escapes
 pub mod ChainLines
 pub mod ChainFolds
 pub mod TokenChainFolds
+mod Cuts

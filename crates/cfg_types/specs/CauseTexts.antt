@@ -2,6 +2,7 @@
 use Rattle.std.specs.Prelude.{ℕ, ℤ, List, ◌++◌, Option, Some, None, codes}
 use Rattle.std.specs.Str.{encode_utf8_all}
 use Rattle.std.specs.Fmt.{signed_decimal}
+use Rattle.cfg_types.specs.Addresses.{shown_address}
 use Rattle.cfg_types.specs.DocumentText.{invalid_credentials_text}
 use Rattle.cfg_types.specs.ErrorTexts.{full_uri_text, login_token_text, profile_text}
 use Rattle.cfg_types.specs.declared.reply.FailKind.{FailKind}
@@ -42,8 +43,8 @@ process_text (process.Document e) = invalid_credentials_text e
 -- what is wrong with the configuration
 abbrev pub config_text : ConfigCause → Option (List ℕ)
 config_text (config.Profile e) = profile_text e
-config_text (config.RelativeUri uri) = Some (codes "`" ++ (encode_utf8_all uri ++ codes "` is no path of the container's endpoint"))
-config_text (config.FullUri e uri) = Some ((codes "`" ++ (encode_utf8_all uri ++ codes "`: ")) ++ full_uri_text e)
+config_text (config.RelativeUri uri) = Some (codes "`" ++ (shown_address (encode_utf8_all uri) ++ codes "` is no path of the container's endpoint"))
+config_text (config.FullUri e uri) = Some (codes "`" ++ (shown_address (encode_utf8_all uri) ++ (codes "`: " ++ full_uri_text e)))
 config_text config.AuthToken = Some (codes "the authorization is no header value")
 config_text (config.MetadataRole code m) = Some (codes "IMDS answered `" ++ (encode_utf8_all code ++ (codes "`: " ++ encode_utf8_all m)))
 config_text (config.AssumeRole refusal) = Some (codes "the call of AssumeRole is refused")
@@ -57,7 +58,7 @@ unhandled_text unhandled.NotUtf8 = codes "a file or a reply is not UTF-8"
 unhandled_text (unhandled.NoDocument e) = invalid_credentials_text e
 unhandled_text (unhandled.Sent k) = fail_text k
 unhandled_text unhandled.StsNoCredentials = codes "the reply of STS has no credentials"
-unhandled_text (unhandled.StsArn arn) = codes "`" ++ (encode_utf8_all arn ++ codes "` names no account")
+unhandled_text (unhandled.StsArn arn) = codes "the ARN in the reply of STS names no account"
 unhandled_text unhandled.SsoNoCredentials = codes "the reply of IAM Identity Center has no credentials"
 unhandled_text unhandled.SsoNoAccessKey = codes "the credentials of IAM Identity Center have no access key"
 unhandled_text unhandled.SsoNoSecretKey = codes "the credentials of IAM Identity Center have no secret key"

@@ -3,6 +3,16 @@ use Rattle.std.specs.Prelude.{ℕ, ℤ, List, [], ◌++◌, Option, Some, None, 
 use Rattle.std.specs.Str.{encode_utf8_all}
 use Rattle.std.specs.Fmt.{decimal, signed_decimal}
 use Rattle.cfg_base.specs.Moment.{Moment}
+use Rattle.cfg_types.specs.Addresses.{shown_address}
+use Rattle.cfg_types.specs.ErrorTexts.{full_uri_text}
+use Rattle.cfg_types.specs.declared.errors.ConfigCause.{ConfigCause}
+use Rattle.cfg_types.specs.declared.errors.ConfigCause.TheVariants as config
+use Rattle.cfg_types.specs.declared.errors.UnhandledCause.{UnhandledCause}
+use Rattle.cfg_types.specs.declared.errors.UnhandledCause.TheVariants as unhandled
+use Rattle.cfg_types.specs.declared.errors.imds.BuildError.{BuildError}
+use Rattle.cfg_types.specs.declared.errors.imds.BuildError.TheVariants as build
+use Rattle.cfg_types.specs.declared.errors.imds.UnexpectedCause.{UnexpectedCause}
+use Rattle.cfg_types.specs.declared.errors.imds.UnexpectedCause.TheVariants as unexpected
 
 -- how the Debug text tells when credentials expire
 abbrev pub shown_expiry : Option Moment → List ℕ
@@ -70,3 +80,24 @@ shown_token_reply seconds = codes "TokenReply { secrets: \"** redacted **\", exp
 -- what a command left behind
 abbrev pub shown_finished : ℤ → List ℕ
 shown_finished status = codes "Finished { status: " ++ (signed_decimal status ++ codes ", secrets: \"** redacted **\" }")
+
+-- what is wrong with the configuration, where the text is of what may hold a secret: an address as it is shown
+abbrev pub shown_config : ConfigCause → Option (List ℕ)
+shown_config (config.RelativeUri uri) = Some (codes "RelativeUri(" ++ (shown_address (encode_utf8_all uri) ++ codes ")"))
+shown_config (config.FullUri e uri) = Some (codes "FullUri(" ++ (shown_address (encode_utf8_all uri) ++ (codes ": " ++ (full_uri_text e ++ codes ")"))))
+shown_config cause = None
+
+-- an address of the metadata service that is none, as it is shown
+abbrev pub shown_build : BuildError → Option (List ℕ)
+shown_build (build.InvalidEndpointUri uri) = Some (codes "InvalidEndpointUri(" ++ (shown_address (encode_utf8_all uri) ++ codes ")"))
+shown_build e = None
+
+-- no path
+abbrev pub shown_unexpected : UnexpectedCause → Option (List ℕ)
+shown_unexpected (unexpected.Path path) = Some (codes "Path(\"** redacted **\")")
+shown_unexpected cause = None
+
+-- no ARN of a reply
+abbrev pub shown_unhandled : UnhandledCause → Option (List ℕ)
+shown_unhandled (unhandled.StsArn arn) = Some (codes "StsArn(\"** redacted **\")")
+shown_unhandled cause = None

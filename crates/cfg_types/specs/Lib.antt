@@ -11,6 +11,7 @@ pub mod Tokens
 pub mod Replies
 pub mod ErrorTexts
 pub mod Commands
+pub mod Addresses
 pub mod CauseTexts
 pub mod ChainTexts
 pub mod TokenChainTexts

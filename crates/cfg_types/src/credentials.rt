@@ -3,7 +3,7 @@ ghost use Rattle.std.specs.Prelude.{◌≡◌, ◌++◌, ◌∷◌, IfOk, OnOk, 
 ghost use Rattle.std.specs.Str.{encode_utf8_all};
 ghost use Rattle.cfg_base.specs.Text.{characters};
 
-use cfg_base::{Instant, OutOfMemory, Seq, Text, TryCopy, copy_option};
+use cfg_base::{Instant, OutOfMemory, Seq, Shared, Text, TryCopy};
 use std::alloc::Global;
 use std::fmt;
 use std::marker::Model;
@@ -92,15 +92,21 @@ pub enum AwsCredentialFeature {
     CredentialsStsAssumeRole,
 }
 
-/// Keys that sign requests, with what is known of them.
-#[derive(PartialEq, Eq)]
-pub struct Credentials {
+// What credentials and their copies share.
+#[derive(PartialEq, Eq, Drop)]
+struct SharedKeys {
     access_key_id: Text,
     secret_access_key: Text,
     session_token: Option<Text>,
     expiry: Option<Instant>,
     account_id: Option<AccountId>,
     provider_name: Text,
+}
+
+/// Keys that sign requests, with what is known of them. A copy shares them with its source.
+#[derive(PartialEq, Eq)]
+pub struct Credentials {
+    keys: Shared<SharedKeys>,
     features: Seq<AwsCredentialFeature>,
 }
 
@@ -110,22 +116,24 @@ impl Model for Credentials {
     ghost Value = { Keys };
 
     ghost view = { λ c. record {
-      access_key_id = c.access_key_id;
-      secret_access_key = c.secret_access_key;
-      session_token = c.session_token;
-      expiry = c.expiry;
-      account_id = c.account_id;
-      provider_name = c.provider_name;
+      access_key_id = c.keys.access_key_id;
+      secret_access_key = c.keys.secret_access_key;
+      session_token = c.keys.session_token;
+      expiry = c.keys.expiry;
+      account_id = c.keys.account_id;
+      provider_name = c.keys.provider_name;
       features = c.features;
     } };
 
     ghost inverse = { λ k. record {
-      access_key_id = k.access_key_id;
-      secret_access_key = k.secret_access_key;
-      session_token = k.session_token;
-      expiry = k.expiry;
-      account_id = k.account_id;
-      provider_name = k.provider_name;
+      keys = record {
+        access_key_id = k.access_key_id;
+        secret_access_key = k.secret_access_key;
+        session_token = k.session_token;
+        expiry = k.expiry;
+        account_id = k.account_id;
+        provider_name = k.provider_name;
+      };
       features = k.features;
     } };
 }
@@ -134,12 +142,7 @@ impl Model for Credentials {
 impl Drop for Credentials {
     fn drop(self) {
         let Credentials {
-            access_key_id: _,
-            secret_access_key: _,
-            session_token: _,
-            expiry: _,
-            account_id: _,
-            provider_name: _,
+            keys: _,
             features: _,
         } = self;
     }
@@ -151,7 +154,7 @@ impl Credentials {
         ensures chars { characters result.now ≡ self.now.access_key_id }
         ensures bytes { result.now ≡ encode_utf8_all self.now.access_key_id }
     {
-        self.access_key_id.as_str()
+        self.keys.get().access_key_id.as_str()
     }
 
     /// The secret of the access key.
@@ -159,7 +162,7 @@ impl Credentials {
         ensures chars { characters result.now ≡ self.now.secret_access_key }
         ensures bytes { result.now ≡ encode_utf8_all self.now.secret_access_key }
     {
-        self.secret_access_key.as_str()
+        self.keys.get().secret_access_key.as_str()
     }
 
     /// The session token, where there is one.
@@ -167,7 +170,7 @@ impl Credentials {
         ensures chars { option_map (λ t. characters t.now) result ≡ self.now.session_token }
         ensures bytes { option_map (λ t. t.now) result ≡ option_map encode_utf8_all self.now.session_token }
     {
-        match &self.session_token {
+        match &self.keys.get().session_token {
             None => None,
             Some(token) => Some(token.as_str()),
         }
@@ -177,21 +180,21 @@ impl Credentials {
     pub fn expiry(&self) -> Option<Instant>
         ensures { result ≡ self.now.expiry }
     {
-        self.expiry
+        self.keys.get().expiry
     }
 
     /// The account that they belong to, where it is known.
     pub fn account_id(&self) -> Option<&AccountId>
         ensures { option_map (λ a. a.now) result ≡ self.now.account_id }
     {
-        self.account_id.as_ref()
+        self.keys.get().account_id.as_ref()
     }
 
     // The text of the account's id, where the account is known.
     fn account_text(&self) -> Option<&Text>
         ensures { option_map (λ t. t.now) result ≡ self.now.account_id }
     {
-        match &self.account_id {
+        match &self.keys.get().account_id {
             None => None,
             Some(account) => Some(account.text()),
         }
@@ -202,7 +205,7 @@ impl Credentials {
         ensures chars { characters result.now ≡ self.now.provider_name }
         ensures bytes { result.now ≡ encode_utf8_all self.now.provider_name }
     {
-        self.provider_name.as_str()
+        self.keys.get().provider_name.as_str()
     }
 
     /// Where they came from, the feature that was added last at the end.
@@ -231,10 +234,10 @@ impl fmt::Debug for Credentials {
 
     fn fmt<W: fmt::Write>(&self, f: &mut fmt::Formatter<W>) -> fmt::Result {
         let keys = ShownKey {
-            provider: &self.provider_name,
-            id: &self.access_key_id,
+            provider: &self.keys.get().provider_name,
+            id: &self.keys.get().access_key_id,
         };
-        let end = ShownExpiry(self.expiry);
+        let end = ShownExpiry(self.expiry());
         let account = ShownAccount(self.account_text());
         write!(f, "Credentials {{ {keys}{end}{account} }}")
     }
@@ -307,20 +310,9 @@ impl fmt::Display for ShownAccount<'_> {
 
 impl TryCopy for Credentials {
     fn copy(&self, alloc: Global) -> Result<Credentials, OutOfMemory> {
-        let access_key_id = self.access_key_id.copy(alloc)?;
-        let secret_access_key = self.secret_access_key.copy(alloc)?;
-        let session_token = copy_option(alloc, &self.session_token)?;
-        let account_id = copy_option(alloc, &self.account_id)?;
-        let provider_name = self.provider_name.copy(alloc)?;
-        let features = self.features.copy(alloc)?;
         Ok(Credentials {
-            access_key_id,
-            secret_access_key,
-            session_token,
-            expiry: self.expiry,
-            account_id,
-            provider_name,
-            features,
+            keys: self.keys.copy(alloc)?,
+            features: self.features.copy(alloc)?,
         })
     }
 }
@@ -330,7 +322,8 @@ impl TryCopy for Credentials {
 #[derive(Drop)]
 pub struct CredentialsBuilder {
     alloc: Global,
-    built: Credentials,
+    keys: SharedKeys,
+    features: Seq<AwsCredentialFeature>,
 }
 
 impl Model for CredentialsBuilder {
@@ -338,7 +331,15 @@ impl Model for CredentialsBuilder {
 
     ghost Value = { Keys };
 
-    ghost view = { λ b. b.built };
+    ghost view = { λ b. record {
+      access_key_id = b.keys.access_key_id;
+      secret_access_key = b.keys.secret_access_key;
+      session_token = b.keys.session_token;
+      expiry = b.keys.expiry;
+      account_id = b.keys.account_id;
+      provider_name = b.keys.provider_name;
+      features = b.features;
+    } };
 }
 
 impl CredentialsBuilder {
@@ -359,25 +360,24 @@ impl CredentialsBuilder {
         let provider_name = Text::of(alloc, provider_name)?;
         Ok(CredentialsBuilder {
             alloc,
-            built: Credentials {
+            keys: SharedKeys {
                 access_key_id,
                 secret_access_key,
                 session_token: None,
                 expiry: None,
                 account_id: None,
                 provider_name,
-                features: Seq::of(Vec::new(alloc)),
             },
+            features: Seq::of(Vec::new(alloc)),
         })
     }
 
     /// With this session token. `OutOfMemory` where memory runs out.
-    pub fn session_token(self, token: &str) -> Result<CredentialsBuilder, OutOfMemory>
+    pub fn session_token(mut self, token: &str) -> Result<CredentialsBuilder, OutOfMemory>
         ensures { IfOk result (λ b. b ≡ record self { session_token = Some (characters token.now) }) }
     {
-        let CredentialsBuilder { alloc, mut built } = self;
-        built.session_token = Some(Text::of(alloc, token)?);
-        Ok(CredentialsBuilder { alloc, built })
+        self.keys.session_token = Some(Text::of(self.alloc, token)?);
+        Ok(self)
     }
 
     /// Sets the session token, or none.
@@ -385,7 +385,7 @@ impl CredentialsBuilder {
         ensures value { result.now ≡ record self.old { session_token = token } }
         ensures lent { result.ghost_name ≡ self.entry.ghost_name }
     {
-        self.built.session_token = token;
+        self.keys.session_token = token;
         self
     }
 
@@ -394,7 +394,7 @@ impl CredentialsBuilder {
         ensures value { result.now ≡ record self.old { expiry = expiry } }
         ensures lent { result.ghost_name ≡ self.entry.ghost_name }
     {
-        self.built.expiry = expiry;
+        self.keys.expiry = expiry;
         self
     }
 
@@ -403,44 +403,46 @@ impl CredentialsBuilder {
         ensures value { result.now ≡ record self.old { account_id = account_id } }
         ensures lent { result.ghost_name ≡ self.entry.ghost_name }
     {
-        self.built.account_id = account_id;
+        self.keys.account_id = account_id;
         self
     }
 
     /// With this expiry.
-    pub fn expiry(self, expiry: Instant) -> CredentialsBuilder
+    pub fn expiry(mut self, expiry: Instant) -> CredentialsBuilder
         ensures { result ≡ record self { expiry = Some expiry } }
     {
-        let CredentialsBuilder { alloc, mut built } = self;
-        built.expiry = Some(expiry);
-        CredentialsBuilder { alloc, built }
+        self.keys.expiry = Some(expiry);
+        self
     }
 
     /// With this account.
-    pub fn account_id(self, account_id: AccountId) -> CredentialsBuilder
+    pub fn account_id(mut self, account_id: AccountId) -> CredentialsBuilder
         ensures { result ≡ record self { account_id = Some account_id } }
     {
-        let CredentialsBuilder { alloc, mut built } = self;
-        built.account_id = Some(account_id);
-        CredentialsBuilder { alloc, built }
+        self.keys.account_id = Some(account_id);
+        self
     }
 
     /// With these features, in place of those that it had.
-    pub fn features(self, features: Seq<AwsCredentialFeature>) -> CredentialsBuilder
+    pub fn features(mut self, features: Seq<AwsCredentialFeature>) -> CredentialsBuilder
         ensures { result ≡ record self { features = features } }
     {
-        let CredentialsBuilder { alloc, mut built } = self;
-        built.features = features;
-        CredentialsBuilder { alloc, built }
+        self.features = features;
+        self
     }
 
-    /// The credentials. It takes no memory and answers no error: every `build` answers a Result, so that a caller
-    /// writes one form.
+    /// The credentials. `OutOfMemory` where memory runs out.
     pub fn build(self) -> Result<Credentials, OutOfMemory>
         ensures built { IfOk result (λ credentials. credentials ≡ self) }
-        ensures always { OnErr result ⊥ }
     {
-        let CredentialsBuilder { alloc: _, built } = self;
-        Ok(built)
+        let CredentialsBuilder {
+            alloc,
+            keys,
+            features,
+        } = self;
+        Ok(Credentials {
+            keys: Shared::new(alloc, keys)?,
+            features,
+        })
     }
 }

@@ -111,7 +111,7 @@ pub enum NotLoadedCause {
 }
 
 /// What is wrong with the configuration.
-#[derive(Debug, PartialEq, Eq)]
+#[derive(PartialEq, Eq)]
 pub enum ConfigCause {
     /// The profiles are at fault.
     Profile(ProfileFileError),
@@ -188,7 +188,7 @@ pub enum ProviderCause {
 }
 
 /// What no rule allows for.
-#[derive(Debug, PartialEq, Eq)]
+#[derive(PartialEq, Eq)]
 pub enum UnhandledCause {
     /// The variable of this name is not Unicode.
     NotUnicode(Text),

@@ -4,6 +4,7 @@
 //! sequences as lists, and a moment as its seconds and nanoseconds.
 #![tactic(auto)]
 
+pub mod addresses;
 pub mod command;
 pub mod credentials;
 pub mod document;
@@ -17,8 +18,9 @@ pub mod request;
 pub mod settings;
 pub mod token;
 
+pub use addresses::ShownAddress;
 pub use cfg_base::{
-    Address, Boxed, Bytes, Instant, OutOfMemory, Seq, Text, TextMap, TryCopy, copy_option,
+    Address, Boxed, Bytes, Instant, OutOfMemory, Seq, Shared, Text, TextMap, TryCopy, copy_option,
     is_blank, texts, trimmed,
 };
 pub use command::{CommandWithSensitiveArgs, Finished, ShownCommand};

@@ -3,15 +3,16 @@ ghost use Rattle.std.specs.Prelude.{◌≡◌, IfOk};
 ghost use Rattle.std.specs.Str.{encode_utf8_all};
 ghost use Rattle.cfg_base.specs.Text.{characters};
 
-use cfg_base::{OutOfMemory, Text, TryCopy};
+use cfg_base::{OutOfMemory, Shared, Text, TryCopy};
 use std::alloc::Global;
 use std::fmt;
 use std::marker::Model;
 
-/// The name of a region, such as `eu-west-1`. Any text is one. Contracts see its characters.
+/// The name of a region, such as `eu-west-1`. Any text is one. Contracts see its characters. A copy shares them
+/// with its source.
 #[derive(PartialEq, Eq, Drop)]
 pub struct Region {
-    name: Text,
+    name: Shared<Text>,
 }
 
 impl Model for Region {
@@ -29,8 +30,9 @@ impl Region {
     pub fn new(alloc: Global, text: &str) -> Result<Region, OutOfMemory>
         ensures { IfOk result (λ region. region ≡ characters text.now) }
     {
+        let name = Text::of(alloc, text)?;
         Ok(Region {
-            name: Text::of(alloc, text)?,
+            name: Shared::new(alloc, name)?,
         })
     }
 
@@ -39,7 +41,7 @@ impl Region {
         ensures chars { characters result.now ≡ self.now }
         ensures bytes { result.now ≡ encode_utf8_all self.now }
     {
-        self.name.as_str()
+        self.name.get().as_str()
     }
 }
 

@@ -1,4 +1,5 @@
 pub mod Counts
+pub mod Gains
 pub mod Inquiries
 pub mod Pieces
 pub mod Agreeing

@@ -27,7 +27,3 @@ pub record Stays {D : Type 0} (d : Ghosts D) (part : List Pair) (old new : Held 
   pub fits : EachFits part
   pub same : Same (d.allows old.devices) (d.allows new.devices)
   pub counted : Counted part (d.faults old.devices) (d.faults new.devices)
-
--- a stretch that ended out of memory, whatever it had entered
-abbrev pub Stopped : {D : Type 0} → Ghosts D → Held D → Held D → Type 0
-Stopped d old new = (part : List Pair) × Stays d part old new

@@ -6,6 +6,7 @@ pub mod Tallies
 pub mod Faulty
 pub mod Held
 pub mod Grows
+pub mod Gains
 pub mod Put
 pub mod Inquiry
 pub mod Follows

@@ -4,8 +4,8 @@ ghost use Rattle.std.specs.Prelude.{◌≡◌, IfOk};
 mod readings;
 
 use cfg_types::{
-    Address, Bytes, FailKind, Finished, Instant, OutOfMemory, Reply, Request, Seq, ShownCommand,
-    Text, TryCopy,
+    Address, Boxed, Bytes, FailKind, Finished, Instant, OutOfMemory, Reply, Request, Seq,
+    ShownCommand, Text, TryCopy,
 };
 use std::alloc::Global;
 use std::fmt;
@@ -26,7 +26,7 @@ pub enum Question {
     /// Which addresses has this host?
     LookUp { host: Text },
     /// Send this request. What is its reply?
-    Send(Request),
+    Send(Boxed<Request>),
 }
 
 /// What the devices answered.
@@ -48,6 +48,15 @@ pub enum Answer {
     Replied(Reply),
     /// The device failed, for this reason.
     Failed(FailKind),
+}
+
+impl Question {
+    /// To send this request. `OutOfMemory` where memory runs out; the request is given up then.
+    pub fn send(alloc: Global, request: Request) -> Result<Question, OutOfMemory>
+        ensures { IfOk result (λ q. q ≡ Question.Send request) }
+    {
+        Ok(Question::Send(Boxed::new(alloc, request)?))
+    }
 }
 
 impl Drop for Question {
@@ -98,7 +107,10 @@ impl fmt::Debug for Question {
                 write!(f, "Run {{ command: {command:?} }}")
             }
             Question::LookUp { host } => write!(f, "LookUp {{ host: {host:?} }}"),
-            Question::Send(request) => write!(f, "Send({request:?})"),
+            Question::Send(request) => {
+                let request = request.get();
+                write!(f, "Send({request:?})")
+            }
         }
     }
 }
@@ -121,7 +133,7 @@ impl TryCopy for Question {
             Question::LookUp { host } => Question::LookUp {
                 host: host.copy(alloc)?,
             },
-            Question::Send(request) => Question::Send(request.copy(alloc)?),
+            Question::Send(request) => Question::send(alloc, request.get().copy(alloc)?)?,
         })
     }
 }

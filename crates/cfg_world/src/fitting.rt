@@ -18,7 +18,7 @@ pub fn fits(question: &Question, answer: &Answer) -> bool
         Answer::Finished(_) => matches!(question, Question::Run { command: _ }),
         Answer::Addresses(_) => matches!(question, Question::LookUp { host: _ }),
         Answer::Replied(reply) => match question {
-            Question::Send(request) => fits_request(request, reply),
+            Question::Send(request) => fits_request(request.get(), reply),
             _ => false,
         },
         Answer::Failed(kind) => fits_failure(question, *kind),

@@ -1,6 +1,7 @@
 //! One question at a time, and what its answer is read as. Each call stops where its question has no
 //! answer, and the journal is then as it was. It stops with `OutOfMemory` also where memory runs out
-//! while the answer is copied; the journal has question and answer then.
+//! while the question is made, and nothing was asked then, or while the answer is copied; the journal
+//! has question and answer then.
 ghost use Rattle.std.specs.Prelude.{◌≡◌};
 ghost use Rattle.cfg_world.specs.Follows.{Follows};
 ghost use Rattle.cfg_world.specs.Leaves.{clock, jitter, reading_file, writing_file, running, looking_up, sending, fetching, fetching_token, fetching_metadata, assuming, assuming_by_web_identity, getting_role_credentials, creating_token, signing_in};
@@ -105,7 +106,7 @@ pub fn look_up<A: Asking>(
 
 /// The reply to one request, or how the transport failed: `Dispatch`, `Timeout` or `Broken`. The outer
 /// error is a stop.
-#[tactic(auto, unfolding(crate::specs::Leaves::sending))]
+#[tactic(auto, using(crate::proofs::Inquiries::asking_steps), unfolding(crate::specs::Leaves::sending))]
 pub fn send<A: Asking>(
     alloc: Global,
     request: Request,
@@ -113,12 +114,12 @@ pub fn send<A: Asking>(
 ) -> Result<Result<Reply, FailKind>, Stop>
     ensures { Follows ⟦<A as Asking>⟧ (sending request) asking.old asking.new result }
 {
-    let receipt = asking.put(Question::Send(request))?;
+    let receipt = asking.put(Question::send(alloc, request)?)?;
     Ok(receipt.into_answer(alloc)?.into_reply())
 }
 
 /// The reply to a GET, or how the transport failed. The outer error is a stop.
-#[tactic(auto, unfolding(crate::specs::Leaves::fetching))]
+#[tactic(auto, using(crate::proofs::Inquiries::asking_steps), unfolding(crate::specs::Leaves::fetching))]
 pub fn fetch<A: Asking>(
     alloc: Global,
     call: Http,
@@ -126,13 +127,13 @@ pub fn fetch<A: Asking>(
 ) -> Result<Result<HttpReply, FailKind>, Stop>
     ensures { Follows ⟦<A as Asking>⟧ (fetching call) asking.old asking.new result }
 {
-    let receipt = asking.put(Question::Send(Request::Http(call)))?;
+    let receipt = asking.put(Question::send(alloc, Request::Http(call))?)?;
     Ok(receipt.into_answer(alloc)?.into_http())
 }
 
 /// The reply to a request for a metadata token, or how the transport failed. The outer error is a
 /// stop.
-#[tactic(auto, unfolding(crate::specs::Leaves::fetching_token))]
+#[tactic(auto, using(crate::proofs::Inquiries::asking_steps), unfolding(crate::specs::Leaves::fetching_token))]
 pub fn fetch_metadata_token<A: Asking>(
     alloc: Global,
     call: MetadataToken,
@@ -140,12 +141,12 @@ pub fn fetch_metadata_token<A: Asking>(
 ) -> Result<Result<HttpReply, FailKind>, Stop>
     ensures { Follows ⟦<A as Asking>⟧ (fetching_token call) asking.old asking.new result }
 {
-    let receipt = asking.put(Question::Send(Request::MetadataToken(call)))?;
+    let receipt = asking.put(Question::send(alloc, Request::MetadataToken(call))?)?;
     Ok(receipt.into_answer(alloc)?.into_http())
 }
 
 /// The reply to a request for metadata, or how the transport failed. The outer error is a stop.
-#[tactic(auto, unfolding(crate::specs::Leaves::fetching_metadata))]
+#[tactic(auto, using(crate::proofs::Inquiries::asking_steps), unfolding(crate::specs::Leaves::fetching_metadata))]
 pub fn fetch_metadata<A: Asking>(
     alloc: Global,
     call: MetadataGet,
@@ -153,12 +154,12 @@ pub fn fetch_metadata<A: Asking>(
 ) -> Result<Result<HttpReply, FailKind>, Stop>
     ensures { Follows ⟦<A as Asking>⟧ (fetching_metadata call) asking.old asking.new result }
 {
-    let receipt = asking.put(Question::Send(Request::MetadataGet(call)))?;
+    let receipt = asking.put(Question::send(alloc, Request::MetadataGet(call))?)?;
     Ok(receipt.into_answer(alloc)?.into_http())
 }
 
 /// The reply to `AssumeRole`, or why there is none. The outer error is a stop.
-#[tactic(auto, unfolding(crate::specs::Leaves::assuming))]
+#[tactic(auto, using(crate::proofs::Inquiries::asking_steps), unfolding(crate::specs::Leaves::assuming))]
 pub fn assume_role<A: Asking>(
     alloc: Global,
     call: AssumeRole,
@@ -166,12 +167,12 @@ pub fn assume_role<A: Asking>(
 ) -> Result<Result<StsReply, NotGranted>, Stop>
     ensures { Follows ⟦<A as Asking>⟧ (assuming call) asking.old asking.new result }
 {
-    let receipt = asking.put(Question::Send(Request::AssumeRole(call)))?;
+    let receipt = asking.put(Question::send(alloc, Request::AssumeRole(call))?)?;
     Ok(receipt.into_answer(alloc)?.into_sts())
 }
 
 /// The reply to `AssumeRoleWithWebIdentity`, or why there is none. The outer error is a stop.
-#[tactic(auto, unfolding(crate::specs::Leaves::assuming_by_web_identity))]
+#[tactic(auto, using(crate::proofs::Inquiries::asking_steps), unfolding(crate::specs::Leaves::assuming_by_web_identity))]
 pub fn assume_role_with_web_identity<A: Asking>(
     alloc: Global,
     call: AssumeRoleWithWebIdentity,
@@ -179,12 +180,12 @@ pub fn assume_role_with_web_identity<A: Asking>(
 ) -> Result<Result<StsReply, NotGranted>, Stop>
     ensures { Follows ⟦<A as Asking>⟧ (assuming_by_web_identity call) asking.old asking.new result }
 {
-    let receipt = asking.put(Question::Send(Request::AssumeRoleWithWebIdentity(call)))?;
+    let receipt = asking.put(Question::send(alloc, Request::AssumeRoleWithWebIdentity(call))?)?;
     Ok(receipt.into_answer(alloc)?.into_sts())
 }
 
 /// The reply to `GetRoleCredentials`, or why there is none. The outer error is a stop.
-#[tactic(auto, unfolding(crate::specs::Leaves::getting_role_credentials))]
+#[tactic(auto, using(crate::proofs::Inquiries::asking_steps), unfolding(crate::specs::Leaves::getting_role_credentials))]
 pub fn get_role_credentials<A: Asking>(
     alloc: Global,
     call: GetRoleCredentials,
@@ -192,12 +193,12 @@ pub fn get_role_credentials<A: Asking>(
 ) -> Result<Result<RoleReply, NotGranted>, Stop>
     ensures { Follows ⟦<A as Asking>⟧ (getting_role_credentials call) asking.old asking.new result }
 {
-    let receipt = asking.put(Question::Send(Request::GetRoleCredentials(call)))?;
+    let receipt = asking.put(Question::send(alloc, Request::GetRoleCredentials(call))?)?;
     Ok(receipt.into_answer(alloc)?.into_role())
 }
 
 /// The reply to `CreateToken`, or why there is none. The outer error is a stop.
-#[tactic(auto, unfolding(crate::specs::Leaves::creating_token))]
+#[tactic(auto, using(crate::proofs::Inquiries::asking_steps), unfolding(crate::specs::Leaves::creating_token))]
 pub fn create_token<A: Asking>(
     alloc: Global,
     call: CreateToken,
@@ -205,12 +206,12 @@ pub fn create_token<A: Asking>(
 ) -> Result<Result<TokenReply, NotGranted>, Stop>
     ensures { Follows ⟦<A as Asking>⟧ (creating_token call) asking.old asking.new result }
 {
-    let receipt = asking.put(Question::Send(Request::CreateToken(call)))?;
+    let receipt = asking.put(Question::send(alloc, Request::CreateToken(call))?)?;
     Ok(receipt.into_answer(alloc)?.into_token())
 }
 
 /// The reply to `CreateOAuth2Token`, or why there is none. The outer error is a stop.
-#[tactic(auto, unfolding(crate::specs::Leaves::signing_in))]
+#[tactic(auto, using(crate::proofs::Inquiries::asking_steps), unfolding(crate::specs::Leaves::signing_in))]
 pub fn create_oauth2_token<A: Asking>(
     alloc: Global,
     call: CreateOAuth2Token,
@@ -218,6 +219,6 @@ pub fn create_oauth2_token<A: Asking>(
 ) -> Result<Result<SignInReply, NotGranted>, Stop>
     ensures { Follows ⟦<A as Asking>⟧ (signing_in call) asking.old asking.new result }
 {
-    let receipt = asking.put(Question::Send(Request::CreateOAuth2Token(call)))?;
+    let receipt = asking.put(Question::send(alloc, Request::CreateOAuth2Token(call))?)?;
     Ok(receipt.into_answer(alloc)?.into_sign_in())
 }

@@ -120,7 +120,7 @@ fn put<D: Devices>(devices: &mut D, question: &Question) -> Result<Answer, OutOf
             Ok(addresses) => Ok(Answer::Addresses(addresses)),
             Err(fault) => failed(fault),
         },
-        Question::Send(request) => match devices.send(request) {
+        Question::Send(request) => match devices.send(request.get()) {
             Ok(reply) => Ok(Answer::Replied(reply)),
             Err(fault) => failed(fault),
         },

@@ -28,18 +28,19 @@ fn request_words(alloc: Global, request: &AssumeRole) -> Result<String, AllocErr
 fn journal_words(alloc: Global, journal: &[Entry]) -> Result<String, AllocError> {
     let mut words = String::new(alloc);
     for entry in journal {
-        match entry.question() {
-            Question::Send(Request::AssumeRole(request)) => {
-                let request = request_words(alloc, request)?;
-                words.push_str(request.as_str())?;
-            }
-            question => {
-                let question = format!(in alloc; " {question:?}")?;
-                words.push_str(question.as_str())?;
-            }
-        }
+        let question = question_words(alloc, entry.question())?;
+        words.push_str(question.as_str())?;
     }
     Ok(words)
+}
+
+fn question_words(alloc: Global, question: &Question) -> Result<String, AllocError> {
+    if let Question::Send(request) = question
+        && let Request::AssumeRole(request) = request.get()
+    {
+        return request_words(alloc, request);
+    }
+    format!(in alloc; " {question:?}")
 }
 
 // Everything set.

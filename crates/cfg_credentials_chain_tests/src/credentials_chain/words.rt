@@ -37,10 +37,17 @@ fn kind(question: &Question) -> &'static str {
     match question {
         Question::Now => " now",
         Question::Read { path: _ } => " read",
-        Question::Send(Request::AssumeRole(_)) => " assume-role",
-        Question::Send(Request::GetRoleCredentials(_)) => " role-credentials",
-        Question::Send(Request::MetadataToken(_)) => " imds-token",
-        Question::Send(Request::MetadataGet(_)) => " imds-get",
+        Question::Send(request) => request_kind(request.get()),
+        _ => " another",
+    }
+}
+
+fn request_kind(request: &Request) -> &'static str {
+    match request {
+        Request::AssumeRole(_) => " assume-role",
+        Request::GetRoleCredentials(_) => " role-credentials",
+        Request::MetadataToken(_) => " imds-token",
+        Request::MetadataGet(_) => " imds-get",
         _ => " another",
     }
 }

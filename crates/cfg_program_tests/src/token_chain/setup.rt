@@ -82,9 +82,16 @@ fn kind(question: &Question) -> &'static str {
         Question::Now => " now",
         Question::Read { path: _ } => " read",
         Question::Write { path: _, bytes: _ } => " write",
-        Question::Send(Request::CreateToken(_)) => " create-token",
-        Question::Send(Request::MetadataToken(_)) => " imds-token",
-        Question::Send(Request::MetadataGet(_)) => " imds-get",
+        Question::Send(request) => request_kind(request.get()),
+        _ => " another",
+    }
+}
+
+fn request_kind(request: &Request) -> &'static str {
+    match request {
+        Request::CreateToken(_) => " create-token",
+        Request::MetadataToken(_) => " imds-token",
+        Request::MetadataGet(_) => " imds-get",
         _ => " another",
     }
 }

@@ -4,6 +4,7 @@ ghost use Rattle.std.specs.Str.{encode_utf8_all};
 ghost use Rattle.std.specs.Fmt.{decimal, WritesOnOk, WritesStyledOnOk};
 ghost use Rattle.cfg_types.specs.CauseTexts.{ended_text};
 
+use crate::addresses::ShownAddress;
 use crate::errors::pieces::{around, around_before, labelled};
 use crate::errors::{ConfigCause, ProcessCause, ProviderCause, UnhandledCause};
 use crate::reply::{FailKind, Fault};
@@ -106,15 +107,13 @@ impl fmt::Display for ConfigCause {
     fn fmt<W: fmt::Write>(&self, f: &mut fmt::Formatter<W>) -> fmt::Result {
         match self {
             ConfigCause::Profile(e) => e.fmt(f),
-            ConfigCause::RelativeUri(uri) => around(
-                f,
-                "`",
-                uri,
-                "` is no path of the container's endpoint",
-            ),
+            ConfigCause::RelativeUri(uri) => {
+                let uri = ShownAddress(uri);
+                write!(f, "`{uri}` is no path of the container's endpoint")
+            }
             ConfigCause::FullUri { error, uri } => {
-                around(f, "`", uri, "`: ")?;
-                error.fmt(f)
+                let uri = ShownAddress(uri);
+                write!(f, "`{uri}`: {error}")
             }
             ConfigCause::AuthToken => f.write_str("the authorization is no header value"),
             ConfigCause::MetadataRole { code, message } => around_before(
@@ -132,6 +131,34 @@ impl fmt::Display for ConfigCause {
 }
 
 impl Error for ConfigCause {}
+
+// An address may hold a password or a token.
+impl fmt::Debug for ConfigCause {
+    ghost use Rattle.cfg_types.specs.DebugTexts.{shown_config};
+
+    ghost debug_output = { shown_config };
+
+    fn fmt<W: fmt::Write>(&self, f: &mut fmt::Formatter<W>) -> fmt::Result {
+        match self {
+            ConfigCause::Profile(error) => f.debug_tuple("Profile").field(error).finish(),
+            ConfigCause::RelativeUri(uri) => {
+                let uri = ShownAddress(uri);
+                write!(f, "RelativeUri({uri})")
+            }
+            ConfigCause::FullUri { error, uri } => {
+                let uri = ShownAddress(uri);
+                write!(f, "FullUri({uri}: {error})")
+            }
+            ConfigCause::AuthToken => f.write_str("AuthToken"),
+            ConfigCause::MetadataRole { code, message } => {
+                write!(f, "MetadataRole {{ code: {code:?}, message: {message:?} }}")
+            }
+            ConfigCause::AssumeRole(kind) => f.debug_tuple("AssumeRole").field(kind).finish(),
+            ConfigCause::LoginToken(error) => f.debug_tuple("LoginToken").field(error).finish(),
+            ConfigCause::Custom(text) => f.debug_tuple("Custom").field(text).finish(),
+        }
+    }
+}
 
 impl fmt::Display for UnhandledCause {
     ghost use Rattle.std.specs.Prelude.{Some};
@@ -153,7 +180,10 @@ impl fmt::Display for UnhandledCause {
             UnhandledCause::NoDocument(e) => e.fmt(f),
             UnhandledCause::Sent(kind) => kind.fmt(f),
             UnhandledCause::StsNoCredentials => f.write_str("the reply of STS has no credentials"),
-            UnhandledCause::StsArn(arn) => around(f, "`", arn, "` names no account"),
+            // The ARN is what a reply gave.
+            UnhandledCause::StsArn(_) => f.write_str(
+                "the ARN in the reply of STS names no account",
+            ),
             UnhandledCause::SsoNoCredentials => f.write_str(
                 "the reply of IAM Identity Center has no credentials",
             ),
@@ -170,6 +200,29 @@ impl fmt::Display for UnhandledCause {
 }
 
 impl Error for UnhandledCause {}
+
+// An ARN is what a reply gave.
+impl fmt::Debug for UnhandledCause {
+    ghost use Rattle.cfg_types.specs.DebugTexts.{shown_unhandled};
+
+    ghost debug_output = { shown_unhandled };
+
+    fn fmt<W: fmt::Write>(&self, f: &mut fmt::Formatter<W>) -> fmt::Result {
+        match self {
+            UnhandledCause::NotUnicode(name) => f.debug_tuple("NotUnicode").field(name).finish(),
+            UnhandledCause::NotUtf8 => f.write_str("NotUtf8"),
+            UnhandledCause::NoDocument(error) => f.debug_tuple("NoDocument").field(error).finish(),
+            UnhandledCause::Sent(kind) => f.debug_tuple("Sent").field(kind).finish(),
+            UnhandledCause::StsNoCredentials => f.write_str("StsNoCredentials"),
+            UnhandledCause::StsArn(_) => f.write_str("StsArn(\"** redacted **\")"),
+            UnhandledCause::SsoNoCredentials => f.write_str("SsoNoCredentials"),
+            UnhandledCause::SsoNoAccessKey => f.write_str("SsoNoAccessKey"),
+            UnhandledCause::SsoNoSecretKey => f.write_str("SsoNoSecretKey"),
+            UnhandledCause::LoginToken(error) => f.debug_tuple("LoginToken").field(error).finish(),
+            UnhandledCause::Custom(text) => f.debug_tuple("Custom").field(text).finish(),
+        }
+    }
+}
 
 impl fmt::Display for ProviderCause {
     ghost use Rattle.std.specs.Prelude.{Some};

@@ -4,6 +4,7 @@ ghost use Rattle.cfg_types.specs.Metadata.{is_dispatch_failure as is_dispatch_fa
 ghost use Rattle.std.specs.Prelude.{◌++◌, codes};
 ghost use Rattle.std.specs.Fmt.{decimal, WritesOnOk, WritesStyledOnOk};
 
+use crate::addresses::ShownAddress;
 use crate::errors::pieces::around;
 use crate::reply::{FailKind, HttpReply};
 use cfg_base::{OutOfMemory, Text};
@@ -79,7 +80,7 @@ impl Drop for InvalidEndpointMode {
 }
 
 /// Why a client is not built, or asks nothing.
-#[derive(Debug, PartialEq, Eq)]
+#[derive(PartialEq, Eq)]
 pub enum BuildError {
     /// The mode that is set is none.
     InvalidEndpointMode(InvalidEndpointMode),
@@ -166,7 +167,7 @@ impl ErrorResponse {
 }
 
 /// What no rule of the client allows for.
-#[derive(Debug, PartialEq, Eq)]
+#[derive(PartialEq, Eq)]
 pub enum UnexpectedCause {
     /// A reply's body is not UTF-8.
     NotUtf8,
@@ -294,6 +295,42 @@ impl fmt::Display for BuildError {
 }
 
 impl Error for BuildError {}
+
+// An address may hold a password or a token.
+impl fmt::Debug for BuildError {
+    ghost use Rattle.cfg_types.specs.DebugTexts.{shown_build};
+
+    ghost debug_output = { shown_build };
+
+    fn fmt<W: fmt::Write>(&self, f: &mut fmt::Formatter<W>) -> fmt::Result {
+        match self {
+            BuildError::InvalidEndpointMode(error) => {
+                f.debug_tuple("InvalidEndpointMode").field(error).finish()
+            }
+            BuildError::InvalidEndpointUri(uri) => {
+                let uri = ShownAddress(uri);
+                write!(f, "InvalidEndpointUri({uri})")
+            }
+            BuildError::OutOfMemory => f.write_str("OutOfMemory"),
+        }
+    }
+}
+
+// The end of a path may be what the listing of roles gave.
+impl fmt::Debug for UnexpectedCause {
+    ghost use Rattle.cfg_types.specs.DebugTexts.{shown_unexpected};
+
+    ghost debug_output = { shown_unexpected };
+
+    fn fmt<W: fmt::Write>(&self, f: &mut fmt::Formatter<W>) -> fmt::Result {
+        match self {
+            UnexpectedCause::NotUtf8 => f.write_str("NotUtf8"),
+            UnexpectedCause::Dispatch => f.write_str("Dispatch"),
+            UnexpectedCause::Endpoint(error) => f.debug_tuple("Endpoint").field(error).finish(),
+            UnexpectedCause::Path(_) => f.write_str("Path(\"** redacted **\")"),
+        }
+    }
+}
 
 impl fmt::Display for TokenError {
     ghost use Rattle.std.specs.Prelude.{Some};

@@ -24,7 +24,7 @@ impl Same for Question {
             (Question::LookUp { host }, Question::LookUp { host: other_host }) => host.same(
                 other_host,
             ),
-            (Question::Send(one), Question::Send(other)) => one.same(other),
+            (Question::Send(one), Question::Send(other)) => one.get().same(other.get()),
             _ => false,
         }
     }

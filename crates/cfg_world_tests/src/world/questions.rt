@@ -11,21 +11,30 @@ pub(crate) const TIMEOUTS: Timeouts = Timeouts {
     attempt_ms: None,
 };
 
-fn question_of(kind: &str, text: Text, path: Text, bytes: Bytes) -> Question {
-    match kind {
+fn question_of(
+    alloc: Global,
+    kind: &str,
+    text: Text,
+    path: Text,
+    bytes: Bytes,
+) -> Result<Question, OutOfMemory> {
+    Ok(match kind {
         "now" => Question::Now,
         "jitter" => Question::Jitter,
         "read" => Question::Read { path: text },
         "write" => Question::Write { path: text, bytes },
         "run" => Question::Run { command: text },
         "look-up" => Question::LookUp { host: text },
-        _ => Question::Send(Request::Http(Http {
-            endpoint: text,
-            path,
-            authorization: Some(bytes),
-            timeouts: TIMEOUTS,
-        })),
-    }
+        _ => {
+            let call = Http {
+                endpoint: text,
+                path,
+                authorization: Some(bytes),
+                timeouts: TIMEOUTS,
+            };
+            Question::send(alloc, Request::Http(call))?
+        }
+    })
 }
 
 /// The question of some words: its kind, and what it asks for. What is written and what authorizes is `wJalr`.
@@ -34,7 +43,7 @@ pub(crate) fn question(alloc: Global, words: &str) -> Result<Question, OutOfMemo
     let text = Text::of(alloc, rest)?;
     let path = Text::of(alloc, "/p")?;
     let bytes = Bytes::of(alloc, b"wJalr")?;
-    Ok(question_of(kind, text, path, bytes))
+    question_of(alloc, kind, text, path, bytes)
 }
 
 fn shown_words(alloc: Global, words: &str) -> Result<String, OutOfMemory> {

@@ -1,7 +1,7 @@
 -- There is a `://` somewhere exactly where the text, or what stands behind some of its bytes, begins with one.
 use Rattle.std.proofs.lemmas.Str.Pattern.{contains_text}
 use Rattle.std.specs.Prelude.{codes}
-use Rattle.cfg_error_report.proofs.Cuts.{scheme_if}
+use Rattle.cfg_error_report.proofs.Schemes.{scheme_if}
 use Rattle.cfg_error_report.proofs.addresses.has_scheme.Goals as goal
 
 pub returns : goal.returns

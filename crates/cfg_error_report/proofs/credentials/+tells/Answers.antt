@@ -2,8 +2,9 @@
 use Rattle.std.proofs.Common.{◌≡◌, List, OnOk, subst}
 use Rattle.cfg_error_report.specs.Lines.{Line, detail_line}
 use Rattle.cfg_error_report.specs.CredentialsCauses.{error_lines}
+use Rattle.std.proofs.lemmas.Result.{on_ok_weaker}
 use Rattle.cfg_error_report.proofs.Told.{behind_first}
-use Rattle.cfg_error_report.proofs.ChainFolds.{not_loaded-behind}
+use Rattle.cfg_error_report.proofs.ChainFolds.{no_role-told, not_configured-told, not_loaded-behind}
 use Rattle.cfg_error_report.proofs.credentials.+tells.Goals as goal
 
 pub tell_not_loaded-returns-in_ok-tell_words-in-Chain : goal.tell_not_loaded-returns-in_ok-tell_words-in-Chain
@@ -18,3 +19,11 @@ tell_step-returns t c =
     subst (λ (l : List Line). OnOk c.tell_error.result (c.tell_error.new.causes ≡ l))
     (behind_first c.args.causes.now c.tell_detail.new.self (error_lines c.args.error.now c.args.depth) (detail_line c.args.depth c.args.words.now) c.in_ok-tell_detail.ensures)
     c.tell_error.ensures
+
+pub tell_not_loaded-returns-in-NotConfigured : goal.tell_not_loaded-returns-in-NotConfigured
+tell_not_loaded-returns-in-NotConfigured t c =
+    on_ok_weaker c.tell_detailed.result (not_configured-told c.args.cause.now c.args.causes.now c.tell_detailed.new.self c.args.depth c.in-NotConfigured.is) c.tell_detailed.ensures
+
+pub tell_not_loaded-returns-in-MetadataNoRole : goal.tell_not_loaded-returns-in-MetadataNoRole
+tell_not_loaded-returns-in-MetadataNoRole t c =
+    on_ok_weaker c.tell_detailed-in-MetadataNoRole.result (no_role-told c.args.cause.now c.args.causes.now c.tell_detailed-in-MetadataNoRole.new.self c.args.depth c.in-MetadataNoRole.is) c.tell_detailed-in-MetadataNoRole.ensures

@@ -1,7 +1,7 @@
 use Rattle.std.proofs.Common.{◌≡◌, ℕ, List, ◌∷◌, [], ◌++◌, append_assoc, ap, ◌∙◌}
-use Rattle.cfg_error_report.specs.Addresses.{shown_address}
-use Rattle.cfg_error_report.proofs.Cuts.{hidden-user}
-use Rattle.cfg_error_report.proofs.laws.an_address_is_told_without_user_information_and_query.Goals as goal
+use Rattle.cfg_types.specs.Addresses.{shown_address}
+use Rattle.cfg_types.proofs.Cuts.{hidden-user}
+use Rattle.cfg_types.proofs.laws.an_address_is_shown_without_user_information_and_query.Goals as goal
 
 one_behind : (user host query : List ℕ) → (((user ++ 64 ∷ []) ++ host) ++ 63 ∷ []) ++ query ≡ user ++ 64 ∷ (host ++ 63 ∷ query)
 one_behind user host query = simp append_assoc
