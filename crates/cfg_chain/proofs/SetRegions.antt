@@ -1,8 +1,8 @@
 -- What a configuration settles does not depend on its region.
-use Rattle.std.proofs.Common.{◌≡◌, Option, refl, sym, ◌∙◌, subst}
+use Rattle.std.proofs.Common.{◌≡◌, ℕ, List, Option, Some, None, refl, sym, ◌∙◌, subst}
 use Rattle.cfg_world.specs.declared.devices.Devices.{Ghosts}
 use Rattle.cfg_world.specs.Held.{Held}
-use Rattle.cfg_imds.specs.Endpoints.{setting, by_mode}
+use Rattle.cfg_imds.specs.Endpoints.{setting, by_mode, or_mode, endpoint_setting, endpoint_text, IsEndpointBy}
 use Rattle.cfg_profile.specs.Configuration.{Configuration}
 use Rattle.cfg_region.specs.Calls.{RegionSet}
 use Rattle.cfg_region.specs.Environments.{Told}
@@ -19,13 +19,21 @@ same_plan : (conf : Configuration) (region : Told) → settled_plan conf ≡ set
 unfolding plan settled_plan
 same_plan conf region = refl
 
-settled_in : (conf : Configuration) (region : Told) (settled : Settled) → IsSettled conf settled → IsSettled (record conf { region = region }) settled
+or_same : (said : Option (List ℕ)) (conf : Configuration) (region : Told) → or_mode said conf None ≡ or_mode said (record conf { region = region }) None
 unfolding setting by_mode
+or_same (Some text) conf region = refl
+or_same None conf region = refl
+
+same_text : (conf : Configuration) (region : Told) → endpoint_text conf None None ≡ endpoint_text (record conf { region = region }) None None
+unfolding setting
+same_text conf region = or_same (endpoint_setting conf) conf region
+
+settled_in : (conf : Configuration) (region : Told) (settled : Settled) → IsSettled conf settled → IsSettled (record conf { region = region }) settled
 settled_in conf region settled h = record {
   token_key = h.token_key ∙ same_key conf region;
   plan = h.plan ∙ same_plan conf region;
   container = h.container;
-  imds_endpoint = h.imds_endpoint;
+  imds_endpoint = subst (λ text. IsEndpointBy text settled.imds_endpoint) (same_text conf region) h.imds_endpoint;
 }
 
 -- it settles the same
