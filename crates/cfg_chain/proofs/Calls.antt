@@ -1,5 +1,5 @@
 -- A call that follows the default chain provides what its parts read.
-use Rattle.std.proofs.Common.{◌≡◌, List, [], ◌++◌, Option, Some, Result, inr, sym, ap, ◌∙◌, subst}
+use Rattle.std.proofs.Common.{◌≡◌, List, [], ◌++◌, Option, Some, Result, inr, refl, sym, ap, ◌∙◌, subst}
 use Rattle.cfg_world.specs.declared.asking.Asking.{Ghosts}
 use Rattle.cfg_world.specs.declared.asking.Stop.{Stop}
 use Rattle.cfg_world.specs.Fits.{Pair}
@@ -14,11 +14,13 @@ use Rattle.cfg_kept.proofs.Told.{told, told_back}
 use Rattle.cfg_kept.proofs.Agreeing.{one_run}
 use Rattle.cfg_exchange.proofs.OnePlace.{one_place}
 use Rattle.cfg_imds.proofs.OneEndpoint.{one_client}
-use Rattle.cfg_imds.specs.Setups.{configured}
+use Rattle.cfg_imds.specs.Setups.{configured, client_of}
 use Rattle.cfg_providers.specs.CustomSources.{Answer}
 use Rattle.cfg_chain.specs.Settings.{ChainSetting, Services, AreServices, Setting, given_or, setting}
+use Rattle.cfg_chain.specs.declared.settled.Settled.{Settled}
 use Rattle.cfg_chain.specs.Members.{default_chain}
 use Rattle.cfg_chain.specs.Provides.{IsCall, FollowsDefault}
+use Rattle.cfg_chain.specs.Settled.{IsSettled}
 use Rattle.cfg_chain.proofs.MemberCauses.{resolved, reads_resolved}
 use Rattle.cfg_chain.proofs.Validity.{valid_loaded}
 
@@ -30,6 +32,18 @@ pub set_alike : (over : ChainSetting) (services : Services) (s : Setting) → s.
     s.container ≡ services.container → s.client ≡ services.client → s.named_client ≡ services.named_client → s ≡ setting over services
 set_alike over services s configuration sources container client named =
     λ i. record { configuration = configuration i; sources = sources i; container = container i; client = client i; named_client = named i }
+
+-- the services that are settled, with the client that the chain was given, if it was given one
+abbrev pub services_of : ChainSetting → Settled → Services
+services_of over settled = record {
+  container = settled.container;
+  client = given_or over.client (client_of settled.imds_endpoint);
+  named_client = client_of settled.imds_endpoint;
+}
+
+-- they are those that the configuration names
+pub are_services : (over : ChainSetting) (settled : Settled) → IsSettled over.configuration settled → AreServices over (services_of over settled)
+are_services over settled h = record { container = h.container; named_client = record { endpoint = h.imds_endpoint; service = refl }; client = refl }
 
 -- a call that follows the members over such services follows the chain
 pub follows_chain : {A : Type 0} (a : Ghosts A) (over : ChainSetting) (services : Services) (s : Setting) (old new : A) (before later : Holdings) (out : Result Answer Stop) →

@@ -1,6 +1,5 @@
 -- A call that follows a profile's questions provides what they read.
-use Rattle.std.proofs.Common.{◌≡◌, List, [], ◌++◌, true, Some, None, Result, Ok, Err, inr, sym, ap, ◌∙◌, subst}
-use Rattle.cfg_types.specs.Environment.{Variables}
+use Rattle.std.proofs.Common.{◌≡◌, List, [], ◌++◌, true, Some, Result, Ok, Err, inr, sym, ap, ◌∙◌, subst}
 use Rattle.cfg_world.specs.declared.asking.Asking.{Ghosts}
 use Rattle.cfg_world.specs.declared.asking.Stop.{Stop}
 use Rattle.std.specs.Prelude.{is_ok}
@@ -9,18 +8,13 @@ use Rattle.cfg_kept.specs.Kinds.{Value, States}
 use Rattle.cfg_kept.specs.KeptInquiry.{Runs, Begins, Reads, kept_after}
 use Rattle.cfg_kept.specs.Holds.{Holdings, HoldsFollows}
 use Rattle.cfg_kept.proofs.Told.{told}
-use Rattle.cfg_exchange.specs.Containers.{IsContainerUri}
-use Rattle.cfg_exchange.specs.declared.container.ContainerUri.{ContainerUri}
-use Rattle.cfg_imds.specs.Clients.{ClientRules}
-use Rattle.cfg_imds.specs.Setups.{configured, IsClient}
-use Rattle.cfg_profile.specs.Configuration.{Configuration}
 use Rattle.cfg_providers.specs.CustomSources.{Answer}
-use Rattle.cfg_chain.specs.Settings.{Setting, ChainSetting, Services, AreServices, given_or, setting, names_of}
+use Rattle.cfg_chain.specs.Settings.{Setting, ChainSetting, Services, AreServices, setting, names_of}
 use Rattle.cfg_chain.specs.Valid.{AreOfUse, IsFile}
 use Rattle.cfg_chain.specs.profile.Plans.{Planned, plan}
 use Rattle.cfg_chain.specs.profile.Profiles.{follows_plan, profile}
 use Rattle.cfg_chain.specs.profile.Provides.{PlanGives, IsUsable, IsProfileCall, FollowsProfile}
-use Rattle.cfg_chain.proofs.Calls.{some_is, set_alike}
+use Rattle.cfg_chain.proofs.Calls.{some_is}
 use Rattle.cfg_chain.proofs.ProfileCauses.{profile_fails}
 use Rattle.cfg_chain.proofs.UsableProfile.{plan_succeeds}
 
@@ -33,29 +27,10 @@ profile_gives : (s : Setting) (found : List Value) (part : List Pair) (out : Ans
 unfolding profile
 profile_gives s found part out h u = planned_gives s (plan s.configuration (names_of s.sources)) found part out h u.answers u.given
 
--- where no client is given, the configuration's is that of the services
-pub own_services : (over : ChainSetting) (conf : Configuration) (env : Variables) (container : ContainerUri) (own : ClientRules) →
-    over.client ≡ None → conf ≡ over.configuration → env ≡ conf.environment → IsContainerUri env container → IsClient (configured conf) own →
-    AreServices over (record { container = container; client = own; named_client = own })
-own_services over conf env container own none same is_env at asks = record {
-  container = subst (λ e. IsContainerUri e container) (is_env ∙ ap (λ (c : Configuration). c.environment) same) at;
-  named_client = subst (λ (c : Configuration). IsClient (configured c) own) same asks;
-  client = ap (λ given. given_or given own) (sym none);
-}
-
 -- a call that follows a profile's questions over such services follows its provider
-pub follows_alone : {A : Type 0} (a : Ghosts A) (over : ChainSetting) (conf : Configuration) (env : Variables) (container : ContainerUri) (own : ClientRules) (s : Setting)
-    (old new : A) (before later : Holdings) (out : Result Answer Stop) →
-    over.client ≡ None → conf ≡ over.configuration → env ≡ conf.environment → IsContainerUri env container → IsClient (configured conf) own →
-    s.configuration ≡ over.configuration → s.sources ≡ over.sources → s.container ≡ container → s.client ≡ own → s.named_client ≡ own →
-    HoldsFollows a (profile s) old before new later out → FollowsProfile a over old before new later out
-follows_alone a over conf env container own s old new before later out none same is_env at asks configuration sources is_container is_client is_named h =
-    let services : Services = record { container = container; client = own; named_client = own } in
-    inr (
-      services,
-      own_services over conf env container own none same is_env at asks,
-      subst (λ t. HoldsFollows a (profile t) old before new later out) (set_alike over services s configuration sources is_container is_client is_named) h,
-    )
+pub follows_provider : {A : Type 0} (a : Ghosts A) (over : ChainSetting) (services : Services) (s : Setting) (old new : A) (before later : Holdings) (out : Result Answer Stop) →
+    AreServices over services → s ≡ setting over services → HoldsFollows a (profile s) old before new later out → FollowsProfile a over old before new later out
+follows_provider a over services s old new before later out names same h = inr (services, names, subst (λ t. HoldsFollows a (profile t) old before new later out) same h)
 
 -- a run of a profile's questions from kept states that are told is a call
 is_profile_call : (over : ChainSetting) (services : Services) (old new : States) (found : List Value) (part : List Pair) (out : Answer) → AreServices over services →

@@ -3,6 +3,7 @@ pub mod Views
 pub mod Follows
 pub mod Answers
 pub mod profile
+pub mod Settled
 pub mod Members
 pub mod Resolves
 pub mod PassedOver

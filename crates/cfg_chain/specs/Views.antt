@@ -1,15 +1,17 @@
 -- Chains and calls, as contracts see them.
 use Rattle.std.specs.Prelude.{List, None, map, option_map}
+use Rattle.std.specs.Option.{option_copied}
 use Rattle.std.specs.declared.alloc.Global.{Global}
 use Rattle.std.specs.declared.dyn_box.DynBox.{DynBox}
 use Rattle.cfg_exchange.specs.Classifiers.{Repeats}
 use Rattle.cfg_imds.specs.Clients.{rules_of, client_rules}
+use Rattle.cfg_imds.specs.Setups.{client_of}
 use Rattle.cfg_providers.specs.declared.custom.CustomSource.{CustomSource}
 use Rattle.cfg_providers.specs.CustomSources.{Answer, NamedAnswer, named}
 use Rattle.cfg_chain.specs.declared.call.ChainCall.{ChainCall}
 use Rattle.cfg_chain.specs.declared.default_provider.credentials.DefaultCredentialsChain.{DefaultCredentialsChain}
 use Rattle.cfg_chain.specs.declared.profile.credentials.ProfileFileCredentialsProvider.{ProfileFileCredentialsProvider}
-use Rattle.cfg_chain.specs.Settings.{ChainSetting, Setting}
+use Rattle.cfg_chain.specs.Settings.{ChainSetting, Setting, given_or}
 
 -- what an interface means, of a box
 abbrev pub of_box : {V X : Type 0} {I : V → Type 0} → ((v : V) × I v → X) → DynBox V Global I → X
@@ -48,7 +50,7 @@ module _ {V W : Type 0} {I : V → Type 0} {J : W → Type 0} where
   view value repeated c = record {
     configuration = c.config.now;
     sources = named_sources value c.custom_sources.now;
-    container = c.container.now;
-    client = client_rules repeated c.imds_client.now;
-    named_client = client_rules repeated c.named_imds_client.now;
+    container = c.settled.now.container;
+    client = given_or (option_map (λ client. client_rules repeated client) (option_copied c.imds_client)) (client_of c.settled.now.imds_endpoint);
+    named_client = client_of c.settled.now.imds_endpoint;
   }

@@ -1,6 +1,7 @@
 //! A chain asks its members in order.
 ghost use Rattle.std.specs.Prelude.{◌≡◌};
 ghost use Rattle.cfg_chain.specs.Follows.{FollowsTree};
+ghost use Rattle.cfg_chain.specs.Settled.{IsSettled};
 ghost use Rattle.cfg_chain.specs.Views.{view};
 ghost use Rattle.cfg_chain.specs.profile.Plans.{key_of};
 ghost use Rattle.cfg_sso.specs.Tokens.{HasKey};
@@ -24,7 +25,8 @@ pub fn follow_chain<P: Keeper, A: Asking>(
     keeper: &mut P,
     asking: &mut A,
 ) -> Result<Result<Credentials, CredentialsError>, Stop>
-    requires { HasKey (key_of call.now.config.now) (P.key_held keeper.old) }
+    requires settled { IsSettled call.now.config.now call.now.settled.now }
+    requires key { HasKey (key_of call.now.config.now) (P.key_held keeper.old) }
     ensures follows { FollowsTree ⟦<A as Asking>⟧ ⟦<P as Keeper>⟧ (members_tree (view value repeated call.now) members.now)
         asking.old asking.new keeper.old keeper.new result }
     ensures key { P.key_held keeper.new ≡ P.key_held keeper.old }

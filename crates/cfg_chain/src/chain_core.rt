@@ -5,9 +5,10 @@ ghost use Rattle.cfg_kept.specs.Kinds.{no_states};
 ghost use Rattle.cfg_kept.specs.KeptStates.{kept_key, states_of};
 ghost use Rattle.cfg_region.specs.Calls.{RegionSet, RegionBreaks};
 ghost use Rattle.cfg_region.specs.Sources.{region_source};
+ghost use Rattle.cfg_chain.specs.Settled.{IsSettled};
 ghost use Rattle.cfg_chain.specs.profile.Plans.{key_of};
 
-use crate::profile::plan::token_key_of;
+use crate::settled::Settled;
 use cfg_kept::Kept;
 use cfg_profile::ProviderConfig;
 use cfg_region::RegionSource;
@@ -18,13 +19,13 @@ use cfg_world::{Devices, World};
 use std::alloc::Global;
 use std::marker::Model;
 
-/// What a chain has of its configuration: the configuration itself, which is what contracts see, and whose token it
-/// needs. It holds nothing boxed, so that any crate may make one and hand it on; a function that hands on what
+/// What a chain has of its configuration: the configuration itself, which is what contracts see, and what it settles
+/// of every call. It holds nothing boxed, so that any crate may make one and hand it on; a function that hands on what
 /// holds a box has to make it itself.
 pub struct ChainCore {
     alloc: Global,
     config: ProviderConfig,
-    token_key: Option<TokenKey>,
+    settled: Settled,
 }
 
 impl Drop for ChainCore {
@@ -32,15 +33,14 @@ impl Drop for ChainCore {
         let ChainCore {
             alloc: _,
             config: _,
-            token_key: _,
+            settled: _,
         } = self;
     }
 }
 
 impl Model for ChainCore {
-    ghost use Rattle.std.specs.Prelude.{◌≡◌};
     ghost use Rattle.cfg_profile.specs.Configuration.{Configuration, configuration_code};
-    ghost use Rattle.cfg_chain.specs.profile.Plans.{key_of};
+    ghost use Rattle.cfg_chain.specs.Settled.{IsSettled};
 
     ghost Value = { Configuration };
 
@@ -48,13 +48,14 @@ impl Model for ChainCore {
 
     ghost view = { λ c. c.config };
 
-    ghost invariant = { λ c. c.token_key ≡ key_of c.config };
+    ghost invariant = { λ c. IsSettled c.config c.settled };
 }
 
 impl ChainCore {
     /// The core of a chain of this configuration, in the region that this source gives, none included, or where
     /// none is given here, that the default region chain over the configuration gives. Nothing else is asked.
-    /// Whose token the chain needs is read from the selected profile now.
+    /// What the configuration settles of every call is read from it now: whose token the chain needs, the plan of the
+    /// selected profile, the address of a container, and where instance metadata is asked.
     ///
     /// # Errors
     ///
@@ -69,12 +70,12 @@ impl ChainCore {
             world.old world.new core) }
         ensures breaks { OnErr result (RegionBreaks ⟦<D as Devices>⟧ (option_map (region_source told_region repeated) region) config world.old world.new) }
     {
-        let token_key = token_key_of(alloc, &config)?;
+        let settled = Settled::of(alloc, &config)?;
         let config = with_region_from(alloc, region, config, world)?;
         Ok(ChainCore {
             alloc,
             config,
-            token_key,
+            settled,
         })
     }
 
@@ -82,11 +83,11 @@ impl ChainCore {
     pub fn of(alloc: Global, config: ProviderConfig) -> Result<ChainCore, OutOfMemory>
         ensures { IfOk result (λ core. core ≡ config) }
     {
-        let token_key = token_key_of(alloc, &config)?;
+        let settled = Settled::of(alloc, &config)?;
         Ok(ChainCore {
             alloc,
             config,
-            token_key,
+            settled,
         })
     }
 
@@ -102,7 +103,7 @@ impl ChainCore {
     pub fn token_key(&self) -> Option<&TokenKey>
         ensures { option_copied result ≡ key_of self.now }
     {
-        self.token_key.as_ref()
+        self.settled.token_key.as_ref()
     }
 
     /// What the chain keeps between calls, with nothing kept. `OutOfMemory` where memory runs out.
@@ -110,8 +111,15 @@ impl ChainCore {
         ensures nothing { IfOk result (λ kept. states_of kept ≡ no_states) }
         ensures key { IfOk result (λ kept. kept_key kept ≡ key_of self.now) }
     {
-        let key = copy_option(self.alloc, &self.token_key)?;
+        let key = copy_option(self.alloc, &self.settled.token_key)?;
         Ok(Kept::new(self.alloc, key))
+    }
+
+    // What the configuration settles of every call.
+    pub(crate) fn settled(&self) -> &Settled
+        ensures { IsSettled self.now result.now }
+    {
+        &self.settled
     }
 
     pub(crate) fn alloc(&self) -> Global {

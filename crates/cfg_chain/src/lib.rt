@@ -11,6 +11,7 @@ pub mod default_provider;
 pub mod laws;
 mod member;
 pub mod profile;
+mod settled;
 
 pub use cfg_imds::Client;
 pub use cfg_kept::{Found, Kept};

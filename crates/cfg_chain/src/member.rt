@@ -3,14 +3,15 @@ ghost use Rattle.std.specs.Prelude.{◌≡◌};
 ghost use Rattle.cfg_base.specs.Text.{characters};
 ghost use Rattle.cfg_sso.specs.Tokens.{HasKey};
 ghost use Rattle.cfg_chain.specs.Follows.{FollowsTree};
+ghost use Rattle.cfg_chain.specs.Settled.{IsSettled};
 ghost use Rattle.cfg_chain.specs.Views.{view};
 ghost use Rattle.cfg_chain.specs.Members.{name_of, member_tree};
 ghost use Rattle.cfg_chain.specs.profile.Plans.{key_of};
 
 use crate::call::ChainCall;
-use crate::profile::base::{ask_container, ask_metadata};
+use crate::profile::base::{ask_chain_metadata, ask_container};
 use crate::profile::provider::follow_profile;
-use cfg_kept::{Keeper, Place};
+use cfg_kept::Keeper;
 use cfg_providers::steps::{SessionPolicies, follow_environment, web_identity};
 use cfg_types::{Credentials, CredentialsError};
 use cfg_world::{Asking, Stop};
@@ -54,7 +55,8 @@ pub fn follow_member<P: Keeper, A: Asking>(
     keeper: &mut P,
     asking: &mut A,
 ) -> Result<Result<Credentials, CredentialsError>, Stop>
-    requires { HasKey (key_of call.now.config.now) (P.key_held keeper.old) }
+    requires settled { IsSettled call.now.config.now call.now.settled.now }
+    requires key { HasKey (key_of call.now.config.now) (P.key_held keeper.old) }
     ensures follows { FollowsTree ⟦<A as Asking>⟧ ⟦<P as Keeper>⟧ (member_tree (view value repeated call.now) member)
         asking.old asking.new keeper.old keeper.new result }
     ensures key { P.key_held keeper.new ≡ P.key_held keeper.old }
@@ -74,8 +76,6 @@ pub fn follow_member<P: Keeper, A: Asking>(
             let outcome = ask_container(call, asking)?;
             Ok(outcome)
         }
-        Member::Ec2InstanceMetadata => {
-            ask_metadata(call, call.imds_client, Place::Chain, keeper, asking)
-        }
+        Member::Ec2InstanceMetadata => ask_chain_metadata(call, keeper, asking),
     }
 }

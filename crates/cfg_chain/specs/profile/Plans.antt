@@ -1,5 +1,6 @@
 -- What the selected profile gives credentials by.
 use Rattle.std.specs.Prelude.{ℕ, List, [], Bool, true, false, Option, Some, None, Result, Ok, Err, if◌then◌else◌}
+use Rattle.std.specs.Result.{result_ok}
 use Rattle.cfg_types.specs.declared.errors.ConfigCause.TheVariants as config
 use Rattle.cfg_types.specs.declared.errors.CredentialsError.{CredentialsError}
 use Rattle.cfg_types.specs.declared.errors.CredentialsError.TheVariants as error
@@ -35,6 +36,10 @@ plan_in (Sections sets) name sources = profile_plan sets name sources
 unfoldable pub plan : Configuration → List (List ℕ) → Planned
 plan conf sources = plan_in conf.profiles (selected_name conf) sources
 
+-- The plan, where it needs no source of the caller's own. It is the same whatever sources the caller has.
+unfoldable pub settled_plan : Configuration → Option ProfileChain
+settled_plan conf = result_ok (plan conf [])
+
 -- ---- where there is no plan
 
 -- The errors of a profile that is not there, that has no credentials, or that gives a token in place
@@ -59,6 +64,11 @@ refusal e = if is_not_loaded_error e then error.CredentialsNotLoaded (not_loaded
 abbrev pub key_of_base : BaseProvider → Option TokenKey
 key_of_base (base.LoginSession session) = Some (Login session)
 key_of_base b = session_of_base b
+
+-- whose token a plan needs that is settled
+abbrev pub key_of_settled : Option ProfileChain → Option TokenKey
+key_of_settled (Some p) = key_of_base p.base
+key_of_settled None = None
 
 abbrev pub key_of_plan : Planned → Option TokenKey
 key_of_plan (Ok p) = key_of_base p.base

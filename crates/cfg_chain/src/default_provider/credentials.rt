@@ -13,14 +13,14 @@ ghost use Rattle.cfg_chain.specs.Callers.{TellsCaller};
 ghost use Rattle.cfg_chain.specs.Follows.{FollowsTree, FollowsChain};
 ghost use Rattle.cfg_chain.specs.Members.{default_chain};
 ghost use Rattle.cfg_chain.specs.Provides.{ProvidesOn, InterruptedOn};
+ghost use Rattle.cfg_chain.specs.Settled.{IsSettled};
 ghost use Rattle.cfg_chain.specs.Setups.{nothing_set, setup, setup_by, with_region, with_source, Builds, BuildBreaks};
 ghost use Rattle.cfg_chain.specs.Views.{chain_of, view};
 
-use crate::call::{ChainCall, given_or};
+use crate::call::ChainCall;
 use crate::chain::follow_chain;
 use crate::chain_core::ChainCore;
 use crate::member::Member;
-use cfg_exchange::steps::container_uri;
 use cfg_imds::Client;
 use cfg_kept::{Keeper, Kept, Place};
 use cfg_profile::ProviderConfig;
@@ -109,7 +109,8 @@ impl Builder {
 
     /// The chain. Its source of the region is asked where one was set, and else the default region chain over
     /// its configuration and its profile; then nothing more. What that gives, none included, is the chain's
-    /// region, in place of the configuration's. Whose token the chain needs is read from its profile now.
+    /// region, in place of the configuration's. What is settled of every call is read from its configuration now: whose
+    /// token it needs, the plan of its profile, the address of a container, and where instance metadata is asked.
     ///
     /// # Errors
     ///
@@ -145,7 +146,7 @@ impl Builder {
 /// core that [`ChainCore::new`] gives: any three are a chain.
 #[derive(Drop)]
 pub struct DefaultCredentialsChain {
-    /// The configuration, and what is read from it once.
+    /// The configuration, and what it settles of every call.
     pub core: ChainCore,
     /// The caller's own sources, which a profile names by `credential_source`. The last of a name counts.
     pub custom_sources: Vec<CustomSource>,
@@ -205,17 +206,14 @@ impl DefaultCredentialsChain {
         ensures follows { FollowsChain ⟦<A as Asking>⟧ ⟦<P as Keeper>⟧ (chain_of value repeated self.now) asking.old asking.new keeper.old keeper.new result }
         ensures key { P.key_held keeper.new ≡ P.key_held keeper.old }
     {
-        let alloc = self.core.alloc();
         let config = self.core.config();
-        let container = container_uri(alloc, config.env())?;
-        let own = Client::configured(alloc, config)?;
+        let settled = self.core.settled();
         let call = ChainCall {
-            alloc,
+            alloc: self.core.alloc(),
             config,
+            settled,
             custom_sources: self.custom_sources.as_slice(),
-            container: &container,
-            imds_client: given_or(self.imds_client.as_ref(), &own),
-            named_imds_client: &own,
+            imds_client: self.imds_client.as_ref(),
         };
         follow_members(&call, keeper, asking)
     }
@@ -280,13 +278,14 @@ impl DefaultCredentialsChain {
     }
 }
 
-// The members' questions, where it is known what services the configuration names.
+// The members' questions.
 fn follow_members<P: Keeper, A: Asking>(
     call: &ChainCall,
     keeper: &mut P,
     asking: &mut A,
 ) -> Result<Result<Credentials, CredentialsError>, Stop>
-    requires { HasKey (key_of call.now.config.now) (P.key_held keeper.old) }
+    requires settled { IsSettled call.now.config.now call.now.settled.now }
+    requires key { HasKey (key_of call.now.config.now) (P.key_held keeper.old) }
     ensures follows { FollowsTree ⟦<A as Asking>⟧ ⟦<P as Keeper>⟧ (default_chain (view value repeated call.now))
         asking.old asking.new keeper.old keeper.new result }
     ensures key { P.key_held keeper.new ≡ P.key_held keeper.old }

@@ -2,6 +2,8 @@
 ghost use Rattle.std.specs.Prelude.{◌≡◌, IfOk, None};
 ghost use Rattle.cfg_world.specs.Follows.{Follows};
 ghost use Rattle.cfg_imds.specs.Clients.{client_rules};
+ghost use Rattle.cfg_imds.specs.Setups.{client_of};
+ghost use Rattle.cfg_imds_credentials.specs.Metadata.{metadata};
 ghost use Rattle.cfg_providers.specs.CustomSources.{last_named};
 ghost use Rattle.cfg_providers.specs.Processes.{credential_process as credential_process_of};
 ghost use Rattle.cfg_providers.specs.WebIdentities.{no_policies, assumes_by_web_identity};
@@ -9,6 +11,7 @@ ghost use Rattle.cfg_login.specs.SignIns.{sign_in_credentials};
 ghost use Rattle.cfg_sso.specs.Tokens.{HasKey, key_by};
 ghost use Rattle.cfg_sso.specs.SsoCredentials.{sso_credentials};
 ghost use Rattle.cfg_chain.specs.Follows.{FollowsTree};
+ghost use Rattle.cfg_chain.specs.Settings.{chain_metadata};
 ghost use Rattle.cfg_chain.specs.Views.{named_sources, view};
 ghost use Rattle.cfg_chain.specs.profile.Bases.{unknown_source as unknown_source_of, by_container, built_in_source, named_source, profile_session, signed_on, without_role as without_role_of, base_tree, in_base as in_base_of, based, metadata_by};
 ghost use Rattle.cfg_chain.specs.profile.Plans.{key_of_base};
@@ -17,7 +20,7 @@ use crate::call::ChainCall;
 use crate::profile::plan::refusal;
 use cfg_exchange::steps::{ContainerSettings, follow_container};
 use cfg_imds::Client;
-use cfg_imds::steps::is_disabled;
+use cfg_imds::steps::{client_at, is_disabled};
 use cfg_imds_credentials::steps::follow_metadata;
 use cfg_kept::{Keeper, Place};
 use cfg_login::AskedBy;
@@ -270,7 +273,7 @@ fn follow_built_in<P: Keeper, A: Asking>(
         return Ok(outcome);
     }
     if is_alike(name, "Ec2InstanceMetadata") {
-        return ask_metadata(call, call.named_imds_client, Place::Named, keeper, asking);
+        return ask_own_metadata(call, Place::Named, keeper, asking);
     }
     let answer = unknown_source(call.alloc, name)?;
     Ok(answer)
@@ -288,8 +291,43 @@ fn unknown_source(
     Ok(Err(refusal(ProfileFileError::UnknownProvider { name })))
 }
 
-/// The credentials of the role that the instance metadata service lists.
-pub(crate) fn ask_metadata<P: Keeper, A: Asking>(
+/// The credentials of the role that the instance metadata service lists, by the client that the chain was given, and
+/// else by the configuration's.
+pub(crate) fn ask_chain_metadata<P: Keeper, A: Asking>(
+    call: &ChainCall,
+    keeper: &mut P,
+    asking: &mut A,
+) -> Result<Result<Credentials, CredentialsError>, Stop>
+    ensures follows { FollowsTree ⟦<A as Asking>⟧ ⟦<P as Keeper>⟧ (metadata (chain_metadata (view value repeated call.now)))
+        asking.old asking.new keeper.old keeper.new result }
+    ensures key { P.key_held keeper.new ≡ P.key_held keeper.old }
+{
+    match call.imds_client {
+        Some(client) => ask_metadata(call, client, Place::Chain, keeper, asking),
+        None => ask_own_metadata(call, Place::Chain, keeper, asking),
+    }
+}
+
+// The same by the configuration's client, which is made now. It asks where the chain has it.
+#[tactic(auto, using(cfg_kept::proofs::HoldingSteps::holding_steps))]
+fn ask_own_metadata<P: Keeper, A: Asking>(
+    call: &ChainCall,
+    place: Place,
+    keeper: &mut P,
+    asking: &mut A,
+) -> Result<Result<Credentials, CredentialsError>, Stop>
+    ensures follows { FollowsTree ⟦<A as Asking>⟧ ⟦<P as Keeper>⟧
+        (metadata_by call.now.config.now (client_of call.now.settled.now.imds_endpoint) place)
+        asking.old asking.new keeper.old keeper.new result }
+    ensures key { P.key_held keeper.new ≡ P.key_held keeper.old }
+{
+    let endpoint = call.settled.imds_endpoint.copy(call.alloc)?;
+    let client = client_at(call.alloc, endpoint);
+    ask_metadata(call, &client, place, keeper, asking)
+}
+
+// The same by this client.
+fn ask_metadata<P: Keeper, A: Asking>(
     call: &ChainCall,
     client: &Client,
     place: Place,
@@ -310,14 +348,14 @@ pub(crate) fn ask_container<A: Asking>(
     call: &ChainCall,
     asking: &mut A,
 ) -> Result<Result<Credentials, CredentialsError>, Stop>
-    ensures { Follows ⟦<A as Asking>⟧ (by_container call.now.config.now call.now.container.now) asking.old asking.new result }
+    ensures { Follows ⟦<A as Asking>⟧ (by_container call.now.config.now call.now.settled.now.container) asking.old asking.new result }
 {
     let settings = ContainerSettings::new(true, call.config.sleep_impl());
     follow_container(
         call.alloc,
         call.config.env(),
         &settings,
-        call.container,
+        &call.settled.container,
         asking,
     )
 }

@@ -15,8 +15,6 @@ ghost use Rattle.cfg_chain.specs.profile.Setups.{no_provider_set, provider_setup
 use crate::call::ChainCall;
 use crate::chain_core::ChainCore;
 use crate::profile::provider::follow_profile;
-use cfg_exchange::steps::container_uri;
-use cfg_imds::Client;
 use cfg_kept::{Keeper, Kept};
 use cfg_profile::{ProfileSource, ProviderConfig};
 use cfg_providers::{CustomProvider, CustomSource};
@@ -70,17 +68,14 @@ impl ProfileFileCredentialsProvider {
         ensures follows { FollowsProvider ⟦<A as Asking>⟧ ⟦<P as Keeper>⟧ (provider_of value self.now) asking.old asking.new keeper.old keeper.new result }
         ensures key { P.key_held keeper.new ≡ P.key_held keeper.old }
     {
-        let alloc = self.core.alloc();
         let config = self.core.config();
-        let container = container_uri(alloc, config.env())?;
-        let own = Client::configured(alloc, config)?;
+        let settled = self.core.settled();
         let call = ChainCall {
-            alloc,
+            alloc: self.core.alloc(),
             config,
+            settled,
             custom_sources: self.custom_sources.as_slice(),
-            container: &container,
-            imds_client: &own,
-            named_imds_client: &own,
+            imds_client: None,
         };
         follow_profile(&call, keeper, asking)
     }
@@ -211,8 +206,8 @@ impl Builder {
         Ok(self)
     }
 
-    /// The provider. Whose token it needs is read from the selected profile now. Nothing is asked.
-    /// `OutOfMemory` where memory runs out.
+    /// The provider. What is settled of every call is read from its configuration now, the plan and whose token it
+    /// needs among it. Nothing is asked. `OutOfMemory` where memory runs out.
     pub fn build(self) -> Result<ProfileFileCredentialsProvider, OutOfMemory>
         ensures { IfOk result (λ p. provider_of value p ≡ provider_configured (provider_setup value self)) }
     {

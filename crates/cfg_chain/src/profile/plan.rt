@@ -1,7 +1,7 @@
 //! What the selected profile gives credentials by.
 ghost use Rattle.std.specs.Prelude.{◌≡◌, IfOk};
 ghost use Rattle.cfg_providers.specs.Gives.{GivesAnswer};
-ghost use Rattle.cfg_chain.specs.profile.Plans.{profile_plan, plan, refusal as refusal_of, key_of_base as key_of_base_of, key_of_plan, key_of};
+ghost use Rattle.cfg_chain.specs.profile.Plans.{profile_plan, plan, settled_plan as settled_plan_of, refusal as refusal_of, key_of_base as key_of_base_of, key_of_settled};
 
 use cfg_profile::{
     BaseProvider, ProfileChain, ProfileSet, ProfileSource, ProviderConfig, plan_of_profile,
@@ -71,19 +71,33 @@ pub(crate) fn refusal(error: ProfileFileError) -> CredentialsError
     }
 }
 
-/// Whose token a configuration needs: that of the session of IAM Identity Center, or of the sign-in
-/// session, that the selected profile's plan begins with, if it begins with one.
-#[tactic(auto, unfolding(crate::specs::profile::Plans::key_of))]
-pub(crate) fn token_key_of(
+/// The plan of the selected profile, where it needs no source of the caller's own. It is the plan then whatever
+/// sources the caller has. `OutOfMemory` where memory runs out.
+#[tactic(auto, unfolding(crate::specs::profile::Plans::settled_plan))]
+pub(crate) fn settled_plan(
     alloc: Global,
     config: &ProviderConfig,
-) -> Result<Option<TokenKey>, OutOfMemory>
-    ensures { IfOk result (λ key. key ≡ key_of config.now) }
+) -> Result<Option<ProfileChain>, OutOfMemory>
+    ensures { IfOk result (λ plan. plan ≡ settled_plan_of config.now) }
 {
     match plan_of(alloc, config, &[]) {
-        Ok(plan) => key_of_base(alloc, &plan.base),
+        Ok(plan) => Ok(Some(plan)),
         Err(Halt::Refused(_)) => Ok(None),
         Err(Halt::Stopped(_)) => Err(OutOfMemory),
+    }
+}
+
+/// Whose token a plan needs: that of the session of IAM Identity Center, or of the sign-in session, that it begins
+/// with, if it begins with one. A plan that needs a source of the caller's own needs no token.
+pub(crate) fn token_key_of(
+    alloc: Global,
+    plan: &Option<ProfileChain>,
+) -> Result<Option<TokenKey>, OutOfMemory>
+    ensures { IfOk result (λ key. key ≡ key_of_settled plan.now) }
+{
+    match plan {
+        Some(plan) => key_of_base(alloc, &plan.base),
+        None => Ok(None),
     }
 }
 

@@ -5,6 +5,7 @@ ghost use Rattle.cfg_profile.specs.Settings.{settings_of};
 ghost use Rattle.cfg_providers.specs.AssumeRole.{assumes_roles};
 ghost use Rattle.cfg_sso.specs.Tokens.{HasKey};
 ghost use Rattle.cfg_chain.specs.Follows.{FollowsTree};
+ghost use Rattle.cfg_chain.specs.Settled.{IsSettled};
 ghost use Rattle.cfg_chain.specs.Views.{view};
 ghost use Rattle.cfg_chain.specs.profile.Plans.{key_of_base, key_of};
 ghost use Rattle.cfg_chain.specs.profile.Profiles.{by_profile, marked as marked_of, assumed, follows_planned, profile};
@@ -21,8 +22,25 @@ use cfg_world::{Asking, Halt, Stop};
 /// Asks the base of the selected profile, assumes its roles, and answers the last one's credentials, or the
 /// error of the plan, of the base or of the exchange. It stops with `Open` at a question that is left open, and
 /// with `OutOfMemory` where memory runs out.
-#[tactic(auto, using(cfg_kept::proofs::HoldingSteps::holding_steps), unfolding(crate::specs::profile::Profiles::profile))]
 pub fn follow_profile<P: Keeper, A: Asking>(
+    call: &ChainCall,
+    keeper: &mut P,
+    asking: &mut A,
+) -> Result<Result<Credentials, CredentialsError>, Stop>
+    requires settled { IsSettled call.now.config.now call.now.settled.now }
+    requires key { HasKey (key_of call.now.config.now) (P.key_held keeper.old) }
+    ensures follows { FollowsTree ⟦<A as Asking>⟧ ⟦<P as Keeper>⟧ (profile (view value repeated call.now)) asking.old asking.new keeper.old keeper.new result }
+    ensures key { P.key_held keeper.new ≡ P.key_held keeper.old }
+{
+    match &call.settled.plan {
+        Some(plan) => follow_plan(call, plan, keeper, asking),
+        None => follow_unsettled(call, keeper, asking),
+    }
+}
+
+// The same, by the plan as it is made now: it needs a source of the caller's own, or there is none.
+#[tactic(auto, using(cfg_kept::proofs::HoldingSteps::holding_steps), unfolding(crate::specs::profile::Profiles::profile))]
+fn follow_unsettled<P: Keeper, A: Asking>(
     call: &ChainCall,
     keeper: &mut P,
     asking: &mut A,
