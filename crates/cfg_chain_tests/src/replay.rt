@@ -174,7 +174,7 @@ fn each_call_of_the_devices_may_fail(rt: HostRuntime) -> Result<(), Fail> {
         (
             CONTAINER,
             r#"1: 1 ProviderError(File("/t"))
-2: 2 InvalidConfiguration(FullUri { error: DnsLookupFailed, uri: "http://n/c" })
+2: 2 InvalidConfiguration(FullUri(http://n/c: failed to perform DNS lookup while validating URI))
 3: 5 Unhandled(NoDocument(JsonError(NotObject)))
 4: 5 Unhandled(NoDocument(JsonError(NotObject)))
 5: 5 Unhandled(Sent(Dispatch))

@@ -113,7 +113,7 @@ fn endpoints_and_modes_by_their_texts(rt: HostRuntime) -> Result<(), Fail> {
         ("ipv4", "Ok(IpV4) taken"),
         ("IPV6", "Ok(IpV6) taken"),
         ("http://h", "Err(Mode(\"http://h\")) taken"),
-        (" ", "Err(Mode(\" \")) InvalidEndpointUri(\" \")"),
+        (" ", "Err(Mode(\" \")) InvalidEndpointUri( )"),
     ];
     for (text, want) in table {
         let words = endpoint_words(rt.alloc(), text)?;
