@@ -1,5 +1,5 @@
 -- A region that is known already, or that comes by polls.
-use Rattle.std.specs.Prelude.{◌≡◌, ◌++◌, List, Option, Some, None, IsSome, option_to_list}
+use Rattle.std.specs.Prelude.{◌≡◌, ◌++◌, Option, Some, None, IsSome, option_to_list}
 use Rattle.cfg_world.specs.declared.ask.Question.{Question}
 use Rattle.cfg_world.specs.Fits.{Pair}
 use Rattle.cfg_exchange.specs.Classifiers.{Repeats}
@@ -8,7 +8,6 @@ use Rattle.cfg_region.specs.SourceLists.{region_sources, trees, chain_tree}
 use Rattle.cfg_run.specs.RegionRuns.{IsUnderWay, ComesTo}
 use Rattle.cfg_run.specs.declared.future.Source.{Source}
 use Rattle.cfg_run.specs.declared.future.Source.TheVariants.{Known, Polled}
-use Rattle.cfg_run.specs.declared.region_run.RegionRun.{RegionRun}
 use Rattle.cfg_run.specs.declared.region_run.RegionStep.{RegionStep}
 use Rattle.cfg_run.specs.declared.region_run.RegionStep.TheVariants.{Ready}
 

@@ -1,5 +1,5 @@
 -- The copy is what was kept at the start.
-use Rattle.std.proofs.Common.{sym, ap, ◌∙◌}
+use Rattle.std.proofs.Common.{ap, ◌∙◌}
 use Rattle.cfg_kept.specs.KeyedStates.{key_of}
 use Rattle.cfg_run.specs.CallSoFar.{CallSoFar}
 use Rattle.cfg_run.proofs.KeptCopies.{same_states}

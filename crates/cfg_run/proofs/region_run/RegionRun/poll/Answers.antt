@@ -1,5 +1,5 @@
 -- The run stands on the walk over what was asked.
-use Rattle.std.proofs.Common.{length, Some, option_to_list, refl, sym, ap, subst}
+use Rattle.std.proofs.Common.{length, option_to_list, refl, sym, ap, subst}
 use Rattle.cfg_world.specs.Inquiry.{Begun}
 use Rattle.cfg_region.specs.SourceLists.{region_sources, trees, chain_tree}
 use Rattle.cfg_region.proofs.Chains.{chain_parts}
