@@ -116,7 +116,8 @@ impl<'a> Run<'a> {
         requires { kept_key walked.kept ≡ self.old.progress.key }
         ensures chain { self.new.chain.now ≡ self.old.chain.now }
         ensures step { result ≡ step_of walked.next }
-        ensures progress { self.new.progress ≡ record self.old.progress { kept = states_of walked.kept; found = map bare walked.kept.found.items; question = question_of walked.next } }
+        ensures progress { self.new.progress ≡ record self.old.progress
+            { kept = states_of walked.kept; found = map bare walked.kept.found.items; question = question_of walked.next } }
     {
         let Walked { kept, next } = walked;
         match next {
@@ -136,7 +137,8 @@ impl<'a> Run<'a> {
 fn next_of(chain: &DefaultCredentialsChain, progress: &KeptProgress) -> Result<Walked, OutOfMemory>
     requires key { progress.now.key ≡ key_of chain.now.core }
     requires begun { HasBegun (chain_of value repeated chain.now) progress.now.base progress.now.asked }
-    ensures comes { IfOk result (λ w. ComesNext (chain_of value repeated chain.now) progress.now.base (states_of w.kept) (map bare w.kept.found.items) progress.now.asked w.next) }
+    ensures comes { IfOk result (λ w. ComesNext (chain_of value repeated chain.now)
+        progress.now.base (states_of w.kept) (map bare w.kept.found.items) progress.now.asked w.next) }
     ensures key { IfOk result (λ w. kept_key w.kept ≡ progress.now.key) }
 {
     let mut kept = progress.copy_base()?;
