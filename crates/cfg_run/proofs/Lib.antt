@@ -1,0 +1,7 @@
+pub mod ReplaySteps
+pub mod RegionSteps
+pub mod RegionLaws
+pub mod TreeSteps
+pub mod KeptCopies
+pub mod RunSteps
+pub mod CallLaws

@@ -1,0 +1,130 @@
+//! How far a run is that keeps values.
+ghost use Rattle.std.specs.Prelude.{◌≡◌, ◌++◌, [], take, option_to_list, map, None, IfOk, OnOk, OnErr};
+ghost use Rattle.std.specs.Option.{option_copied};
+ghost use Rattle.cfg_kept.specs.FoundValues.{bare};
+ghost use Rattle.cfg_kept.specs.KeptStates.{states_of, kept_key};
+
+use crate::progress::Progress;
+use crate::replay::Replay;
+use cfg_kept::Kept;
+use cfg_types::OutOfMemory;
+use cfg_world::{Question, Receipt};
+use std::alloc::Global;
+use std::marker::Model;
+
+/// What was kept at the start, with nothing found, and after the last poll, if there was one; and what was asked.
+#[derive(Drop)]
+pub(crate) struct KeptProgress {
+    alloc: Global,
+    base: Kept,
+    later: Option<Kept>,
+    progress: Progress,
+}
+
+impl Model for KeptProgress {
+    ghost use Rattle.std.specs.Prelude.{◌≡◌, [], map};
+    ghost use Rattle.cfg_kept.specs.FoundValues.{bare};
+    ghost use Rattle.cfg_kept.specs.KeptStates.{states_of, kept_key};
+    ghost use Rattle.cfg_run.specs.CallSoFar.{CallSoFar, kept_now};
+
+    ghost Value = { CallSoFar };
+
+    ghost view = { λ p. record {
+      key = kept_key p.base;
+      base = states_of p.base;
+      kept = states_of (kept_now p.base p.later);
+      found = map bare (kept_now p.base p.later).found.items;
+      asked = p.progress.asked;
+      question = p.progress.question;
+    } };
+
+    ghost invariant = { λ p. (p.base.found.items ≡ []) × (kept_key (kept_now p.base p.later) ≡ kept_key p.base) };
+}
+
+impl KeptProgress {
+    /// Nothing was asked, and no question is shown. The values that were found before are given up. Takes no memory.
+    pub(crate) fn new(alloc: Global, kept: Kept) -> KeptProgress
+        ensures { result ≡ record { key = kept_key kept; base = states_of kept; kept = states_of kept; found = []; asked = []; question = None } }
+    {
+        let mut base = kept;
+        base.clear_found();
+        KeptProgress {
+            alloc,
+            base,
+            later: None,
+            progress: Progress::new(alloc),
+        }
+    }
+
+    pub(crate) fn asked(&self) -> &[Receipt]
+        ensures { result.now ≡ self.now.asked }
+    {
+        self.progress.asked()
+    }
+
+    pub(crate) fn question(&self) -> Option<&Question>
+        ensures { option_copied result ≡ self.now.question }
+    {
+        self.progress.question()
+    }
+
+    /// What is kept now, with the values that were found.
+    pub(crate) fn into_kept(self) -> Kept
+        ensures states { states_of result ≡ self.kept }
+        ensures found { map bare result.found.items ≡ self.found }
+        ensures key { kept_key result ≡ self.key }
+    {
+        let KeptProgress {
+            alloc: _,
+            base,
+            later,
+            progress: _,
+        } = self;
+        match later {
+            Some(kept) => kept,
+            None => base,
+        }
+    }
+
+    /// With this receipt behind the others. `OutOfMemory` where memory runs out, and nothing changes.
+    pub(crate) fn hand_in(&mut self, receipt: Option<Receipt>) -> Result<(), OutOfMemory>
+        ensures asked { OnOk result (self.new ≡ record self.old { asked = self.old.asked ++ option_to_list receipt }) }
+        ensures stays { OnErr result (self.new ≡ self.old) }
+    {
+        self.progress.hand_in(receipt)?;
+        Ok(())
+    }
+
+    /// The first receipts, as many as this, stay, and those behind them are given up.
+    pub(crate) fn take_back(&mut self, count: usize)
+        ensures { self.new ≡ record self.old { asked = take count self.old.asked } }
+    {
+        self.progress.take_back(count);
+    }
+
+    /// With this kept now, and with this question shown, or none. It has the key of what was kept at the start.
+    pub(crate) fn show(&mut self, kept: Kept, question: Option<Question>)
+        requires { kept_key kept ≡ self.old.key }
+        ensures { self.new ≡ record self.old { kept = states_of kept; found = map bare kept.found.items; question = question } }
+    {
+        self.later = Some(kept);
+        self.progress.show(question);
+    }
+
+    /// A copy of what was kept at the start, with nothing found. `OutOfMemory` where memory runs out.
+    pub(crate) fn copy_base(&self) -> Result<Kept, OutOfMemory>
+        ensures states { IfOk result (λ kept. states_of kept ≡ self.now.base) }
+        ensures key { IfOk result (λ kept. kept_key kept ≡ self.now.key) }
+        ensures found { IfOk result (λ kept. kept.found.items ≡ []) }
+    {
+        let kept = self.base.copy(self.alloc)?;
+        Ok(kept)
+    }
+
+    /// The receipts, handed out again.
+    pub(crate) fn replay(&self) -> Replay<'_>
+        ensures { result ≡ record { handed = []; left = self.now.asked; unanswered = None } }
+    {
+        self.progress.replay()
+    }
+}
