@@ -12,4 +12,6 @@ mod own;
 #[cfg(test)]
 mod replay;
 #[cfg(test)]
+mod runs;
+#[cfg(test)]
 mod setup;

@@ -8,31 +8,31 @@ use std::alloc::Global;
 use std::test::Fail;
 
 // One role over keys.
-const ROLE: &str =
+pub(crate) const ROLE: &str =
     r#"{"profiles":[["default",[["role_arn","r"],["source_profile","b"]]],["b",[["aws_access_key_id","K"],["aws_secret_access_key","S"]]]],"clock":[7],"replies":{"assume-role":[{"id":"KA","secret":"SA","token":"TA","expires":2000}]}}"#;
 
 // Two roles over a process. The first one's session has the clock's name.
-const PROCESS: &str =
+pub(crate) const PROCESS: &str =
     r#"{"profiles":[["default",[["role_arn","r"],["source_profile","b"],["role_session_name","s"]]],["b",[["role_arn","q"],["source_profile","c"]]],["c",[["credential_process","p"]]]],"clock":[7],"commands":[[0,"{\"Version\":1,\"AccessKeyId\":\"P\",\"SecretAccessKey\":\"S\"}",""]],"replies":{"assume-role":[{"id":"KB","secret":"SB","token":"TB","expires":1000},{"id":"KA","secret":"SA","token":"TA","expires":2000}]}}"#;
 
 // A web identity of the environment.
-const IDENTITY: &str =
+pub(crate) const IDENTITY: &str =
     r#"{"variables":[["AWS_WEB_IDENTITY_TOKEN_FILE","/j"],["AWS_ROLE_ARN","r"]],"files":[["/j","jwt"]],"clock":[1],"replies":{"web-identity":[{"id":"W","secret":"SW","token":"TW","expires":900}]}}"#;
 
 // A container with a token, whose third attempt has a document.
-const CONTAINER: &str =
+pub(crate) const CONTAINER: &str =
     r#"{"variables":[["AWS_CONTAINER_CREDENTIALS_FULL_URI","http://n/c"],["AWS_CONTAINER_AUTHORIZATION_TOKEN_FILE","/t"]],"files":[["/t","tok"]],"lookups":[["127.0.0.1"]],"replies":{"http":[[500,[],""],[200,[],"no document"],[200,[],"{\"AccessKeyId\":\"MUA\",\"SecretAccessKey\":\"S\",\"Token\":\"T\",\"Expiration\":\"2016-02-25T06:03:31Z\"}"]]}}"#;
 
 // Metadata, with a session token that ends at once and a document that ended.
-const METADATA: &str =
+pub(crate) const METADATA: &str =
     r#"{"clock":[1456380211],"jitter":[7],"replies":{"imds-token":[[200,[["x-aws-ec2-metadata-token-ttl-seconds","0"]],"tok"],[200,[["x-aws-ec2-metadata-token-ttl-seconds","0"]],"tok"]],"imds-get":[[200,[],"role"],[200,[],"{\"AccessKeyId\":\"MUA\",\"SecretAccessKey\":\"S\",\"Token\":\"T\",\"Expiration\":\"2016-02-25T06:03:31Z\"}"]]}}"#;
 
 // A session of IAM Identity Center, whose token is refreshed.
-const SESSION: &str =
+pub(crate) const SESSION: &str =
     r#"{"variables":[["HOME","/home/u"]],"profiles":[["default",[["sso_session","abc"],["sso_account_id","1"],["sso_role_name","r"]]]],"sessions":[["abc",[["sso_region","us-east-1"],["sso_start_url","u"]]]],"files":[["/home/u/.aws/sso/cache/a9993e364706816aba3e25717850c26c9cd0d89d.json","{\"accessToken\":\"t\",\"expiresAt\":\"1970-01-01T00:15:00Z\",\"clientId\":\"i\",\"clientSecret\":\"s\",\"refreshToken\":\"r\",\"registrationExpiresAt\":\"1970-01-02T00:00:00Z\"}"]],"clock":[700],"replies":{"create-token":[{"access":"t2","expires_in":3600}],"role-credentials":[{"id":"R","secret":"S","token":"T","expires_ms":5000000}]}}"#;
 
 // A role over a sign-in session, whose token is refreshed.
-const SIGN_IN: &str =
+pub(crate) const SIGN_IN: &str =
     r#"{"variables":[["AWS_LOGIN_CACHE_DIRECTORY","/c"]],"profiles":[["default",[["role_arn","r"],["source_profile","b"],["role_session_name","s"]]],["b",[["login_session","abc"]]]],"files":[["/c/ba7816bf8f01cfea414140de5dae2223b00361a396177a9cb410ff61f20015ad.json","{\"accessToken\":{\"accessKeyId\":\"AK\",\"secretAccessKey\":\"SK\",\"sessionToken\":\"ST\",\"accountId\":\"012345678901\",\"expiresAt\":\"1970-01-01T00:15:00Z\"},\"refreshToken\":\"rt\",\"clientId\":\"ci\",\"dpopKey\":\"dk\"}"]],"clock":[1000],"replies":{"sign-in":[{"id":"AK2","secret":"SK2","token":"ST2","refresh":"rt2","expires_in":900}],"assume-role":[{"id":"KA","secret":"SA","token":"TA","expires":2000}]}}"#;
 
 // What a script's chain comes to where the call of the devices of this number fails, none for 0, after how
