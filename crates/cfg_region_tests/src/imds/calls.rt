@@ -112,7 +112,11 @@ const TABLE: &[(&str, &str, &str)] = &[
         "Err(ErrorResponse(ErrorResponse { reply: HttpReply { status: 404, secrets: \"** redacted **\" } })) 4 Some(MetadataToken { value: \"** redacted **\", expiry: 9 s 0 ns })",
     ),
     ("/a", "{}", "Err(FailedToLoadToken(Sent(Dispatch))) 3 None"),
-    ("*", "{}", "Err(Unexpected(Path(\"** redacted **\"))) 0 None"),
+    (
+        "*",
+        "{}",
+        "Err(Unexpected(Path(\"** redacted **\"))) 0 None",
+    ),
     (
         "/a",
         r#"{"variables":[["AWS_EC2_METADATA_SERVICE_ENDPOINT","h"]]}"#,
