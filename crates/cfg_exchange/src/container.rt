@@ -277,9 +277,12 @@ fn said_keys(
         ) => {
             let account = account_of(alloc, &account_id)?;
             let origin = Seq::of_slice(alloc, &[AwsCredentialFeature::CredentialsHttp])?;
-            let id = access_key_id.as_str();
-            let secret = secret_access_key.as_str();
-            let mut builder = CredentialsBuilder::new(alloc, id, secret, "EcsContainer")?;
+            let mut builder = CredentialsBuilder::of_keys(
+                alloc,
+                access_key_id,
+                secret_access_key,
+                "EcsContainer",
+            )?;
             builder
                 .set_session_token(Some(session_token))
                 .set_expiry(Some(expiration))

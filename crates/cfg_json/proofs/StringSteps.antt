@@ -1,9 +1,9 @@
 -- Reading a string piece by piece, as the loops do.
-use Rattle.std.proofs.Common.{◌≡◌, ℕ, zero, suc, ◌+◌, ◌<◌, ◌≤◌, List, [], ◌∷◌, ◌++◌, length, take, drop, get_or, Bool, true, false, Option, Some, None, refl, sym, ap, ◌∙◌, append_assoc, add-one, arith, drop-cons}
+use Rattle.std.proofs.Common.{◌≡◌, ℕ, zero, suc, ◌+◌, ◌<◌, ◌≤◌, inl, inr, List, [], ◌∷◌, ◌++◌, length, take, drop, get_or, Bool, true, false, cond, Option, Some, None, refl, sym, ap, subst, ◌∙◌, append_assoc, add-one, arith, drop-cons}
 use Rattle.std.specs.Prelude.{◌==◌, ◌&&◌, not, is_some, option_map}
 use Rattle.std.specs.Str.{IsUtf8, chars}
 use Rattle.std.specs.Char.{encode_utf8}
-use Rattle.std.proofs.lemmas.Bool.{true≢false}
+use Rattle.std.proofs.lemmas.Bool.{cases_lt, true≢false}
 use Rattle.std.proofs.lemmas.List.{append-nil, nil_from_length, drop_all}
 use Rattle.std.proofs.lemmas.Str.{chars-append, chars-encodes}
 use lib.Utf8.{scalar}
@@ -34,6 +34,30 @@ end_further text i x e next total lt is open_ goes so_far =
     sym (one_further i (end_of next (drop (i + 1) text)))
     ∙ ap (λ (b : Bool). from_place i (option_map (λ n. n + 1) (end_of b (drop (i + 1) text)))) goes
     ∙ sym (ap (from_place i) one) ∙ sym (ap (λ (t : List ℕ). from_place i (end_of e t)) cut) ∙ so_far
+
+one_more_place : (i : ℕ) → (i + 1) + 1 ≡ i + 2
+one_more_place i = omega arith
+
+behind_backslash : (text : List ℕ) (i : ℕ) (total : Option ℕ) → from_place (i + 1) (end_of true (drop (i + 1) text)) ≡ total → from_place (i + 2) (end_of false (drop (i + 2) text)) ≡ total
+unfolding end_of
+behind_backslash text i total so_far = elim (cases_lt (i + 1) (length text)) [
+  | inl lt ↦ subst (λ (k : ℕ). from_place k (end_of false (drop k text)) ≡ total) (one_more_place i)
+      (end_further text (i + 1) (get_or text (i + 1) 0) true false total lt refl refl refl so_far)
+  | inr over ↦ nothing_left (drop_all (i + 1) text over) (drop_all (i + 2) text (omega arith))
+] where
+  nothing_left : drop (i + 1) text ≡ [] → drop (i + 2) text ≡ [] → from_place (i + 2) (end_of false (drop (i + 2) text)) ≡ total
+  nothing_left one two =
+      ap (λ (t : List ℕ). from_place (i + 2) (end_of false t)) two ∙ sym (ap (λ (t : List ℕ). from_place (i + 1) (end_of true t)) one) ∙ so_far
+
+-- Behind a backslash the next byte is passed over, too.
+pub end_reached : (text : List ℕ) (i x n : ℕ) (total : Option ℕ) → i < length text → x ≡ get_or text i 0 → (x == quotation_mark) ≡ false → n ≡ cond (x == backslash) 2 1
+    → from_place i (end_of false (drop i text)) ≡ total → from_place (i + n) (end_of false (drop (i + n) text)) ≡ total
+end_reached text i x n total lt is open_ far so_far =
+    subst (λ (k : ℕ). from_place (i + k) (end_of false (drop (i + k) text)) ≡ total) (sym far)
+    (by_mark (x == backslash) (end_further text i x false (x == backslash) total lt is open_ refl so_far)) where
+      by_mark : (b : Bool) → from_place (i + 1) (end_of b (drop (i + 1) text)) ≡ total → from_place (i + cond b 2 1) (end_of false (drop (i + cond b 2 1) text)) ≡ total
+      by_mark true p = behind_backslash text i total p
+      by_mark false p = p
 
 pub end_found : (text : List ℕ) (i x : ℕ) (e : Bool) (total : Option ℕ) → i < length text → x ≡ get_or text i 0
     → (not e && x == quotation_mark) ≡ true → from_place i (end_of e (drop i text)) ≡ total → Some i ≡ total

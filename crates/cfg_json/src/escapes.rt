@@ -27,6 +27,8 @@ fn hex_value(c: u8) -> Option<u32>
     (c as char).to_digit(16)
 }
 
+// Each escape is read here, so a call would be dear.
+#[inline(always)]
 #[tactic(auto, unfolding(crate::specs::Characters::code_unit))]
 fn four_digits(a: u8, b: u8, c: u8, d: u8) -> Option<u32>
     ensures value { result ≡ code_unit a b c d }
@@ -39,6 +41,7 @@ fn four_digits(a: u8, b: u8, c: u8, d: u8) -> Option<u32>
     Some(a * 4096 + b * 256 + c * 16 + d)
 }
 
+#[inline(always)]
 #[tactic(auto, unfolding(crate::specs::Reading::hex_at))]
 fn code_unit_at(text: &[u8]) -> Option<u32>
     ensures value { result ≡ hex_at text.now }

@@ -1,7 +1,7 @@
 //! Strings (RFC 8259, section 7).
-ghost use Rattle.std.specs.Prelude.{◌≡◌, ◌<◌, ◌≤◌, ◌++◌, ◌∷◌, [], ◌==◌, ◌&&◌, not, length, take, IfSome, IfOk, OnOk, MatchOption, false, true, is_some, Some, None, option_map, string_bytes};
+ghost use Rattle.std.specs.Prelude.{◌≡◌, ◌<◌, ◌≤◌, ◌++◌, ◌∷◌, [], ◌==◌, if◌then◌else◌, length, take, IfSome, IfOk, OnOk, MatchOption, false, true, is_some, Some, None, option_map, string_bytes};
 ghost use Rattle.std.specs.Char.{encode_utf8};
-ghost use Rattle.std.specs.List.{list_all};
+ghost use Rattle.std.specs.List.{list_all, prefix_len};
 ghost use lib.Utf8.{scalar};
 ghost use Rattle.cfg_base.specs.Text.{characters};
 ghost use Rattle.cfg_json.specs.Ascii.{quotation_mark, backslash};
@@ -16,16 +16,13 @@ use crate::text::JsonText;
 use cfg_types::{JsonError, OutOfMemory, Text};
 use std::alloc::{AllocError, Global};
 
-fn ends(escaped: bool, byte: u8) -> bool
-    ensures { result ≡ (not escaped && byte == quotation_mark) }
+// How far the byte reaches: what stands behind a backslash ends no string.
+fn reach(byte: u8) -> usize
+    ensures value { result ≡ (if byte == backslash then 2 else 1) }
+    ensures some { 1 ≤ result }
+    ensures few { result ≤ 2 }
 {
-    !escaped && byte == b'"'
-}
-
-fn escapes(escaped: bool, byte: u8) -> bool
-    ensures { result ≡ (not escaped && byte == backslash) }
-{
-    !escaped && byte == b'\\'
+    if byte == b'\\' { 2 } else { 1 }
 }
 
 /// The place of the quotation mark that ends the string.
@@ -33,12 +30,12 @@ fn string_end(text: &[u8]) -> Option<usize>
     ensures value { result ≡ end_of false text.now }
     ensures within { IfSome result (λ n. n < length text.now) }
 {
-    let mut escaped = false;
-    for (i, x) in text.iter().enumerate() {
-        if ends(escaped, *x) {
+    let mut i = 0;
+    while i < text.len() {
+        if text[i] == b'"' {
             return Some(i);
         }
-        escaped = escapes(escaped, *x);
+        i += reach(text[i]);
     }
     None
 }
@@ -67,13 +64,35 @@ pub fn push_character(out: &mut String, c: char) -> Result<(), OutOfMemory>
     Ok(())
 }
 
+// How many bytes at the front stand for themselves. Where many escapes stand, most often none does.
+fn run_at(text: &[u8]) -> usize
+    ensures value { result ≡ prefix_len is_plain_character text.now }
+    ensures within { result ≤ length text.now }
+{
+    match text {
+        [b'\\', ..] => 0,
+        _ => plain_run(text),
+    }
+}
+
+// Appends what stands for itself. `OutOfMemory` where memory runs out.
+fn push_run(out: &mut String, run: &str) -> Result<(), OutOfMemory>
+    ensures { OnOk result (string_bytes out.new ≡ string_bytes out.old ++ run.now) }
+{
+    if run.is_empty() {
+        return Ok(());
+    }
+    out.push_str(run)?;
+    Ok(())
+}
+
 // What stands for itself at the front of a string's content, and what follows.
 fn split_plain(text: &str) -> (&str, &str)
     ensures reads { ReadsOn text.now (characters result.0.now) result.1.now }
     ensures stops { StopsAt result.1.now }
     ensures within { length result.1.now ≤ length text.now }
 {
-    text.split_at(plain_run(text.as_bytes()))
+    text.split_at(run_at(text.as_bytes()))
 }
 
 // The character that the escape at the front stands for, and what follows it.
@@ -99,7 +118,7 @@ fn unescaped(alloc: Global, text: &str) -> Result<String, JsonError>
     let mut rest = text;
     loop {
         let (run, behind) = split_plain(rest);
-        out.push_str(run)?;
+        push_run(&mut out, run)?;
         if behind.is_empty() {
             return Ok(out);
         }

@@ -7,7 +7,7 @@ ghost use Rattle.cfg_providers.specs.Provides.{Provides, Interrupted};
 ghost use Rattle.cfg_providers.specs.RoleCauses.{why_roles};
 
 use crate::session_name::session_name;
-use crate::sts::reply_credentials;
+use crate::sts::credentials_of;
 use cfg_profile::RoleArn;
 use cfg_types::{
     AssumeRole, Boxed, CallSettings, Credentials, CredentialsError, OutOfMemory, ProviderCause,
@@ -121,7 +121,7 @@ fn granted(
     ensures { IfOk result (λ r. r ≡ granted_of answer) }
 {
     match answer {
-        Ok(reply) => reply_credentials(alloc, &reply, "AssumeRoleProvider"),
+        Ok(reply) => credentials_of(alloc, reply, "AssumeRoleProvider"),
         Err(NotGranted::Refused(refusal)) => {
             let cause = ProviderCause::Refused(refusal);
             Ok(Err(CredentialsError::ProviderError(cause)))

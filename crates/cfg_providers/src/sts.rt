@@ -6,8 +6,8 @@ ghost use Rattle.cfg_types.specs.declared.errors.CredentialsError.TheVariants.{O
 ghost use Rattle.cfg_providers.specs.Sts.{parsed_account, behind_colon as behind, before_colon as before, fifth_part as fifth_part_of, account_of as reply_account, into_credentials as credentials_in};
 
 use cfg_types::{
-    AccountId, Credentials, CredentialsBuilder, CredentialsError, OutOfMemory, StsReply, Text,
-    TryCopy, UnhandledCause,
+    AccountId, Credentials, CredentialsBuilder, CredentialsError, OutOfMemory, StsCredentials,
+    StsReply, Text, TryCopy, UnhandledCause,
 };
 use std::alloc::Global;
 
@@ -29,7 +29,6 @@ pub fn into_credentials(
 }
 
 /// The same as [`into_credentials`], with the errors of the reply apart from `OutOfMemory`.
-#[tactic(auto, unfolding(crate::specs::Sts::into_credentials))]
 pub fn reply_credentials(
     alloc: Global,
     reply: &StsReply,
@@ -37,21 +36,37 @@ pub fn reply_credentials(
 ) -> Result<Result<Credentials, CredentialsError>, OutOfMemory>
     ensures { IfOk result (λ r. r ≡ credentials_in reply.now (characters provider_name.now)) }
 {
-    let Some(keys) = &reply.credentials else {
+    credentials_of(alloc, reply.copy(alloc)?, provider_name)
+}
+
+/// The same as [`reply_credentials`], of a reply whose texts are the credentials' own from then on.
+#[tactic(auto, unfolding(crate::specs::Sts::into_credentials))]
+pub(crate) fn credentials_of(
+    alloc: Global,
+    reply: StsReply,
+    provider_name: &str,
+) -> Result<Result<Credentials, CredentialsError>, OutOfMemory>
+    ensures { IfOk result (λ r. r ≡ credentials_in reply (characters provider_name.now)) }
+{
+    let StsReply { credentials, arn } = reply;
+    let Some(keys) = credentials else {
         let cause = UnhandledCause::StsNoCredentials;
         return Ok(Err(CredentialsError::Unhandled(cause)));
     };
-    let account = match account_of(alloc, &reply.arn)? {
+    let account = match account_of(alloc, &arn)? {
         Ok(account) => account,
         Err(cause) => return Ok(Err(CredentialsError::Unhandled(cause))),
     };
-    let token = keys.session_token.copy(alloc)?;
-    let id = keys.access_key_id.as_str();
-    let secret = keys.secret_access_key.as_str();
-    let mut builder = CredentialsBuilder::new(alloc, id, secret, provider_name)?;
+    let StsCredentials {
+        access_key_id: id,
+        secret_access_key: secret,
+        session_token: token,
+        expiration,
+    } = keys;
+    let mut builder = CredentialsBuilder::of_keys(alloc, id, secret, provider_name)?;
     builder
         .set_session_token(Some(token))
-        .set_expiry(Some(keys.expiration))
+        .set_expiry(Some(expiration))
         .set_account_id(account);
     Ok(Ok(builder.build()?))
 }

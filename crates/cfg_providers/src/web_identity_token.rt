@@ -11,7 +11,7 @@ ghost use Rattle.cfg_providers.specs.WebIdentities.{needed as needed_of, identit
 ghost use Rattle.cfg_providers.specs.WebIdentitySetups.{asks_identity, why_none, text_of_string};
 
 use crate::session_name::session_name;
-use crate::sts::reply_credentials;
+use crate::sts::credentials_of;
 use cfg_json::utf8_text;
 use cfg_profile::{ProviderConfig, call_settings};
 use cfg_types::{
@@ -327,7 +327,7 @@ fn identity_answer(
     ensures { IfOk result (λ r. identity_answer_of answer ≡ r) }
 {
     match answer {
-        Ok(reply) => match reply_credentials(alloc, &reply, "WebIdentityToken")? {
+        Ok(reply) => match credentials_of(alloc, reply, "WebIdentityToken")? {
             Ok(credentials) => Ok(Ok(mark(credentials)?)),
             Err(error) => Ok(Err(error)),
         },

@@ -10,7 +10,7 @@ use cfg_token::CachedSsoToken;
 use cfg_types::{
     AccountId, AwsCredentialFeature, Credentials, CredentialsBuilder, CredentialsError,
     GetRoleCredentials, Instant, OutOfMemory, ProviderCause, RoleReply, Text, TryCopy,
-    UnhandledCause, copy_option,
+    UnhandledCause,
 };
 use cfg_world::{Asking, NotGranted, Stop, leaves};
 use std::alloc::Global;
@@ -75,7 +75,7 @@ fn role_answer(
     ensures { IfOk result (λ r. role_answer_of account.now answer ≡ r) }
 {
     match answer {
-        Ok(reply) => match role_keys(alloc, account, &reply)? {
+        Ok(reply) => match role_keys(alloc, account, reply)? {
             Ok(credentials) => Ok(Ok(credentials)),
             Err(cause) => Ok(Err(CredentialsError::Unhandled(cause))),
         },
@@ -94,25 +94,25 @@ fn role_answer(
 fn role_keys(
     alloc: Global,
     account: &Text,
-    reply: &RoleReply,
+    reply: RoleReply,
 ) -> Result<Result<Credentials, UnhandledCause>, OutOfMemory>
-    ensures { IfOk result (λ r. r ≡ role_keys_of account.now reply.now) }
+    ensures { IfOk result (λ r. r ≡ role_keys_of account.now reply) }
 {
-    let Some(given) = &reply.credentials else {
+    let Some(given) = reply.credentials else {
         return Ok(Err(UnhandledCause::SsoNoCredentials));
     };
-    let Some(id) = &given.access_key_id else {
+    let (id, secret, token, expiration_ms) = given.into_parts();
+    let Some(id) = id else {
         return Ok(Err(UnhandledCause::SsoNoAccessKey));
     };
-    let Some(secret) = &given.secret_access_key else {
+    let Some(secret) = secret else {
         return Ok(Err(UnhandledCause::SsoNoSecretKey));
     };
     let account = AccountId::new(alloc, account.as_str())?;
-    let token = copy_option(alloc, &given.session_token)?;
-    let mut builder = CredentialsBuilder::new(alloc, id.as_str(), secret.as_str(), "SSO")?;
+    let mut builder = CredentialsBuilder::of_keys(alloc, id, secret, "SSO")?;
     builder
         .set_session_token(token)
-        .set_expiry(Some(moment_at(given.expiration_ms)))
+        .set_expiry(Some(moment_at(expiration_ms)))
         .set_account_id(Some(account));
     let credentials = mark(builder.build()?)?;
     Ok(Ok(credentials))

@@ -357,6 +357,18 @@ impl CredentialsBuilder {
     {
         let access_key_id = Text::of(alloc, access_key_id)?;
         let secret_access_key = Text::of(alloc, secret_access_key)?;
+        CredentialsBuilder::of_keys(alloc, access_key_id, secret_access_key, provider_name)
+    }
+
+    /// As [`CredentialsBuilder::new`], of texts that are the credentials' own from then on.
+    pub fn of_keys(
+        alloc: Global,
+        access_key_id: Text,
+        secret_access_key: Text,
+        provider_name: &str,
+    ) -> Result<CredentialsBuilder, OutOfMemory>
+        ensures { IfOk result (λ b. b ≡ bare_keys access_key_id secret_access_key (characters provider_name.now)) }
+    {
         let provider_name = Text::of(alloc, provider_name)?;
         Ok(CredentialsBuilder {
             alloc,

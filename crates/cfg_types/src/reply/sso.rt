@@ -17,6 +17,26 @@ pub struct RoleCredentials {
     pub expiration_ms: i64,
 }
 
+impl RoleCredentials {
+    /// The id of the access key, its secret, the session token and when they expire.
+    pub fn into_parts(self) -> (Option<Text>, Option<Text>, Option<Text>, i64)
+        ensures { result ≡ (self.access_key_id, self.secret_access_key, self.session_token, self.expiration_ms) }
+    {
+        let RoleCredentials {
+            access_key_id,
+            secret_access_key,
+            session_token,
+            expiration_ms,
+        } = self;
+        (
+            access_key_id,
+            secret_access_key,
+            session_token,
+            expiration_ms,
+        )
+    }
+}
+
 impl Drop for RoleCredentials {
     fn drop(self) {
         let RoleCredentials {

@@ -6,13 +6,13 @@ use Rattle.cfg_json.proofs.strings.split_plain.Goals as goal
 
 pub split_at-requires : goal.split_at-requires
 split_at-requires c =
-    run_cut c.args.text.now c.plain_run.result (c.plain_run.ensures.value ∙ ap (prefix_len is_plain) c.as_bytes.ensures.value)
-    (subst (λ (b : List ℕ). c.plain_run.result ≤ length b) c.as_bytes.ensures.value c.plain_run.ensures.within)
+    run_cut c.args.text.now c.run_at.result (c.run_at.ensures.value ∙ ap (prefix_len is_plain) c.as_bytes.ensures.value)
+    (subst (λ (b : List ℕ). c.run_at.result ≤ length b) c.as_bytes.ensures.value c.run_at.ensures.within)
 
 pub returns-clause-reads : goal.returns-clause-reads
 returns-clause-reads c =
-    run_reads c.args.text.now c.plain_run.result _ _ c.utf8.text (c.plain_run.ensures.value ∙ ap (prefix_len is_plain) c.as_bytes.ensures.value)
-    (subst (λ (b : List ℕ). c.plain_run.result ≤ length b) c.as_bytes.ensures.value c.plain_run.ensures.within) c.split_at.ensures.front c.split_at.ensures.back
+    run_reads c.args.text.now c.run_at.result _ _ c.utf8.text (c.run_at.ensures.value ∙ ap (prefix_len is_plain) c.as_bytes.ensures.value)
+    (subst (λ (b : List ℕ). c.run_at.result ≤ length b) c.as_bytes.ensures.value c.run_at.ensures.within) c.split_at.ensures.front c.split_at.ensures.back
 
 pub returns-clause-stops : goal.returns-clause-stops
-returns-clause-stops c = run_stops c.args.text.now c.plain_run.result _ (c.plain_run.ensures.value ∙ ap (prefix_len is_plain) c.as_bytes.ensures.value) c.split_at.ensures.back
+returns-clause-stops c = run_stops c.args.text.now c.run_at.result _ (c.run_at.ensures.value ∙ ap (prefix_len is_plain) c.as_bytes.ensures.value) c.split_at.ensures.back
