@@ -1,3 +1,5 @@
+pub mod AskerSteps
+pub mod DefaultAskers
 pub mod ChainHalts
 pub mod OnePlan
 pub mod PlannedBases
@@ -17,6 +19,7 @@ pub mod KeptSignOns
 pub mod UnsetContainer
 pub mod Validity
 pub mod Calls
+pub mod FoundCalls
 pub mod ProfileCalls
 pub mod WholeCalls
 pub mod WorldSteps

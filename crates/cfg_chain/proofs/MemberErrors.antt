@@ -61,7 +61,7 @@ use Rattle.cfg_imds.specs.Clients.{ClientRules}
 use Rattle.cfg_imds.specs.Fetches.{entry_text}
 use Rattle.cfg_kept.specs.ChainParts.{AreParts}
 use Rattle.cfg_kept.specs.Chains.{attempt}
-use Rattle.cfg_kept.specs.Kinds.{Value, States}
+use Rattle.cfg_kept.specs.Kinds.{Value}
 use Rattle.cfg_kept.specs.RoleDocuments.{refused_role, said_role, get_document, role_document}
 use Rattle.cfg_imds_credentials.specs.Causes.{first_text, why_document, why_role_by, why_role, why_listed_by, why_by_role, why_nothing, retrieved_in, AnswersBy}
 use Rattle.cfg_imds_credentials.specs.Metadata.{listing_path, role_path, get_error, absence, listing_error_by, listing_error, or_found}
@@ -79,7 +79,7 @@ use Rattle.cfg_chain.specs.Causes.{Cause}
 use Rattle.cfg_chain.specs.MemberErrors.{IsErrorOf, IsErrorOfCall}
 use Rattle.cfg_chain.specs.Members.{credentials_chain, default_members}
 use Rattle.cfg_chain.specs.Resolves.{IsPart, Resolves}
-use Rattle.cfg_chain.specs.Provides.{Provides}
+use Rattle.cfg_chain.specs.SharedCalls.{ProvidesFound}
 use Rattle.cfg_chain.specs.Settings.{Setting, ChainSetting, setting, names_of, container_settings, chain_metadata}
 use Rattle.cfg_chain.specs.profile.Causes.{of_base, PlannedCause}
 use Rattle.cfg_chain.specs.profile.Plans.{Planned, plan, refusal}
@@ -342,9 +342,9 @@ members_error s (m ∷ members) attempts found journal e (inr h) free = inr (m, 
 call_error : (s : Setting) (found : List Value) (journal : List Pair) (e : CredentialsError) → Resolves s found journal (Err e) → is_memory (Err e) ≡ false → IsErrorOfCall e
 call_error s found journal e h free = members_error s default_members [] found journal e h free
 
-pub call_fails : {D : Type 0} (d : Ghosts D) (over : ChainSetting) (old new : States) (found : List Value) (before later : Held D) (e : CredentialsError) →
-    Provides d over old new found before later (Err e) → is_memory (Err e) ≡ false → IsErrorOfCall e
-call_fails d over old new found before later e p free = call_error (setting over p.call.services) found p.part e p.call.resolves free
+pub call_fails : {D : Type 0} (d : Ghosts D) (over : ChainSetting) (found : List Value) (before later : Held D) (e : CredentialsError) →
+    ProvidesFound d over found before later (Err e) → is_memory (Err e) ≡ false → IsErrorOfCall e
+call_fails d over found before later e p free = call_error (setting over p.call.services) found p.part e p.call.resolves free
 
 never_late : IsErrorOfCall ProviderTimedOut → ⊥
 unfolding errors.out-CredentialsError carrier.out
@@ -355,8 +355,8 @@ late_is_there : is_memory (Err ProviderTimedOut) ≡ false
 unfolding errors.out-CredentialsError carrier.out
 late_is_there = refl
 
-pub not_late : {D : Type 0} (d : Ghosts D) (over : ChainSetting) (old new : States) (found : List Value) (before later : Held D) (out : Answer) →
-    Provides d over old new found before later out → out ≡ Err ProviderTimedOut → ⊥
-not_late d over old new found before later out p late =
+pub not_late : {D : Type 0} (d : Ghosts D) (over : ChainSetting) (found : List Value) (before later : Held D) (out : Answer) →
+    ProvidesFound d over found before later out → out ≡ Err ProviderTimedOut → ⊥
+not_late d over found before later out p late =
     let s = setting over p.call.services in
     never_late (call_error s found p.part ProviderTimedOut (subst (Resolves s found p.part) late p.call.resolves) late_is_there)

@@ -42,7 +42,7 @@ use Rattle.cfg_chain.specs.declared.member.Member.TheVariants.{Environment, Prof
 use Rattle.cfg_chain.specs.Settings.{Setting, ChainSetting, container_settings, chain_metadata, named_metadata, names_of, setting}
 use Rattle.cfg_chain.specs.Members.{member_tree, credentials_chain, default_members, default_chain}
 use Rattle.cfg_meta.specs.CredentialsAnswers.{is_not_loaded}
-use Rattle.cfg_chain.specs.Provides.{Provides, Interrupted}
+use Rattle.cfg_chain.specs.SharedCalls.{ProvidesFound, InterruptedFound}
 use Rattle.cfg_chain.specs.SafeCalls.{ChainAsksSafely}
 use Rattle.cfg_chain.specs.profile.Bases.{by_container, unknown_source, without_role, built_in_source, source_or, named_source, profile_session, signed_on, base_tree, in_base, based}
 use Rattle.cfg_chain.specs.profile.Plans.{Planned, plan, refusal}
@@ -200,14 +200,14 @@ module _ (s : Setting) (names : IsContainerUri s.configuration.environment s.con
 
 -- ---- a call
 
-module _ {D : Type 0} (d : Ghosts D) (over : ChainSetting) (old new : States) (found : List Value) (before later : Held D) where
+module _ {D : Type 0} (d : Ghosts D) (over : ChainSetting) (found : List Value) (before later : Held D) where
   abbrev Grew : Type 0
   Grew = Gains before.journal later.journal (ChainAsksSafely over)
 
   nothing_grew : later ≡ before → Grew
   nothing_grew same = grew_by_nothing (ChainAsksSafely over) before.journal later.journal (ap (λ x. x.journal) same) (inr tt)
 
-  pub answered : (out : Answer) → Provides d over old new found before later out → Grew
+  pub answered : (out : Answer) → ProvidesFound d over found before later out → Grew
   answered out h =
       let call = h.call in
       let s = setting over call.services in
@@ -217,16 +217,16 @@ module _ {D : Type 0} (d : Ghosts D) (over : ChainSetting) (old new : States) (f
         said = chain_safely s call.names.container None None found h.part (run_begins (default_chain s) None None found h.part out (reads_resolved s found h.part out call.resolves));
       }
 
-  pub interrupted : Interrupted d over old new found before later → Grew
-  interrupted (inl h) = nothing_grew h.0
+  pub interrupted : InterruptedFound d over found before later → Grew
+  interrupted (inl same) = nothing_grew same
   interrupted (inr h) = record {
     part = h.part;
     grows = h.stays.journal;
-    said = chain_safely (setting over h.services) h.names.container (Some old) (Some new) found h.part h.begins;
+    said = chain_safely (setting over h.services) h.names.container None None found h.part h.begins;
   }
 
-  pub profile_answered : (out : Answer) → ProvidesByProfile d over old new found before later out → Grew
-  profile_answered out h =
+  pub profile_answered : (old new : States) (out : Answer) → ProvidesByProfile d over old new found before later out → Grew
+  profile_answered old new out h =
       let call = h.call in
       let s = setting over call.services in
       record {
@@ -235,9 +235,9 @@ module _ {D : Type 0} (d : Ghosts D) (over : ChainSetting) (old new : States) (f
         said = profile_safely s call.names.container None None found h.part (run_begins (profile s) None None found h.part out call.reads);
       }
 
-  pub profile_interrupted : InterruptedProfile d over old new found before later → Grew
-  profile_interrupted (inl h) = nothing_grew h.0
-  profile_interrupted (inr h) = record {
+  pub profile_interrupted : (old new : States) → InterruptedProfile d over old new found before later → Grew
+  profile_interrupted old new (inl h) = nothing_grew h.0
+  profile_interrupted old new (inr h) = record {
     part = h.part;
     grows = h.stays.journal;
     said = profile_safely (setting over h.services) h.names.container (Some old) (Some new) found h.part h.begins;

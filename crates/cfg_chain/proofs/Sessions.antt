@@ -30,7 +30,7 @@ use Rattle.cfg_login.proofs.OtherSpots.{begins_elsewhere}
 use Rattle.cfg_chain.specs.declared.member.Member.TheVariants.{Environment, Profile}
 use Rattle.cfg_chain.specs.Settings.{Setting, ChainSetting, Services, names_of, setting}
 use Rattle.cfg_chain.specs.Members.{member_tree, credentials_chain, default_members, default_chain}
-use Rattle.cfg_chain.specs.Provides.{Provides, Interrupted}
+use Rattle.cfg_chain.specs.SharedCalls.{ProvidesFound, InterruptedFound}
 use Rattle.cfg_chain.specs.Resolves.{Resolves}
 use Rattle.cfg_chain.specs.Sessions.{IsSession, PlansNoSession, PlansSession, BeginsUnexpired, GoesOn, HasGoneOn, HandsOn, PassesBySessions, ReadsSession, IsOfEnvironment, ChainReadsSession, StopsBehind, StopsWithin, StopsInSession}
 use Rattle.cfg_chain.specs.PassedOver.{plan_is_passed_over}
@@ -304,23 +304,23 @@ module _ (over : ChainSetting) (services : Services) where
 
 -- ---- a call
 
-module _ {D : Type 0} (d : Ghosts D) (over : ChainSetting) (old new : States) (found : List Value) (before later : Held D) where
+module _ {D : Type 0} (d : Ghosts D) (over : ChainSetting) (found : List Value) (before later : Held D) where
   abbrev Stopped : Type 0
   Stopped = Gains before.journal later.journal (StopsInSession over found)
 
   nothing : later ≡ before → Stopped
   nothing same = record { part = []; grows = ap (λ x. x.journal) same ∙ sym (append-nil before.journal); said = inr (inr (inr refl)) }
 
-  pub answered : (out : Answer) → Provides d over old new found before later out → Gains before.journal later.journal (λ part. ChainReadsSession over found part out)
+  pub answered : (out : Answer) → ProvidesFound d over found before later out → Gains before.journal later.journal (λ part. ChainReadsSession over found part out)
   answered out h = record { part = h.part; grows = h.grows.journal; said = chain_reads over h.call.services found h.part out h.grows.fits h.call.resolves }
 
-  pub interrupted : Interrupted d over old new found before later → Stopped
-  interrupted (inl h) = nothing h.0
-  interrupted (inr h) = record { part = h.part; grows = h.stays.journal; said = chain_begun_in over h.services (Some old) (Some new) found h.part h.stays.fits h.begins }
+  pub interrupted : InterruptedFound d over found before later → Stopped
+  interrupted (inl same) = nothing same
+  interrupted (inr h) = record { part = h.part; grows = h.stays.journal; said = chain_begun_in over h.services None None found h.part h.stays.fits h.begins }
 
-  pub by_profile : (out : Answer) → ProvidesByProfile d over old new found before later out → Gains before.journal later.journal (λ part. ReadsSession over found part out)
-  by_profile out h = record { part = h.part; grows = h.grows.journal; said = profile_reads over h.call.services found h.part out h.grows.fits h.call.reads }
+  pub by_profile : (old new : States) (out : Answer) → ProvidesByProfile d over old new found before later out → Gains before.journal later.journal (λ part. ReadsSession over found part out)
+  by_profile old new out h = record { part = h.part; grows = h.grows.journal; said = profile_reads over h.call.services found h.part out h.grows.fits h.call.reads }
 
-  pub profile_interrupted : InterruptedProfile d over old new found before later → Stopped
-  profile_interrupted (inl h) = nothing h.0
-  profile_interrupted (inr h) = record { part = h.part; grows = h.stays.journal; said = profile_begun over h.services (Some old) (Some new) found h.part h.stays.fits h.begins }
+  pub profile_interrupted : (old new : States) → InterruptedProfile d over old new found before later → Stopped
+  profile_interrupted old new (inl h) = nothing h.0
+  profile_interrupted old new (inr h) = record { part = h.part; grows = h.stays.journal; said = profile_begun over h.services (Some old) (Some new) found h.part h.stays.fits h.begins }

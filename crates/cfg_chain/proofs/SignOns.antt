@@ -27,7 +27,7 @@ use Rattle.cfg_chain.specs.declared.member.Member.{Member}
 use Rattle.cfg_chain.specs.declared.member.Member.TheVariants.{Environment, Profile, WebIdentityToken, EcsContainer, Ec2InstanceMetadata}
 use Rattle.cfg_chain.specs.Settings.{Setting, ChainSetting, Services, container_settings, chain_metadata, names_of, setting}
 use Rattle.cfg_chain.specs.Members.{member_tree, credentials_chain, default_chain}
-use Rattle.cfg_chain.specs.Provides.{Provides, Interrupted}
+use Rattle.cfg_chain.specs.SharedCalls.{ProvidesFound, InterruptedFound}
 use Rattle.cfg_chain.specs.SignOns.{IsSignOn, PlansSignOn, AsksOnce, SignsOn}
 use Rattle.cfg_chain.specs.profile.Provides.{ProvidesByProfile, InterruptedProfile}
 use Rattle.cfg_chain.specs.profile.Plans.{Planned, plan}
@@ -234,14 +234,14 @@ module _ (over : ChainSetting) (services : Services) (old new : Option States) (
 
 -- ---- a call
 
-module _ {D : Type 0} (d : Ghosts D) (over : ChainSetting) (old new : States) (found : List Value) (before later : Held D) where
+module _ {D : Type 0} (d : Ghosts D) (over : ChainSetting) (found : List Value) (before later : Held D) where
   abbrev Signs : Type 0
   Signs = Gains before.journal later.journal (SignsOn over found)
 
   nothing : later ≡ before → Signs
   nothing same = record { part = []; grows = ap (λ x. x.journal) same ∙ sym (append-nil before.journal); said = inr tt }
 
-  pub answered : (out : Answer) → Provides d over old new found before later out → Signs
+  pub answered : (out : Answer) → ProvidesFound d over found before later out → Signs
   answered out h =
       let call = h.call in
       let s = setting over call.services in
@@ -251,12 +251,12 @@ module _ {D : Type 0} (d : Ghosts D) (over : ChainSetting) (old new : States) (f
         said = chain_signs over call.services None None found h.part (run_begins (default_chain s) None None found h.part out (reads_resolved s found h.part out call.resolves));
       }
 
-  pub interrupted : Interrupted d over old new found before later → Signs
-  interrupted (inl h) = nothing h.0
-  interrupted (inr h) = record { part = h.part; grows = h.stays.journal; said = chain_signs over h.services (Some old) (Some new) found h.part h.begins }
+  pub interrupted : InterruptedFound d over found before later → Signs
+  interrupted (inl same) = nothing same
+  interrupted (inr h) = record { part = h.part; grows = h.stays.journal; said = chain_signs over h.services None None found h.part h.begins }
 
-  pub by_profile : (out : Answer) → ProvidesByProfile d over old new found before later out → Signs
-  by_profile out h =
+  pub by_profile : (old new : States) (out : Answer) → ProvidesByProfile d over old new found before later out → Signs
+  by_profile old new out h =
       let s = setting over h.call.services in
       record {
         part = h.part;
@@ -264,6 +264,6 @@ module _ {D : Type 0} (d : Ghosts D) (over : ChainSetting) (old new : States) (f
         said = profile_signs over h.call.services None None found h.part (run_begins (profile s) None None found h.part out h.call.reads);
       }
 
-  pub profile_interrupted : InterruptedProfile d over old new found before later → Signs
-  profile_interrupted (inl h) = nothing h.0
-  profile_interrupted (inr h) = record { part = h.part; grows = h.stays.journal; said = profile_signs over h.services (Some old) (Some new) found h.part h.begins }
+  pub profile_interrupted : (old new : States) → InterruptedProfile d over old new found before later → Signs
+  profile_interrupted old new (inl h) = nothing h.0
+  profile_interrupted old new (inr h) = record { part = h.part; grows = h.stays.journal; said = profile_signs over h.services (Some old) (Some new) found h.part h.begins }

@@ -11,7 +11,7 @@ use Rattle.cfg_world.specs.Fits.{Pair}
 use Rattle.cfg_world.specs.Held.{Held}
 use Rattle.cfg_kept.specs.Chains.{passed}
 use Rattle.cfg_kept.specs.ChainParts.{AreParts}
-use Rattle.cfg_kept.specs.Kinds.{Value, States}
+use Rattle.cfg_kept.specs.Kinds.{Value}
 use Rattle.cfg_exchange.specs.Containers.{IsContainerUri}
 use Rattle.cfg_providers.specs.CustomSources.{Answer}
 use Rattle.cfg_types.specs.Classes.{is_not_loaded_answer}
@@ -20,7 +20,7 @@ use Rattle.cfg_chain.specs.Settings.{Setting, ChainSetting, setting}
 use Rattle.cfg_chain.specs.Members.{credentials_chain, default_members}
 use Rattle.cfg_meta.specs.CredentialsAnswers.{is_not_loaded, none_loaded}
 use Rattle.cfg_chain.specs.Resolves.{IsPart}
-use Rattle.cfg_chain.specs.Provides.{IsCall, Provides}
+use Rattle.cfg_chain.specs.SharedCalls.{IsFoundCall, ProvidesFound}
 use Rattle.cfg_chain.specs.Callers.{Passed, WasNotLoaded, members_in, found_in, parts_in, told_of, IsAnsweredBy, IsAnsweredByNone, TellsWho}
 use Rattle.cfg_chain.proofs.PassedByTable.{by_table}
 use Rattle.cfg_chain.proofs.PassingErrors.{at_odds}
@@ -127,8 +127,8 @@ module _ (s : Setting) (names : IsContainerUri s.configuration.environment s.con
   of_one members found journal out (inr n) loaded = at_odds (is_not_loaded_answer out) (ap is_not_loaded_answer n.tells ∙ none_is_not_loaded (map told_of n.passed_over)) loaded
 
 -- a call tells who answered
-pub call_tells : (over : ChainSetting) (old new : States) (found : List Value) (before later part : List Pair) (out : Answer) → later ≡ before ++ part → IsCall over old new found part out → TellsWho over found before later out
-call_tells over old new found before later part out grows call =
+pub call_tells : (over : ChainSetting) (found : List Value) (before later part : List Pair) (out : Answer) → later ≡ before ++ part → IsFoundCall over found part out → TellsWho over found before later out
+call_tells over found before later part out grows call =
     let s = setting over call.services in
     let who = who_of s call.names.container default_members [] found part out call.resolves in
     record {
@@ -140,5 +140,5 @@ call_tells over old new found before later part out grows call =
       by_none = of_none s call.names.container default_members found part out who;
     }
 
-pub tells_who : {D : Type 0} (d : Ghosts D) (over : ChainSetting) (old new : States) (found : List Value) (before later : Held D) (out : Answer) → Provides d over old new found before later out → TellsWho over found before.journal later.journal out
-tells_who d over old new found before later out p = call_tells over old new found before.journal later.journal p.part out p.grows.journal p.call
+pub tells_who : {D : Type 0} (d : Ghosts D) (over : ChainSetting) (found : List Value) (before later : Held D) (out : Answer) → ProvidesFound d over found before later out → TellsWho over found before.journal later.journal out
+tells_who d over found before later out p = call_tells over found before.journal later.journal p.part out p.grows.journal p.call

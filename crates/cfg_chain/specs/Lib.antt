@@ -1,5 +1,6 @@
 pub mod Settings
 pub mod Views
+pub mod Askers
 pub mod Follows
 pub mod Answers
 pub mod profile
@@ -17,3 +18,4 @@ pub mod SignOns
 pub mod Sessions
 pub mod SafeCalls
 pub mod BegunCalls
+pub mod SharedCalls

@@ -1,3 +1,6 @@
 //! The default chain.
 
 pub mod credentials;
+mod shared;
+
+pub use shared::{Answered, Fallback};

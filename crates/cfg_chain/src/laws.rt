@@ -41,6 +41,7 @@ ghost use Rattle.cfg_kept.specs.SsoHoldings.{sso_spot};
 ghost use Rattle.cfg_sso.specs.InNoWay.{IsGranted};
 ghost use Rattle.cfg_sso.specs.Tokens.{sso_key};
 ghost use Rattle.cfg_chain.specs.Provides.{IsCall, Provides, Interrupted};
+ghost use Rattle.cfg_chain.specs.SharedCalls.{ProvidesFound, InterruptedFound};
 ghost use Rattle.cfg_chain.specs.BegunCalls.{IsBegunCall, HasBegun, HasEnded, CallAsksOne};
 ghost use Rattle.cfg_chain.specs.Callers.{TellsWho};
 ghost use Rattle.cfg_sso.specs.declared.config.SsoProviderConfig.{SsoProviderConfig as SignOn};
@@ -79,13 +80,21 @@ pub fn members_have_errors_of_their_own()
         Reads (member_tree s member) found part (Err e) → is_memory (Err e) ≡ false → IsErrorOf member e }
 {}
 
+/// A call on what is kept is one of the values that it found in it, so that what is said of these holds of it too.
+pub fn a_lent_call_is_one_of_its_found_values<D: Devices>()
+    ensures answered { (over : ChainSetting) (old new : States) (found : List Value) (before later : Held D) (out : Answer) →
+        Provides ⟦<D as Devices>⟧ over old new found before later out → ProvidesFound ⟦<D as Devices>⟧ over found before later out }
+    ensures interrupted { (over : ChainSetting) (old new : States) (found : List Value) (before later : Held D) →
+        Interrupted ⟦<D as Devices>⟧ over old new found before later → InterruptedFound ⟦<D as Devices>⟧ over found before later }
+{}
+
 /// The error of a call is that none of the members was loaded, or one of the line of a member, unless memory ran
 /// out. It is never that a provider timed out.
 pub fn a_call_has_no_other_errors<D: Devices>()
-    ensures of_members { (over : ChainSetting) (old new : States) (found : List Value) (before later : Held D) (e : CredentialsError) →
-        Provides ⟦<D as Devices>⟧ over old new found before later (Err e) → is_memory (Err e) ≡ false → IsErrorOfCall e }
-    ensures in_time { (over : ChainSetting) (old new : States) (found : List Value) (before later : Held D) (out : Answer) →
-        Provides ⟦<D as Devices>⟧ over old new found before later out → out ≢ Err ProviderTimedOut }
+    ensures of_members { (over : ChainSetting) (found : List Value) (before later : Held D) (e : CredentialsError) →
+        ProvidesFound ⟦<D as Devices>⟧ over found before later (Err e) → is_memory (Err e) ≡ false → IsErrorOfCall e }
+    ensures in_time { (over : ChainSetting) (found : List Value) (before later : Held D) (out : Answer) →
+        ProvidesFound ⟦<D as Devices>⟧ over found before later out → out ≢ Err ProviderTimedOut }
 {}
 
 /// A member is passed over by its line of the table, and by nothing else, where the address of a
@@ -182,8 +191,8 @@ pub fn a_configuration_has_one_key()
 /// of the members before it, in order, each not loaded, by its line of the table. Where nothing was loaded the
 /// parts are those of all five, and the error tells of each.
 pub fn a_call_tells_who_answered<D: Devices>()
-    ensures { (over : ChainSetting) (old new : States) (found : List Value) (before later : Held D) (out : Answer) →
-        Provides ⟦<D as Devices>⟧ over old new found before later out → TellsWho over found before.journal later.journal out }
+    ensures { (over : ChainSetting) (found : List Value) (before later : Held D) (out : Answer) →
+        ProvidesFound ⟦<D as Devices>⟧ over found before later out → TellsWho over found before.journal later.journal out }
 {}
 
 /// A call sends no `GetRoleCredentials`; or the selected profile's plan begins with a role of IAM Identity Center, and
@@ -191,10 +200,10 @@ pub fn a_call_tells_who_answered<D: Devices>()
 /// this part. It holds of the default chain and of the provider of a profile, and of a call for which memory ran out,
 /// too.
 pub fn a_call_sends_no_expired_token<D: Devices>()
-    ensures answered { (over : ChainSetting) (old new : States) (found : List Value) (before later : Held D) (out : Answer) →
-        Provides ⟦<D as Devices>⟧ over old new found before later out → Gains before.journal later.journal (SignsOn over found) }
-    ensures interrupted { (over : ChainSetting) (old new : States) (found : List Value) (before later : Held D) →
-        Interrupted ⟦<D as Devices>⟧ over old new found before later → Gains before.journal later.journal (SignsOn over found) }
+    ensures answered { (over : ChainSetting) (found : List Value) (before later : Held D) (out : Answer) →
+        ProvidesFound ⟦<D as Devices>⟧ over found before later out → Gains before.journal later.journal (SignsOn over found) }
+    ensures interrupted { (over : ChainSetting) (found : List Value) (before later : Held D) →
+        InterruptedFound ⟦<D as Devices>⟧ over found before later → Gains before.journal later.journal (SignsOn over found) }
     ensures by_profile { (over : ChainSetting) (old new : States) (found : List Value) (before later : Held D) (out : Answer) →
         ProvidesByProfile ⟦<D as Devices>⟧ over old new found before later out → Gains before.journal later.journal (SignsOn over found) }
     ensures profile_interrupted { (over : ChainSetting) (old new : States) (found : List Value) (before later : Held D) →
@@ -207,11 +216,11 @@ pub fn a_call_sends_no_expired_token<D: Devices>()
 /// was asked. Of the provider of a profile the same holds without the environment. A call for which memory ran out
 /// may also have stopped within the session's part, or before anything was asked.
 pub fn a_call_reads_no_expired_session<D: Devices>()
-    ensures answered { (over : ChainSetting) (old new : States) (found : List Value) (before later : Held D) (out : Answer) →
-        Provides ⟦<D as Devices>⟧ over old new found before later out →
+    ensures answered { (over : ChainSetting) (found : List Value) (before later : Held D) (out : Answer) →
+        ProvidesFound ⟦<D as Devices>⟧ over found before later out →
         Gains before.journal later.journal (λ part. ChainReadsSession over found part out) }
-    ensures interrupted { (over : ChainSetting) (old new : States) (found : List Value) (before later : Held D) →
-        Interrupted ⟦<D as Devices>⟧ over old new found before later → Gains before.journal later.journal (StopsInSession over found) }
+    ensures interrupted { (over : ChainSetting) (found : List Value) (before later : Held D) →
+        InterruptedFound ⟦<D as Devices>⟧ over found before later → Gains before.journal later.journal (StopsInSession over found) }
     ensures by_profile { (over : ChainSetting) (old new : States) (found : List Value) (before later : Held D) (out : Answer) →
         ProvidesByProfile ⟦<D as Devices>⟧ over old new found before later out →
         Gains before.journal later.journal (λ part. ReadsSession over found part out) }
@@ -224,10 +233,10 @@ pub fn a_call_reads_no_expired_session<D: Devices>()
 /// the variable holds: HTTPS, an allowed address, or a name that has allowed addresses alone by a look-up in that
 /// part. It holds of a call for which memory ran out, too.
 pub fn a_call_asks_safe_targets<D: Devices>()
-    ensures answered { (over : ChainSetting) (old new : States) (found : List Value) (before later : Held D) (out : Answer) →
-        Provides ⟦<D as Devices>⟧ over old new found before later out → Gains before.journal later.journal (ChainAsksSafely over) }
-    ensures interrupted { (over : ChainSetting) (old new : States) (found : List Value) (before later : Held D) →
-        Interrupted ⟦<D as Devices>⟧ over old new found before later → Gains before.journal later.journal (ChainAsksSafely over) }
+    ensures answered { (over : ChainSetting) (found : List Value) (before later : Held D) (out : Answer) →
+        ProvidesFound ⟦<D as Devices>⟧ over found before later out → Gains before.journal later.journal (ChainAsksSafely over) }
+    ensures interrupted { (over : ChainSetting) (found : List Value) (before later : Held D) →
+        InterruptedFound ⟦<D as Devices>⟧ over found before later → Gains before.journal later.journal (ChainAsksSafely over) }
 {}
 
 /// The same of a call of the provider of a profile's credentials: a source that the profile names asks the

@@ -14,7 +14,7 @@ pub mod profile;
 mod settled;
 
 pub use cfg_imds::Client;
-pub use cfg_kept::{Found, Kept};
+pub use cfg_kept::{Found, Kept, SharedKept};
 pub use cfg_profile::{ProfileSet, ProfileSource, ProviderConfig, Section};
 pub use cfg_providers::{CustomProvider, CustomSource, ProvideCredentials};
 pub use cfg_region::RegionSource;
@@ -22,4 +22,6 @@ pub use cfg_token::TokenKey;
 pub use cfg_types::{CredentialsError, OutOfMemory, ProfileFileError};
 pub use chain_core::ChainCore;
 pub use default_provider::credentials::DefaultCredentialsChain;
+pub use default_provider::{Answered, Fallback};
+pub use member::Member;
 pub use profile::credentials::ProfileFileCredentialsProvider;

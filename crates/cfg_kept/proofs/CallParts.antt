@@ -1,5 +1,5 @@
 -- What the parts of calls say of their trees.
-use Rattle.std.proofs.Common.{◌≡◌, List, [], ◌∷◌, ◌++◌, Option, Result, refl, sym, ap, ◌∙◌, subst, append-nil}
+use Rattle.std.proofs.Common.{◌≡◌, List, [], ◌∷◌, ◌++◌, Option, None, Result, refl, sym, ap, ◌∙◌, subst, append-nil, inl, inr}
 use Rattle.cfg_types.specs.Environment.{Variables}
 use Rattle.cfg_types.specs.declared.settings.CallSettings.{CallSettings}
 use Rattle.cfg_world.specs.Fits.{Pair}
@@ -9,7 +9,7 @@ use Rattle.cfg_token.specs.declared.token_key.TokenKey.{TokenKey}
 use Rattle.cfg_token.specs.Rules.{Rules}
 use Rattle.cfg_token.specs.Sections.{section, answer_of}
 use Rattle.cfg_kept.specs.Kinds.{Spot, Value, States, spot_of}
-use Rattle.cfg_kept.specs.KeptInquiry.{KeptInquiry, Gives, Puts, Finds, Leaves, Runs, Reads, leave, lift, onwards}
+use Rattle.cfg_kept.specs.KeptInquiry.{KeptInquiry, Gives, Puts, Finds, Leaves, Runs, Begins, Reads, leave, lift, onwards}
 use Rattle.cfg_kept.specs.Holds.{left_by, holding}
 use Rattle.cfg_kept.specs.SectionHoldings.{TokenSpot, section_leaves, kept_section, section_holding}
 use Rattle.cfg_kept.specs.SectionParts.{IsSectionPart}
@@ -76,6 +76,20 @@ read_of_run (Puts q n) old new found (e ∷ part) out h = (h.0, read_of_run (n e
 read_of_run (Finds spot n) old new [] part out h = absurd h
 read_of_run (Finds spot n) old new (f ∷ found) part out h = (h.0, tt, read_of_run (n f) old new found part out h.2)
 read_of_run (Leaves v p) old new found part out h = read_of_run p (leave old v) new found part out h
+
+-- nor of how a run begins
+pub begun_untold : {R : Type 0} (p : KeptInquiry R) (old new : Option States) (found : List Value) (part : List Pair) → Begins p old found part new → Begins p None found part None
+begun_untold (Gives r) old new [] [] h = refl
+begun_untold (Gives r) old new [] (e ∷ part) h = absurd h
+begun_untold (Gives r) old new (f ∷ found) part h = absurd h
+begun_untold (Puts q n) old new [] [] h = refl
+begun_untold (Puts q n) old new (f ∷ found) [] h = absurd h
+begun_untold (Puts q n) old new found (e ∷ part) h = (h.0, begun_untold (n e.1) old new found part h.1)
+begun_untold (Finds spot n) old new [] [] h = refl
+begun_untold (Finds spot n) old new [] (e ∷ part) h = absurd h
+begun_untold (Finds spot n) old new (f ∷ found) part h = (h.0, tt, begun_untold (n f) old new found part h.2)
+begun_untold (Leaves v p) old new found part (inl h) = inl (h.0, h.1, refl)
+begun_untold (Leaves v p) old new found part (inr h) = inr (begun_untold p (leave old v) new found part h)
 
 -- the part of a section of the token that is kept there
 pub section_part : {T E : Type 0} (t : Rules T E) (s : TokenSpot T) (key : TokenKey) (env : Variables) (settings : CallSettings) (found : List Value) (part : List Pair) (given : Result T E) →

@@ -11,3 +11,4 @@ pub mod SectionSteps
 pub mod MetadataSteps
 pub mod RetrievedSteps
 pub mod CallParts
+pub mod SharedSteps

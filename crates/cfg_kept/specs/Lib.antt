@@ -14,3 +14,5 @@ pub mod FoundValues
 pub mod KeyedStates
 pub mod KeptStates
 pub mod SectionParts
+pub mod SharedKeys
+pub mod SharedStates

@@ -1,5 +1,5 @@
 //! What a holding of a kept value found.
-ghost use Rattle.std.specs.Prelude.{◌≡◌, ◌++◌, ◌∷◌, [], IfOk, OnOk, OnErr, map};
+ghost use Rattle.std.specs.Prelude.{◌≡◌, ◌<◌, ◌++◌, ◌∷◌, [], IfOk, OnOk, OnErr, map, vec_len, vec_capacity};
 ghost use Rattle.cfg_kept.specs.FoundValues.{bare};
 
 use crate::place::Place;
@@ -112,4 +112,21 @@ pub fn note_found(found: &mut Vec<Found>, value: Found) -> Result<(), OutOfMemor
 {
     found.push(value)?;
     Ok(())
+}
+
+// A place for one value more. `OutOfMemory` where memory runs out. The list stays as it was.
+pub(crate) fn take_place(found: &mut Vec<Found>) -> Result<(), OutOfMemory>
+    ensures items { found.new.items ≡ found.old.items }
+    ensures place { OnOk result (vec_len found.new < vec_capacity found.new) }
+{
+    found.reserve(1)?;
+    Ok(())
+}
+
+// One value more that was found. Its place was taken before.
+pub(crate) fn put_found(found: &mut Vec<Found>, value: Found)
+    requires { vec_len found.old < vec_capacity found.old }
+    ensures { map bare found.new.items ≡ map bare found.old.items ++ bare value ∷ [] }
+{
+    found.push(value).unwrap();
 }

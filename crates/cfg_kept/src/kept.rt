@@ -5,6 +5,7 @@ ghost use Rattle.cfg_kept.specs.Kinds.{no_states, place_states};
 ghost use Rattle.cfg_kept.specs.KeyedStates.{is_sso_key, is_login_key, sso_state_in, login_state_in, HasNoLoads, HasNoRecords, trimmed_state};
 ghost use Rattle.cfg_kept.specs.KeptStates.{states_of, kept_key};
 ghost use Rattle.cfg_kept.specs.Retrieved.{keys_of_retrieved};
+ghost use Rattle.cfg_kept.specs.SharedStates.{shared_key};
 
 use crate::found::{Found, copy_found};
 use crate::keeper::Keeper;
@@ -12,6 +13,7 @@ use crate::keyed::KeyedState;
 use crate::metadata::{PlaceState, find_retrieved, hold_token};
 use crate::place::Place;
 use crate::retrieved::Retrieved;
+use crate::shared_kept::SharedKept;
 use cfg_exchange::ClassifyRetry;
 use cfg_imds::Client;
 use cfg_login_token::LoginToken;
@@ -26,10 +28,10 @@ use std::alloc::Global;
 
 /// The kept states, and the values that were found in them.
 pub struct Kept {
-    token: KeyedState,
-    chain: PlaceState,
-    named: PlaceState,
-    found: Vec<Found>,
+    pub(crate) token: KeyedState,
+    pub(crate) chain: PlaceState,
+    pub(crate) named: PlaceState,
+    pub(crate) found: Vec<Found>,
 }
 
 impl Drop for Kept {
@@ -79,16 +81,31 @@ impl Kept {
         })
     }
 
+    // The kept states, each behind a lock.
+    pub(crate) fn into_shared(self) -> SharedKept
+        ensures { shared_key result ≡ kept_key self }
+    {
+        let Kept {
+            token,
+            chain,
+            named,
+            found,
+        } = self;
+        let alloc = *found.allocator();
+        SharedKept::of_states(
+            alloc,
+            token.into_shared(),
+            chain.into_shared(),
+            named.into_shared(),
+        )
+    }
+
     /// Whether the kept states are those of a chain with this key: the keys are equal, or both are
     /// none.
     pub fn fits(&self, key: Option<&TokenKey>) -> bool
         ensures { IsTrue result ↔ (kept_key self.now ≡ option_copied key.entry) }
     {
-        match (self.token.key(), key) {
-            (None, None) => true,
-            (Some(one), Some(other)) => same_key(one, other),
-            _ => false,
-        }
+        are_same(self.token.key(), key)
     }
 
     /// The state of the token of IAM Identity Center, there exactly where the key is of that kind. No
@@ -140,6 +157,17 @@ impl Kept {
         ensures key { kept_key self.new ≡ kept_key self.old }
     {
         self.token.trim();
+    }
+}
+
+// Whether the keys are equal, or both are none.
+pub(crate) fn are_same(one: Option<&TokenKey>, other: Option<&TokenKey>) -> bool
+    ensures { IsTrue result ↔ (option_copied one.entry ≡ option_copied other.entry) }
+{
+    match (one, other) {
+        (None, None) => true,
+        (Some(one), Some(other)) => same_key(one, other),
+        _ => false,
     }
 }
 

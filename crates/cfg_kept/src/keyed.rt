@@ -2,12 +2,14 @@
 ghost use Rattle.std.specs.Prelude.{◌≡◌, Some, None, true, is_some, option_map, IfSome, IfOk, OnErr};
 ghost use Rattle.std.specs.Option.{option_copied};
 ghost use Rattle.cfg_kept.specs.Kinds.{no_token};
-ghost use Rattle.cfg_kept.specs.KeyedStates.{key_of, is_sso_key, is_login_key, sso_state_in, login_state_in, sso_kept, login_kept, HoldsSso, HoldsLogin, SsoAnswers, LoginAnswers, HasNoLoads, trimmed_state};
+ghost use Rattle.cfg_kept.specs.KeyedStates.{key_in, key_of, is_sso_key, is_login_key, sso_state_in, login_state_in, sso_kept, login_kept, HoldsSso, HoldsLogin, SsoAnswers, LoginAnswers, HasNoLoads, OfKind, trimmed_state};
+ghost use Rattle.cfg_kept.specs.SharedKeys.{key_in_shared, key_of_shared, IsOfKind};
 
 use crate::found::Found;
 use crate::holding::{find_login, find_sso, hold};
+use crate::shared_keyed::{EitherShared, SharedKeyed};
 use cfg_login_token::LoginToken;
-use cfg_token::{CachedSsoToken, TokenKey, TokenState};
+use cfg_token::{CachedSsoToken, SharedTokenState, TokenKey, TokenState};
 use cfg_types::{
     CallSettings, Env, LoginTokenError, OutOfMemory, SsoTokenProviderError, TryCopy, copy_option,
 };
@@ -28,6 +30,20 @@ impl Drop for EitherState {
         match self {
             EitherState::Sso(_) => {}
             EitherState::Login(_) => {}
+        }
+    }
+}
+
+impl EitherState {
+    /// The state, to be shared.
+    pub fn into_shared(self) -> EitherShared
+        requires { OfKind self }
+        ensures key { key_in_shared result ≡ key_in self }
+        ensures kind { IsOfKind result }
+    {
+        match self {
+            EitherState::Sso(state) => EitherShared::Sso(SharedTokenState::new(state)),
+            EitherState::Login(state) => EitherShared::Login(SharedTokenState::new(state)),
         }
     }
 }
@@ -88,6 +104,25 @@ impl KeyedState {
         match key {
             Some(key) => KeyedState::of_key(alloc, key),
             None => KeyedState { state: None },
+        }
+    }
+
+    /// This state, or none. Its key is of its kind.
+    pub fn of_state(state: Option<EitherState>) -> KeyedState
+        requires { IfSome state OfKind }
+        ensures { result ≡ state }
+    {
+        KeyedState { state }
+    }
+
+    /// The state, to be shared.
+    pub fn into_shared(self) -> SharedKeyed
+        ensures { key_of_shared result ≡ key_of self }
+    {
+        let KeyedState { state } = self;
+        match state {
+            Some(state) => SharedKeyed::of_state(Some(state.into_shared())),
+            None => SharedKeyed::of_state(None),
         }
     }
 

@@ -19,6 +19,9 @@ mod metadata;
 mod place;
 mod retrieved;
 mod role_document;
+mod shared_kept;
+mod shared_keyed;
+mod shared_pass;
 pub mod steps;
 
 pub use cfg_login_token::LoginToken;
@@ -35,3 +38,5 @@ pub use metadata::PlaceState;
 pub use place::Place;
 pub use retrieved::{CREDENTIAL_EXPIRATION_INTERVAL, MAX_JITTER, Retrieved};
 pub use role_document::RoleDocument;
+pub use shared_kept::SharedKept;
+pub use shared_pass::SharedPass;

@@ -10,6 +10,7 @@ ghost use Rattle.cfg_kept.specs.Retrieved.{keys_of_retrieved};
 use crate::found::{Found, note_found};
 use crate::place::Place;
 use crate::retrieved::Retrieved;
+use crate::shared_kept::SharedPlace;
 use cfg_exchange::ClassifyRetry;
 use cfg_imds::steps::follow_settle;
 use cfg_imds::{Client, MetadataToken};
@@ -45,6 +46,12 @@ impl PlaceState {
             token: None,
             retrieved: None,
         }
+    }
+
+    // The same values, each behind a lock.
+    pub(crate) fn into_shared(self) -> SharedPlace {
+        let PlaceState { token, retrieved } = self;
+        SharedPlace::new(token, retrieved)
     }
 }
 

@@ -51,7 +51,7 @@ by_tree {old = old} {part = part} {given = given} m = record {
 same_keeping : (one other : Keeping) → one.states ≡ other.states → one.found ≡ other.found → one ≡ other
 same_keeping one other states found = λ i. record { states = states i; found = found i }
 
-one_member : {R : Type 0} (is_tree : KeptInquiry R → Type 0) → ((s t : KeptInquiry R) → is_tree s → is_tree t → s ≡ t) →
+pub one_member : {R : Type 0} (is_tree : KeptInquiry R → Type 0) → ((s t : KeptInquiry R) → is_tree s → is_tree t → s ≡ t) →
     (old new newer : Keeping) (part longer rest others : List Pair) (x y : R) → IsMemberPart is_tree old new part x → IsMemberPart is_tree old newer longer y → AnswerAlike (part ++ rest) (longer ++ others) →
     (part ≡ longer) × (new ≡ newer) × (x ≡ y) × AnswerAlike rest others
 one_member is_tree one_tree old new newer part longer rest others x y h k a =
@@ -62,10 +62,10 @@ one_member is_tree one_tree old new newer part longer rest others x y h k a =
     let found = p.finds ∙ ap (λ f. old.found ++ f) r.1 ∙ sym q.finds in
     (r.0, same_keeping new newer states found, r.2, r.4)
 
-alike_parts : (one other first rest former others : List Pair) → one ≡ first ++ rest → other ≡ former ++ others → AnswerAlike one other → AnswerAlike (first ++ rest) (former ++ others)
+pub alike_parts : (one other first rest former others : List Pair) → one ≡ first ++ rest → other ≡ former ++ others → AnswerAlike one other → AnswerAlike (first ++ rest) (former ++ others)
 alike_parts one other first rest former others p q a = subst (λ t. AnswerAlike (first ++ rest) t) q (subst (λ t. AnswerAlike t other) p a)
 
-not_both : {E : Type 0} (o u : Option E) (e : E) → o ≡ Some e → u ≡ None → o ≡ u → ⊥
+pub not_both : {E : Type 0} (o u : Option E) (e : E) → o ≡ Some e → u ≡ None → o ≡ u → ⊥
 not_both o u e some none same = absurd cc
 
 same_lists : (one other first former rest others : List Pair) → one ≡ first ++ rest → other ≡ former ++ others → first ≡ former → rest ≡ others → one ≡ other

@@ -2,6 +2,7 @@ pub mod AnswerRules
 pub mod CredentialsAnswers
 pub mod TokenAnswers
 pub mod MemberParts
+pub mod NextQuestions
 pub mod FollowsMembers
 pub mod Provides
 pub mod Turns

@@ -1,9 +1,10 @@
 //! Laws of chains over given members, each on a call that carries it.
-ghost use Rattle.std.specs.Prelude.{◌≡◌, ◌⊎◌, ◌↔◌, List, Result};
+ghost use Rattle.std.specs.Prelude.{◌≡◌, ◌⊎◌, ◌↔◌, ◌++◌, List, Result};
 ghost use Rattle.cfg_world.specs.Fits.{Pair};
 ghost use Rattle.cfg_world.specs.Agreeing.{AnswerAlike};
 ghost use Rattle.cfg_meta.specs.MemberParts.{Keeping, AreMemberParts};
 ghost use Rattle.cfg_meta.specs.FirstAnswers.{IsFirstAnswer, IsNoneLoaded};
+ghost use Rattle.cfg_meta.specs.NextQuestions.{HasEnded, AsksOne};
 
 use crate::member::ChainMember;
 
@@ -24,4 +25,12 @@ pub fn one_journal<M: ChainMember>()
         AreMemberParts M.Error.rules (λ m. M.named m) (λ m. M.is_tree m) members olds news one x →
         AreMemberParts M.Error.rules (λ m. M.named m) (λ m. M.is_tree m) members olds newer other y →
         AnswerAlike one other → (one ≡ other) × (news ≡ newer) × (x ≡ y) }
+{}
+
+/// A prefix of a call's journal is that of a whole call, or exactly one question is next behind it, and never both.
+pub fn one_question_is_next<M: ChainMember>()
+    ensures { (members : List M) (olds news : List Keeping) (one rest : List Pair) (out : Result M.Value M.Error) →
+        AreMemberParts M.Error.rules (λ m. M.named m) (λ m. M.is_tree m) members olds news (one ++ rest) out →
+        HasEnded M.Error.rules (λ m. M.named m) (λ m. M.is_tree m) members olds one ⊎
+        AsksOne M.Error.rules (λ m. M.named m) (λ m. M.is_tree m) members olds one }
 {}

@@ -16,6 +16,7 @@ use Rattle.cfg_run.specs.CallSoFar.{CallSoFar}
 use Rattle.cfg_run.specs.Runs.{IsWaitingCall, IsUnderWay, IsUnderWayAt, ComesTo}
 use Rattle.cfg_run.specs.declared.run.Step.{Step}
 use Rattle.cfg_run.specs.declared.run.Step.TheVariants.{Pending, Ready}
+use Rattle.cfg_run.proofs.Askers.{one_member}
 use Rattle.cfg_run.proofs.TreeSteps.{one_wait}
 
 not_pending : (out : Answer) → Ready out ≡ Pending → ⊥
@@ -25,7 +26,7 @@ not_pending out h = cc
 record Shown (over : ChainSetting) (s : CallSoFar) : Type 0 where
   question : Question
   is : s.question ≡ Some question
-  waits : IsWaitingCall over s.base s.kept s.found s.asked question
+  waits : IsWaitingCall over s.base s.kept s.found s.asked question s.member
 
 shown_at : (over : ChainSetting) (s : CallSoFar) (question : Option Question) → s.question ≡ question → IsSome question → IsUnderWayAt over s question → Shown over s
 shown_at over s None is some h = absurd (no_question some)
@@ -74,7 +75,9 @@ module _ (over : ChainSetting) (before later : CallSoFar) (base : later.base ≡
       let w = one_wait p before.base later.found before.found before.asked other.question one.question (Some later.kept) (Some before.kept) there_too a.asks in
       let question : later.question ≡ before.question = other.is ∙ ap Some q ∙ sym one.is in
       let kept : later.kept ≡ before.kept = some_is later.kept before.kept w.1 in
-      λ i. record { key = key i; base = base i; kept = kept i; found = w.0 i; asked = asked i; question = question i }
+      let waits = subst (λ j. IsWaitingCall over before.base later.kept later.found j other.question later.member) asked (subst (λ k. IsWaitingCall over k later.kept later.found later.asked other.question later.member) base b) in
+      let member : later.member ≡ before.member = one_member over before.base later.kept before.kept later.found before.found before.asked other.question one.question later.member before.member waits a in
+      λ i. record { key = key i; base = base i; kept = kept i; found = w.0 i; asked = asked i; question = question i; member = member i }
 
   pub call_by_receipts : (step : Step) → IsSome before.question → IsUnderWay over before → ComesTo over later step → (step ≡ Pending) × (later ≡ before)
   call_by_receipts Pending some h c = (refl, one_shown (shown over before some h) (shown over later c.0 c.1))

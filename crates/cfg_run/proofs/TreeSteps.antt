@@ -34,12 +34,12 @@ entry_begins (Finds spot n) old new (f ∷ found) (d ∷ journal) e h = let r = 
 entry_begins (Leaves v p) old new found journal e h = let r = entry_begins p (leave old v) new found journal e h in (r.0, inr r.1)
 
 -- a journal and what goes on behind it have answers that agree
-alike_front : (part left : List Pair) → AnswerAlike (part ++ left) part
+pub alike_front : (part left : List Pair) → AnswerAlike (part ++ left) part
 alike_front [] [] = tt
 alike_front [] (e ∷ left) = tt
 alike_front (e ∷ part) left = λ asks. (refl, alike_front part left)
 
-nothing_behind : (part left rest : List Pair) → part ≡ (part ++ left) ++ rest → left ≡ []
+pub nothing_behind : (part left rest : List Pair) → part ≡ (part ++ left) ++ rest → left ≡ []
 nothing_behind [] [] rest h = refl
 nothing_behind [] (e ∷ left) rest h = cc
 nothing_behind (d ∷ part) left rest h = nothing_behind part left rest (tail_is h)
@@ -88,6 +88,8 @@ module _ {R : Type 0} (p : KeptInquiry R) (old : States) (asked part : List Pair
   none_left (e ∷ left) found q new b a unmet = absurd (unmet (next_entry p old found begun.0 part e left q new begun.1 a b))
 
   -- and so is what waits for a question that the next entry does not have
+  pub part_is_all : (found : List Value) (q : Question) (new : Option States) → Asks p (Some old) found part q new → last.unanswered ≡ Some q → IsLeftOpen last.left last.unanswered → part ≡ asked
+  part_is_all found q new a shown unmet = part_is (none_left last.left found q new begun_there a (subst (IsLeftOpen last.left) shown unmet))
+
   pub all_asked : (found : List Value) (q : Question) (new : Option States) → Asks p (Some old) found part q new → last.unanswered ≡ Some q → IsLeftOpen last.left last.unanswered → Asks p (Some old) found asked q new
-  all_asked found q new a shown unmet =
-      subst (λ j. Asks p (Some old) found j q new) (part_is (none_left last.left found q new begun_there a (subst (IsLeftOpen last.left) shown unmet))) a
+  all_asked found q new a shown unmet = subst (λ j. Asks p (Some old) found j q new) (part_is_all found q new a shown unmet) a

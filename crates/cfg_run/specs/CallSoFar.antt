@@ -5,9 +5,10 @@ use Rattle.cfg_world.specs.Fits.{Pair}
 use Rattle.cfg_token.specs.declared.token_key.TokenKey.{TokenKey}
 use Rattle.cfg_kept.specs.declared.kept.Kept.{Kept}
 use Rattle.cfg_kept.specs.Kinds.{Value, States}
+use Rattle.cfg_chain.specs.declared.member.Member.{Member}
 
 -- whose token is kept; the kept states at the start, and now; the values that were found; the receipts that were
--- handed in, in order; and the question that is shown, if one is
+-- handed in, in order; and the question that is shown, if one is, and the member of the chain that asks it
 pub record CallSoFar : Type 0 where
   pub key : Option TokenKey
   pub base : States
@@ -15,6 +16,7 @@ pub record CallSoFar : Type 0 where
   pub found : List Value
   pub asked : List Pair
   pub question : Option Question
+  pub member : Option Member
 
 -- what is kept: as the last poll left it, and before there was one, as at the start
 abbrev pub kept_now : Kept → Option Kept → Kept

@@ -6,7 +6,9 @@ use Rattle.cfg_kept.specs.Kinds.{Value, States}
 use Rattle.cfg_kept.specs.KeptInquiry.{Asks as AsksThen, Begins}
 use Rattle.cfg_providers.specs.CustomSources.{Answer}
 use Rattle.cfg_chain.specs.profile.Plans.{key_of}
-use Rattle.cfg_chain.specs.Members.{default_chain}
+use Rattle.cfg_chain.specs.declared.member.Member.{Member}
+use Rattle.cfg_chain.specs.Askers.{IsAskedBy}
+use Rattle.cfg_chain.specs.Members.{credentials_chain, default_chain, default_members}
 use Rattle.cfg_chain.specs.Provides.{IsCall}
 use Rattle.cfg_chain.specs.Settings.{ChainSetting, Services, AreServices, setting}
 use Rattle.cfg_run.specs.CallSoFar.{CallSoFar}
@@ -16,18 +18,19 @@ use Rattle.cfg_run.specs.declared.run.Step.{Step}
 use Rattle.cfg_run.specs.declared.run.Step.TheVariants.{Pending, Ready}
 
 -- A call of a default chain of this setting waits: it found these values, and after this journal it asks this
--- question next, over the services that the configuration names. Each kept value is as the last finished
--- holding left it.
-pub record IsWaitingCall (over : ChainSetting) (old new : States) (found : List Value) (part : List Pair) (question : Question) : Type 0 where
+-- question next, over the services that the configuration names, and this member of the chain is the one that asks
+-- it. Each kept value is as the last finished holding left it.
+pub record IsWaitingCall (over : ChainSetting) (old new : States) (found : List Value) (part : List Pair) (question : Question) (member : Option Member) : Type 0 where
   pub services : Services
   pub names : AreServices over services
   pub asks : AsksThen (default_chain (setting over services)) (Some old) found part question (Some new)
+  pub asker : IsAskedBy (credentials_chain (setting over services)) default_members (Some old) found part member question (Some new)
 
 -- Where no question is shown, nothing was asked, found or left; the one that is shown is the one that the call
 -- asks next.
 abbrev pub IsUnderWayAt : ChainSetting → CallSoFar → Option Question → Type 0
 IsUnderWayAt over s None = (s.asked ≡ []) × (s.found ≡ []) × (s.kept ≡ s.base)
-IsUnderWayAt over s (Some question) = IsWaitingCall over s.base s.kept s.found s.asked question
+IsUnderWayAt over s (Some question) = IsWaitingCall over s.base s.kept s.found s.asked question s.member
 
 -- The run gave no answer yet, and what is kept is that of a chain with this key.
 abbrev pub IsUnderWay : ChainSetting → CallSoFar → Type 0
@@ -46,10 +49,10 @@ abbrev pub HasBegun : ChainSetting → States → List Pair → Type 0
 HasBegun over old part = (services : Services) → AreServices over services →
     (found : List Value) × (new : Option States) × Begins (default_chain (setting over services)) (Some old) found part new
 
--- What comes after this journal: the question that the call asks next, or its outcome.
-abbrev pub ComesNext : ChainSetting → States → States → List Value → List Pair → Next Answer → Type 0
-ComesNext over old new found part (Asks question) = IsWaitingCall over old new found part question
-ComesNext over old new found part (Gives out) = IsCall over old new found part out
+-- What comes after this journal: the question that the call asks next, by this member, or its outcome.
+abbrev pub ComesNext : ChainSetting → States → States → List Value → List Pair → Option Member → Next Answer → Type 0
+ComesNext over old new found part member (Asks question) = IsWaitingCall over old new found part question member
+ComesNext over old new found part member (Gives out) = IsCall over old new found part out
 
 -- the question that is shown then, and what the poll answers
 abbrev pub question_of : Next Answer → Option Question

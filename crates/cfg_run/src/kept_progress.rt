@@ -1,28 +1,31 @@
 //! How far a run is that keeps values.
-ghost use Rattle.std.specs.Prelude.{◌≡◌, ◌++◌, [], take, option_to_list, map, None, IfOk, OnOk, OnErr};
+ghost use Rattle.std.specs.Prelude.{◌≡◌, ◌↔◌, ◌++◌, [], take, option_to_list, map, None, IsSome, IfOk, OnOk, OnErr};
 ghost use Rattle.std.specs.Option.{option_copied};
 ghost use Rattle.cfg_kept.specs.FoundValues.{bare};
 ghost use Rattle.cfg_kept.specs.KeptStates.{states_of, kept_key};
 
 use crate::progress::Progress;
 use crate::replay::Replay;
+use cfg_chain::Member;
 use cfg_kept::Kept;
 use cfg_types::OutOfMemory;
 use cfg_world::{Question, Receipt};
 use std::alloc::Global;
 use std::marker::Model;
 
-/// What was kept at the start, with nothing found, and after the last poll, if there was one; and what was asked.
+/// What was kept at the start, with nothing found, and after the last poll, if there was one; what was asked; and the
+/// member that asks the question that is shown.
 #[derive(Drop)]
 pub(crate) struct KeptProgress {
     alloc: Global,
     base: Kept,
     later: Option<Kept>,
     progress: Progress,
+    member: Option<Member>,
 }
 
 impl Model for KeptProgress {
-    ghost use Rattle.std.specs.Prelude.{◌≡◌, [], map};
+    ghost use Rattle.std.specs.Prelude.{◌≡◌, ◌↔◌, [], map, IsSome};
     ghost use Rattle.cfg_kept.specs.FoundValues.{bare};
     ghost use Rattle.cfg_kept.specs.KeptStates.{states_of, kept_key};
     ghost use Rattle.cfg_run.specs.CallSoFar.{CallSoFar, kept_now};
@@ -36,15 +39,17 @@ impl Model for KeptProgress {
       found = map bare (kept_now p.base p.later).found.items;
       asked = p.progress.asked;
       question = p.progress.question;
+      member = p.member;
     } };
 
-    ghost invariant = { λ p. (p.base.found.items ≡ []) × (kept_key (kept_now p.base p.later) ≡ kept_key p.base) };
+    ghost invariant = { λ p. (p.base.found.items ≡ []) × (kept_key (kept_now p.base p.later) ≡ kept_key p.base)
+        × (IsSome p.member ↔ IsSome p.progress.question) };
 }
 
 impl KeptProgress {
     /// Nothing was asked, and no question is shown. The values that were found before are given up. Takes no memory.
     pub(crate) fn new(alloc: Global, kept: Kept) -> KeptProgress
-        ensures { result ≡ record { key = kept_key kept; base = states_of kept; kept = states_of kept; found = []; asked = []; question = None } }
+        ensures { result ≡ record { key = kept_key kept; base = states_of kept; kept = states_of kept; found = []; asked = []; question = None; member = None } }
     {
         let mut base = kept;
         base.clear_found();
@@ -53,6 +58,7 @@ impl KeptProgress {
             base,
             later: None,
             progress: Progress::new(alloc),
+            member: None,
         }
     }
 
@@ -68,6 +74,13 @@ impl KeptProgress {
         self.progress.question()
     }
 
+    pub(crate) fn member(&self) -> Option<Member>
+        ensures is { result ≡ self.now.member }
+        ensures shown { IsSome result ↔ IsSome self.now.question }
+    {
+        self.member
+    }
+
     /// What is kept now, with the values that were found.
     pub(crate) fn into_kept(self) -> Kept
         ensures states { states_of result ≡ self.kept }
@@ -79,6 +92,7 @@ impl KeptProgress {
             base,
             later,
             progress: _,
+            member: _,
         } = self;
         match later {
             Some(kept) => kept,
@@ -102,13 +116,16 @@ impl KeptProgress {
         self.progress.take_back(count);
     }
 
-    /// With this kept now, and with this question shown, or none. It has the key of what was kept at the start.
-    pub(crate) fn show(&mut self, kept: Kept, question: Option<Question>)
-        requires { kept_key kept ≡ self.old.key }
-        ensures { self.new ≡ record self.old { kept = states_of kept; found = map bare kept.found.items; question = question } }
+    /// With this kept now, and with this question shown, which this member asks, or none. What is kept has the key of
+    /// what was kept at the start.
+    pub(crate) fn show(&mut self, kept: Kept, question: Option<Question>, member: Option<Member>)
+        requires key { kept_key kept ≡ self.old.key }
+        requires shown { IsSome member ↔ IsSome question }
+        ensures { self.new ≡ record self.old { kept = states_of kept; found = map bare kept.found.items; question = question; member = member } }
     {
         self.later = Some(kept);
         self.progress.show(question);
+        self.member = member;
     }
 
     /// A copy of what was kept at the start, with nothing found. `OutOfMemory` where memory runs out.

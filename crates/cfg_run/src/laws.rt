@@ -1,7 +1,10 @@
 //! Laws of runs, each on a call that carries it.
-ghost use Rattle.std.specs.Prelude.{◌≡◌, ◌↔◌, List, IsSome};
+ghost use Rattle.std.specs.Prelude.{◌≡◌, ◌↔◌, List, Option, IsSome};
 ghost use Rattle.cfg_world.specs.declared.ask.Question.{Question as Asked};
 ghost use Rattle.cfg_world.specs.Inquiry.{Inquiry, AsksNext};
+ghost use Rattle.cfg_world.specs.Fits.{Pair};
+ghost use Rattle.cfg_kept.specs.Kinds.{Value, States};
+ghost use Rattle.cfg_chain.specs.declared.member.Member.{Member};
 ghost use Rattle.cfg_chain.specs.BegunCalls.{IsNextOfCall};
 ghost use Rattle.cfg_chain.specs.Settings.{ChainSetting};
 ghost use Rattle.cfg_region.specs.Chains.{first_given};
@@ -41,4 +44,10 @@ pub fn a_call_changes_by_receipts_alone()
     ensures { (over : ChainSetting) (before later : CallSoFar) (step : Stepped) → IsSome before.question → call.IsUnderWay over before →
         later.base ≡ before.base → later.key ≡ before.key → later.asked ≡ before.asked → call.ComesTo over later step →
         (step ≡ call_step.Pending) × (later ≡ before) }
+{}
+
+/// One member asks the question that is next: behind one journal there is no other.
+pub fn one_member_asks()
+    ensures { (over : ChainSetting) (old new newer : States) (found more : List Value) (asked : List Pair) (question other : Asked) (member second : Option Member) →
+        call.IsWaitingCall over old new found asked question member → call.IsWaitingCall over old newer more asked other second → member ≡ second }
 {}

@@ -1,15 +1,17 @@
 //! A call of the default chain, a question at a time.
-ghost use Rattle.std.specs.Prelude.{◌≡◌, ◌++◌, [], map, option_to_list, IfOk, IfSome, OnOk, OnErr, None, Some};
+ghost use Rattle.std.specs.Prelude.{◌≡◌, ◌↔◌, ◌++◌, [], map, option_map, option_to_list, IfOk, IfSome, IsSome, OnOk, OnErr, None, Some};
 ghost use Rattle.std.specs.Option.{option_copied};
+ghost use Rattle.cfg_base.specs.Text.{characters};
 ghost use Rattle.cfg_kept.specs.FoundValues.{bare};
 ghost use Rattle.cfg_kept.specs.KeptStates.{states_of, kept_key};
+ghost use Rattle.cfg_chain.specs.Members.{name_of};
 ghost use Rattle.cfg_chain.specs.Views.{chain_of};
 ghost use Rattle.cfg_chain.specs.profile.Plans.{key_of};
 ghost use Rattle.cfg_run.specs.Runs.{IsUnderWay, ComesTo, ComesNext, HasBegun, question_of, step_of};
 
 use crate::kept_progress::KeptProgress;
 use crate::next::Next;
-use cfg_chain::DefaultCredentialsChain;
+use cfg_chain::{DefaultCredentialsChain, Member};
 use cfg_kept::Kept;
 use cfg_types::{Credentials, CredentialsError, OutOfMemory};
 use cfg_world::{Question, Receipt, Stop};
@@ -26,7 +28,7 @@ pub enum Step {
 /// A call of the default chain that asks one question at a time. Whoever polls it puts the question that it shows,
 /// and hands the receipt in. It owns what is kept between calls, and gives it up where it is dropped. Contracts see
 /// the chain, and how far the call is: what was kept at the start and is kept now, the values that were found,
-/// the receipts, and the question that is shown.
+/// the receipts, and the question that is shown, with the member of the chain that asks it.
 #[derive(Drop)]
 pub struct Run<'a> {
     chain: &'a DefaultCredentialsChain,
@@ -38,6 +40,8 @@ pub struct Run<'a> {
 struct Walked {
     kept: Kept,
     next: Next<Result<Credentials, CredentialsError>>,
+    // Who asks the question that is next.
+    member: Option<Member>,
 }
 
 impl<'a> Run<'a> {
@@ -47,7 +51,8 @@ impl<'a> Run<'a> {
     pub fn start(chain: &'a DefaultCredentialsChain, kept: Kept) -> Run<'a>
         requires { kept_key kept ≡ key_of chain.now.core }
         ensures chain { result.chain.now ≡ chain.now }
-        ensures nothing { result.progress ≡ record { key = kept_key kept; base = states_of kept; kept = states_of kept; found = []; asked = []; question = None } }
+        ensures nothing { result.progress ≡
+            record { key = kept_key kept; base = states_of kept; kept = states_of kept; found = []; asked = []; question = None; member = None } }
         ensures under_way { IsUnderWay (chain_of value repeated chain.now) result.progress }
     {
         Run {
@@ -61,6 +66,16 @@ impl<'a> Run<'a> {
         ensures { option_copied result ≡ self.now.progress.question }
     {
         self.progress.question()
+    }
+
+    /// The name of the member in whose part of the chain the question stands that is shown, as the chain tells of the
+    /// member. None exactly where no question is shown. Takes no memory.
+    pub fn member(&self) -> Option<&str>
+        ensures name { option_map (λ name. characters name.now) result ≡ option_map name_of self.now.progress.member }
+        ensures shown { IsSome result ↔ IsSome self.now.progress.question }
+    {
+        let member = self.progress.member()?;
+        Some(member.name())
     }
 
     /// The receipts that the polls were given, in order.
@@ -113,20 +128,21 @@ impl<'a> Run<'a> {
 
     // On to what the walk came to.
     fn go_on(&mut self, walked: Walked) -> Step
-        requires { kept_key walked.kept ≡ self.old.progress.key }
+        requires key { kept_key walked.kept ≡ self.old.progress.key }
+        requires shown { IsSome walked.member ↔ IsSome (question_of walked.next) }
         ensures chain { self.new.chain.now ≡ self.old.chain.now }
         ensures step { result ≡ step_of walked.next }
         ensures progress { self.new.progress ≡ record self.old.progress
-            { kept = states_of walked.kept; found = map bare walked.kept.found.items; question = question_of walked.next } }
+            { kept = states_of walked.kept; found = map bare walked.kept.found.items; question = question_of walked.next; member = walked.member } }
     {
-        let Walked { kept, next } = walked;
+        let Walked { kept, next, member } = walked;
         match next {
             Next::Asks(question) => {
-                self.progress.show(kept, Some(question));
+                self.progress.show(kept, Some(question), member);
                 Step::Pending
             }
             Next::Gives(answer) => {
-                self.progress.show(kept, None);
+                self.progress.show(kept, None, member);
                 Step::Ready(answer)
             }
         }
@@ -138,19 +154,23 @@ fn next_of(chain: &DefaultCredentialsChain, progress: &KeptProgress) -> Result<W
     requires key { progress.now.key ≡ key_of chain.now.core }
     requires begun { HasBegun (chain_of value repeated chain.now) progress.now.base progress.now.asked }
     ensures comes { IfOk result (λ w. ComesNext (chain_of value repeated chain.now)
-        progress.now.base (states_of w.kept) (map bare w.kept.found.items) progress.now.asked w.next) }
+        progress.now.base (states_of w.kept) (map bare w.kept.found.items) progress.now.asked w.member w.next) }
+    ensures shown { IfOk result (λ w. IsSome w.member ↔ IsSome (question_of w.next)) }
     ensures key { IfOk result (λ w. kept_key w.kept ≡ progress.now.key) }
 {
     let mut kept = progress.copy_base()?;
     let mut replay = progress.replay();
-    match chain.follow(&mut kept, &mut replay) {
+    let mut asker = None;
+    match chain.follow_by_member(&mut kept, &mut replay, &mut asker) {
         Ok(answer) => Ok(Walked {
             kept,
             next: Next::Gives(answer),
+            member: None,
         }),
         Err(Stop::Open) => Ok(Walked {
             kept,
             next: Next::Asks(replay.into_question().unwrap()),
+            member: asker,
         }),
         Err(Stop::OutOfMemory) => Err(OutOfMemory),
     }

@@ -12,3 +12,4 @@ pub mod SectionRows
 pub mod KeptUses
 pub mod Decided
 pub mod WholeParts
+pub mod SharedSteps

@@ -19,3 +19,4 @@ pub mod SectionRows
 pub mod KeptUses
 pub mod LoadParts
 pub mod Replays
+pub mod SharedSections

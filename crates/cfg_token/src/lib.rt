@@ -7,6 +7,7 @@
 pub mod decision;
 mod file_name;
 pub mod file_token;
+mod finding;
 mod history;
 pub mod laws;
 mod leaves;
@@ -18,6 +19,7 @@ pub mod paths;
 pub mod polls;
 mod replay;
 mod sections;
+mod shared_state;
 mod sso;
 mod sso_file;
 mod sso_token;
@@ -31,8 +33,10 @@ pub use cfg_types::{
 };
 pub use decision::{Decision, decide};
 pub use file_token::FileToken;
+pub use finding::Finding;
 pub use history::{Load, Record};
 pub use paths::cached_sso_token_path;
+pub use shared_state::{SharedAnswer, SharedTokenState};
 pub use sso_file::parse_cached_sso_token;
 pub use sso_token::{CachedSsoToken, SsoTokenFields};
 pub use sso_writing::write_cached_sso_token;

@@ -201,7 +201,7 @@ impl<T: FileToken> Loads<T> {
     // The receipt is that of the first reading. Where the kept token is handed out nothing else is
     // copied, and no memory is taken.
     #[tactic(auto, using(crate::proofs::SectionSteps::after_steps))]
-    fn make_after<A: Asking>(
+    pub(crate) fn make_after<A: Asking>(
         &mut self,
         key: &TokenKey,
         first: Receipt,
@@ -371,7 +371,7 @@ pub fn section_after_on<T: FileToken, D: Devices>(
 }
 
 // What a section answers: the kept token, or what the load gave.
-fn answer<T, E>(made: Sectioned<T, E>) -> Result<T, E>
+pub(crate) fn answer<T, E>(made: Sectioned<T, E>) -> Result<T, E>
     ensures { result ≡ answer_of made }
 {
     match made {

@@ -10,8 +10,8 @@ ghost use Rattle.cfg_region.specs.Sources.{region_source};
 ghost use Rattle.cfg_chain.specs.profile.Plans.{key_of};
 ghost use Rattle.cfg_chain.specs.Answers.{Answered, RanOut};
 ghost use Rattle.cfg_chain.specs.Callers.{TellsCaller};
-ghost use Rattle.cfg_chain.specs.Follows.{FollowsTree, FollowsChain};
-ghost use Rattle.cfg_chain.specs.Members.{default_chain};
+ghost use Rattle.cfg_chain.specs.Follows.{FollowsTree, FollowsChain, TellsAsker, TellsDefaultAsker};
+ghost use Rattle.cfg_chain.specs.Members.{default_chain, default_members};
 ghost use Rattle.cfg_chain.specs.Provides.{ProvidesOn, InterruptedOn};
 ghost use Rattle.cfg_chain.specs.Settled.{IsSettled};
 ghost use Rattle.cfg_chain.specs.Setups.{nothing_set, setup, setup_by, with_region, with_source, Builds, BuildBreaks};
@@ -206,6 +206,24 @@ impl DefaultCredentialsChain {
         ensures follows { FollowsChain ⟦<A as Asking>⟧ ⟦<P as Keeper>⟧ (chain_of value repeated self.now) asking.old asking.new keeper.old keeper.new result }
         ensures key { P.key_held keeper.new ≡ P.key_held keeper.old }
     {
+        let mut asker = None;
+        self.follow_by_member(keeper, asking, &mut asker)
+    }
+
+    /// [`Self::follow`], which also leaves the member that was asked last in `asker`. Where a question is left open,
+    /// that member asks it.
+    pub fn follow_by_member<P: Keeper, A: Asking>(
+        &self,
+        keeper: &mut P,
+        asking: &mut A,
+        asker: &mut Option<Member>,
+    ) -> Result<Result<Credentials, CredentialsError>, Stop>
+        requires { HasKey (key_of self.now.core) (P.key_held keeper.old) }
+        ensures follows { FollowsChain ⟦<A as Asking>⟧ ⟦<P as Keeper>⟧ (chain_of value repeated self.now) asking.old asking.new keeper.old keeper.new result }
+        ensures key { P.key_held keeper.new ≡ P.key_held keeper.old }
+        ensures asker { TellsDefaultAsker ⟦<A as Asking>⟧ ⟦<P as Keeper>⟧ (chain_of value repeated self.now)
+            asking.old asking.new keeper.old keeper.new asker.new result }
+    {
         let config = self.core.config();
         let settled = self.core.settled();
         let call = ChainCall {
@@ -215,7 +233,7 @@ impl DefaultCredentialsChain {
             custom_sources: self.custom_sources.as_slice(),
             imds_client: self.imds_client.as_ref(),
         };
-        follow_members(&call, keeper, asking)
+        follow_members(&call, keeper, asking, asker)
     }
 
     /// Asks the members in order, and answers what the first one that was loaded gives. Members that
@@ -283,12 +301,15 @@ fn follow_members<P: Keeper, A: Asking>(
     call: &ChainCall,
     keeper: &mut P,
     asking: &mut A,
+    asker: &mut Option<Member>,
 ) -> Result<Result<Credentials, CredentialsError>, Stop>
     requires settled { IsSettled call.now.config.now call.now.settled.now }
     requires key { HasKey (key_of call.now.config.now) (P.key_held keeper.old) }
     ensures follows { FollowsTree ⟦<A as Asking>⟧ ⟦<P as Keeper>⟧ (default_chain (view value repeated call.now))
         asking.old asking.new keeper.old keeper.new result }
     ensures key { P.key_held keeper.new ≡ P.key_held keeper.old }
+    ensures asker { TellsAsker ⟦<A as Asking>⟧ ⟦<P as Keeper>⟧ (view value repeated call.now) default_members
+        asking.old asking.new keeper.old keeper.new asker.new result }
 {
-    follow_chain(call, &MEMBERS, keeper, asking)
+    follow_chain(call, &MEMBERS, keeper, asking, asker)
 }

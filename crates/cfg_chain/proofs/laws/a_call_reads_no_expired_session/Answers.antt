@@ -2,13 +2,13 @@ use Rattle.cfg_chain.proofs.Sessions.{answered, interrupted, by_profile, profile
 use Rattle.cfg_chain.proofs.laws.a_call_reads_no_expired_session.Goals as goal
 
 pub returns-clause-answered : goal.returns-clause-answered
-returns-clause-answered g c = λ over old new found before later out h. answered g.D.Devices over old new found before later out h
+returns-clause-answered g c = λ over found before later out h. answered g.D.Devices over found before later out h
 
 pub returns-clause-interrupted : goal.returns-clause-interrupted
-returns-clause-interrupted g c = λ over old new found before later h. interrupted g.D.Devices over old new found before later h
+returns-clause-interrupted g c = λ over found before later h. interrupted g.D.Devices over found before later h
 
 pub returns-clause-by_profile : goal.returns-clause-by_profile
-returns-clause-by_profile g c = λ over old new found before later out h. by_profile g.D.Devices over old new found before later out h
+returns-clause-by_profile g c = λ over old new found before later out h. by_profile g.D.Devices over found before later old new out h
 
 pub returns-clause-profile_interrupted : goal.returns-clause-profile_interrupted
-returns-clause-profile_interrupted g c = λ over old new found before later h. profile_interrupted g.D.Devices over old new found before later h
+returns-clause-profile_interrupted g c = λ over old new found before later h. profile_interrupted g.D.Devices over found before later old new h

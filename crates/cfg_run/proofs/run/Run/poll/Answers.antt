@@ -22,7 +22,7 @@ pub returns-in-Ok-clause-comes : goal.returns-in-Ok-clause-comes
 returns-in-Ok-clause-comes g c =
     let over : ChainSetting = chain_of (λ z. (goal.ProvideCredentials-dyn g z).value z.1) (λ z. (goal.ClassifyRetry-dyn g z).repeated z.1) c.args.self.now.chain.now in
     walk_comes over c.args.self.now.progress c.hand_in.new.self c.go_on.new.self.progress (c.args.self.now.progress.asked ++ option_to_list c.args.receipt) (states_of c.in-Ok.walked.kept) (map bare c.in-Ok.walked.kept.found.items)
-    c.in-Ok.walked.next c.go_on.result c.requires.under_way.0 c.in_ok-hand_in.ensures.asked c.go_on.ensures.progress c.go_on.ensures.step c.in-Ok.ensures.comes
+    c.in-Ok.walked.member c.in-Ok.walked.next c.go_on.result c.requires.under_way.0 c.in_ok-hand_in.ensures.asked c.go_on.ensures.progress c.go_on.ensures.step c.in-Ok.ensures.comes
 
 pub returns-in-Err-clause-stays : goal.returns-in-Err-clause-stays
 returns-in-Err-clause-stays g c =

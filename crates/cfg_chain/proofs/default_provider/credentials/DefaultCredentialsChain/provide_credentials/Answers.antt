@@ -6,6 +6,7 @@ use Rattle.cfg_kept.proofs.OneHolding.{no_question, broken}
 use Rattle.cfg_exchange.proofs.Checks.{not_stopped}
 use Rattle.cfg_chain.specs.Settings.{ChainSetting}
 use Rattle.cfg_chain.specs.Views.{chain_of}
+use Rattle.cfg_chain.proofs.FoundCalls.{provides_found}
 use Rattle.cfg_chain.proofs.WhoAnswered.{tells_who}
 use Rattle.cfg_chain.proofs.Calls.{is_call_from, begins_from, some_is}
 use Rattle.cfg_chain.proofs.default_provider.credentials.DefaultCredentialsChain.provide_credentials.Goals as goal
@@ -25,7 +26,7 @@ returns-in-Ok-clause-provides g c = λ other.
     ]
 
 pub returns-in-Ok-clause-tells : goal.returns-in-Ok-clause-tells
-returns-in-Ok-clause-tells g c = λ other. tells_who _ _ _ _ _ _ _ _ (returns-in-Ok-clause-provides g c other)
+returns-in-Ok-clause-tells g c = λ other. tells_who _ _ _ _ _ _ (provides_found _ _ _ _ _ _ _ _ (returns-in-Ok-clause-provides g c other))
 
 pub returns-in-Ok-clause-stays : goal.returns-in-Ok-clause-stays
 returns-in-Ok-clause-stays g c = λ no_memory.

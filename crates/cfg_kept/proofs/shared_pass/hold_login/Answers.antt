@@ -1,0 +1,12 @@
+-- What the section found has its place in the list.
+use Rattle.std.proofs.Common.{rules}
+use Rattle.cfg_login_token.specs.LoginTokens.{login_rules}
+use Rattle.cfg_kept.specs.LoginHoldings.{login_spot, login_is_spot}
+use Rattle.cfg_kept.proofs.SharedSteps.{nothing_found, section_shared}
+use Rattle.cfg_kept.proofs.shared_pass.hold_login.Goals as goal
+
+pub returns-in_err-take_place : goal.returns-in_err-take_place
+returns-in_err-take_place g c = nothing_found g.A.Asking _ _ _ _ _ (search rules) (search rules)
+
+pub returns : goal.returns
+returns g c = section_shared login_rules login_spot login_is_spot g.A.Asking _ _ _ _ _ _ _ _ _ _ (search rules) c.follow-answer.ensures
