@@ -1,5 +1,5 @@
 -- What a script says fits the devices that it is said of, and makes as many calls as there may be.
-use Rattle.std.proofs.Common.{◌≡◌, ℕ, ◌+◌, List, [], ◌∷◌, Bool, true, false, cond, Option, Some, None, Result, Ok, Err, refl, sym, ap, subst, arith}
+use Rattle.std.proofs.Common.{◌≡◌, ℕ, ◌+◌, List, [], ◌∷◌, Bool, true, false, cond, Option, Some, None, Result, Ok, Err, refl, sym, ap, subst, arith, length}
 use Rattle.std.specs.Prelude.{ℤ, pos, negsuc, ◌≤ℤ◌, All, bytes_eq, codes, unwrap_or, is_some, int_lt, IsTrue, if◌then◌else◌}
 use Rattle.std.proofs.lemmas.Int.{ints}
 use Rattle.std.specs.List.{AllByRecursion}
@@ -21,15 +21,17 @@ use Rattle.cfg_script.specs.declared.fault.Wanted.{Wanted}
 use Rattle.cfg_script.specs.declared.fault.Wanted.TheVariants as wanted
 use Rattle.cfg_script.specs.Json.{without}
 use Rattle.cfg_script.specs.Faults.{under, under_place, wanting, unless}
-use Rattle.cfg_script.specs.Forms.{Form, each, list_of, word_or}
-use Rattle.cfg_script.specs.Objects.{MemberForm, ObjectForm, ◌&◌, nothing_more, list_member, optional_member, or_missing, unknown_name, only}
+use Rattle.cfg_script.specs.Forms.{Form, each, list_by, list_of, word_or}
+use Rattle.cfg_script.specs.Objects.{MemberForm, ObjectForm, ◌&◌, nothing_more, list_member, optional_member, required_member, or_missing, unknown_name, only}
 use Rattle.cfg_script.specs.Scalars.{text, characters_of, boolean, unsigned_of, unsigned_integer, is_call_count, call_count_of, call_count}
 use Rattle.cfg_script.specs.Moments.{moment_from, clock_from, clock_moment}
 use Rattle.cfg_script.specs.Replies.{fail_kind, failed_send, failed, command, look_up, http_reply, refusal, refusal_or, reply_or, reply_of, sts_grant, role_grant, token_grant, sign_in_grant, no_sts, no_role, no_sign_in, sts_reply, role_reply, token_reply, sign_in_reply}
 use Rattle.cfg_script.specs.Sections.{variable, section}
-use Rattle.cfg_script.specs.Script.{Plain}
-use Rattle.cfg_script.specs.Settings.{file, Queues, queue_members, replies, no_queues, DeviceRows, device_members, lists_in, devices, ScriptRows, script_members, plain_in}
-use Rattle.cfg_script.specs.Reading.{beside_fault, rows_said, script_said, value_said, json_value, json_said, or_reason, bytes_said}
+use Rattle.cfg_world.specs.declared.script.DeviceLists.{DeviceLists}
+use Rattle.cfg_script.specs.Script.{Plain, PlainShare}
+use Rattle.cfg_script.specs.Settings.{file, Queues, queue_members, replies, no_queues, DeviceRows, device_members, lists_in, devices, settings, ScriptRows, script_members, plain_in, script}
+use Rattle.cfg_script.specs.Shares.{caller, is_caller_count, counted_callers, callers, ShareRows, share_members, share_in, share}
+use Rattle.cfg_script.specs.Reading.{beside_fault, members_said, value_said, json_value, json_said, or_reason, bytes_said}
 use Rattle.cfg_script.specs.Devices.{lists_of}
 use Rattle.cfg_script.proofs.Steps.{went_some}
 
@@ -306,17 +308,19 @@ calls_good (Some d) o e =
     let w = went (call_count d) (λ n. Ok (Some n)) o e in
     ok_good IsCounted (Some w.value) o w.next (count_good d w.value w.is)
 
-script_says : ObjectSays script_members (λ rows. Unit {0} × (Unit {0} × (Unit {0} × (Unit {0} × (Unit {0} × (Unit {0} × (Unit {0} × (IsCounted rows.1.1.1.1.1.1.1.0 × AllFit rows.1.1.1.1.1.1.1.1))))))))
-script_says =
-    and (free (list_member (codes "variables") variable))
-    (and (free (list_member (codes "profiles") section))
-    (and (free (list_member (codes "sessions") section))
-    (and (free (optional_member (codes "refused") characters_of))
-    (and (free (optional_member (codes "selected") text))
-    (and (free (optional_member (codes "region") text))
-    (and (free (optional_member (codes "sleep") boolean))
-    (and (record { says = calls_good })
-    lists_say)))))))
+module _ {B : Type 0} {others : ObjectForm B} {P : B → Type 0} where
+  -- the settings say nothing of their own but how many calls there are
+  settings_say : ObjectSays others P → ObjectSays (settings others) (λ rows. Unit {0} × (Unit {0} × (Unit {0} × (Unit {0} × (Unit {0} × (Unit {0} × (Unit {0} × (IsCounted rows.1.1.1.1.1.1.1.0 × P rows.1.1.1.1.1.1.1.1))))))))
+  settings_say behind =
+      and (free (list_member (codes "variables") variable))
+      (and (free (list_member (codes "profiles") section))
+      (and (free (list_member (codes "sessions") section))
+      (and (free (optional_member (codes "refused") characters_of))
+      (and (free (optional_member (codes "selected") text))
+      (and (free (optional_member (codes "region") text))
+      (and (free (optional_member (codes "sleep") boolean))
+      (and (record { says = calls_good })
+      behind)))))))
 
 -- ---- the script
 
@@ -327,34 +331,86 @@ Fitting p = AllFit (lists_of p) × IsTrue (is_call_count p.calls)
 rows_fit : (ms : Members) (rows : ScriptRows) → script_members.read ms ≡ Ok rows → Fitting (plain_in rows)
 unfolding plain_in
 rows_fit ms rows e =
-    let fit = (script_says.says ms rows e).1.1.1.1.1.1.1 in
+    let fit = ((settings_say lists_say).says ms rows e).1.1.1.1.1.1.1 in
     (fit.1, fit.0)
 
-members_fit : (ms : Members) (p : Plain) → script_said ms ≡ Ok p → Fitting p
-unfolding rows_said script_said
-members_fit ms p e =
-    let w = went (rows_said ms) (λ rows. Ok (plain_in rows)) p e in
-    let read = no_other (beside_fault ms) _ w.value (no_other (unknown_name script_members.has ms) _ w.value w.is) in
-    ok_good Fitting (plain_in w.value) p w.next (rows_fit ms w.value read)
+script_says : ObjectSays script Fitting
+script_says = record {
+  says = λ ms p e.
+      let w = went (script_members.read ms) (λ rows. Ok (plain_in rows)) p e in
+      ok_good Fitting (plain_in w.value) p w.next (rows_fit ms w.value w.is);
+}
 
-value_fits : (d : Data) (p : Plain) → value_said d ≡ Ok p → Fitting p
-unfolding value_said
-value_fits d p e = let w = went (wanting wanted.Object (as_object d)) script_said p e in members_fit w.value p w.next
-
-reason_left : (r : Result Plain Fault) (p : Plain) → or_reason r ≡ Ok p → r ≡ Ok p
+reason_left : {A : Type 0} (r : Result A Fault) (p : A) → or_reason r ≡ Ok p → r ≡ Ok p
 reason_left (Ok q) p e = cc
 reason_left (Err f) p e = cc
 
-json_fits : (o : Option Data) (p : Plain) → json_said o ≡ Ok p → Fitting p
-json_fits None p e = cc
-json_fits (Some d) p e = value_fits d p (reason_left (value_said d) p e)
+module _ {A : Type 0} (object : ObjectForm A) (P : A → Type 0) (says : ObjectSays object P) where
+  value_says : (d : Data) (a : A) → value_said object d ≡ Ok a → P a
+  value_says d a e =
+      let w = went (wanting wanted.Object (as_object d)) (members_said object) a e in
+      says.says w.value a (no_other (beside_fault w.value) _ a (no_other (unknown_name object.has w.value) _ a w.next))
 
-script_fits : (bytes : List ℕ) (p : Plain) → bytes_said bytes ≡ Ok p → Fitting p
-unfolding bytes_said
-script_fits bytes p e = json_fits (json_value bytes) p e
+  json_says : (o : Option Data) (a : A) → json_said object o ≡ Ok a → P a
+  json_says None a e = cc
+  json_says (Some d) a e = value_says d a (reason_left (value_said object d) a e)
 
-pub said_fits : (bytes : List ℕ) (p : Plain) → Ok p ≡ bytes_said bytes → AllFit (lists_of p)
-said_fits bytes p e = (script_fits bytes p (sym e)).0
+  bytes_say : (bytes : List ℕ) (a : A) → bytes_said object bytes ≡ Ok a → P a
+  unfolding bytes_said
+  bytes_say bytes a e = json_says (json_value bytes) a e
 
-pub said_counts : (bytes : List ℕ) (p : Plain) → Ok p ≡ bytes_said bytes → IsTrue (is_call_count p.calls)
-said_counts bytes p e = (script_fits bytes p (sym e)).1
+pub said_fits : (bytes : List ℕ) (p : Plain) → Ok p ≡ bytes_said script bytes → AllFit (lists_of p)
+said_fits bytes p e = (bytes_say script Fitting script_says bytes p (sym e)).0
+
+pub said_counts : (bytes : List ℕ) (p : Plain) → Ok p ≡ bytes_said script bytes → IsTrue (is_call_count p.calls)
+said_counts bytes p e = (bytes_say script Fitting script_says bytes p (sym e)).1
+
+-- ---- the script of several callers
+
+caller_good : (d : Data) (lists : DeviceLists) → caller d ≡ Ok lists → AllFit lists
+caller_good d lists e =
+    let ms = went (wanting wanted.Caller (as_object d)) (only devices) lists e in
+    lists_say.says ms.value lists (no_other (unknown_name devices.has ms.value) (devices.read ms.value) lists ms.next)
+
+-- each caller's lists fit, and there are as many callers as there may be
+abbrev CallersFit : List DeviceLists → Type 0
+CallersFit all = All AllFit all × IsTrue (is_caller_count (length all))
+
+count_kept : (b : Bool) (all kept : List DeviceLists) → is_caller_count (length all) ≡ b → cond b (Some all) None ≡ Some kept → All AllFit all → CallersFit kept
+count_kept true all kept h e fit = some_good CallersFit all kept e (fit, h)
+count_kept false all kept h e fit = cc
+
+callers_good : (d : Data) (kept : List DeviceLists) → callers d ≡ Ok kept → CallersFit kept
+unfolding counted_callers
+callers_good d kept e =
+    let w = went (list_by wanted.Callers caller d) (λ all. wanting wanted.Callers (counted_callers all)) kept e in
+    let each_one = went (wanting wanted.Callers (as_array d)) (each caller 0) w.value w.is in
+    count_kept (is_caller_count (length w.value)) w.value kept refl (was_there wanted.Callers (counted_callers w.value) kept w.next)
+    (All-from_recursion AllFit w.value (each_all AllFit caller caller_good 0 each_one.value w.value each_one.next))
+
+callers_there : (m : Option Data) (kept : List DeviceLists) → (required_member (codes "callers") callers).read m ≡ Ok kept → CallersFit kept
+callers_there None kept e = cc
+callers_there (Some d) kept e = callers_good d kept e
+
+callers_say : MemberSays (required_member (codes "callers") callers) CallersFit
+callers_say = record { says = callers_there }
+
+abbrev ShareFits : PlainShare → Type 0
+ShareFits p = CallersFit p.callers
+
+share_rows_fit : (ms : Members) (rows : ShareRows) → share_members.read ms ≡ Ok rows → ShareFits (share_in rows)
+unfolding share_in
+share_rows_fit ms rows e = ((settings_say (and callers_say none_left)).says ms rows e).1.1.1.1.1.1.1.1.0
+
+share_says : ObjectSays share ShareFits
+share_says = record {
+  says = λ ms p e.
+      let w = went (share_members.read ms) (λ rows. Ok (share_in rows)) p e in
+      ok_good ShareFits (share_in w.value) p w.next (share_rows_fit ms w.value w.is);
+}
+
+pub share_fits : (bytes : List ℕ) (p : PlainShare) → Ok p ≡ bytes_said share bytes → All AllFit p.callers
+share_fits bytes p e = (bytes_say share ShareFits share_says bytes p (sym e)).0
+
+pub share_counts : (bytes : List ℕ) (p : PlainShare) → Ok p ≡ bytes_said share bytes → IsTrue (is_caller_count (length p.callers))
+share_counts bytes p e = (bytes_say share ShareFits share_says bytes p (sym e)).1

@@ -44,6 +44,8 @@ wanted_text wanted.Header = codes "a header is [name, value]"
 wanted_text wanted.HeaderName = codes "a header name is wanted"
 wanted_text wanted.Reply = codes "a reply is what the service grants, a refusal, null where it may be, \"dispatch\", \"timeout\" or \"broken\""
 wanted_text wanted.RefusalKind = codes "a refusal is RegionDisabled, MalformedPolicyDocument, InsufficientPermissions, TokenExpired, UserCredentialsChanged or Other"
+wanted_text wanted.Callers = codes "callers are a list of 1 to 16 objects"
+wanted_text wanted.Caller = codes "a caller is an object of lists"
 
 -- a letter, a digit, `-` or `_`
 abbrev pub is_plain : ℕ → Bool

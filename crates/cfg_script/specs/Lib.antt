@@ -11,6 +11,7 @@ pub mod Sections
 pub mod Addresses
 pub mod Replies
 pub mod Settings
+pub mod Shares
 pub mod Reading
 pub mod FaultTexts
 pub mod Devices

@@ -10,14 +10,14 @@ use Rattle.serde_json.specs.declared.value.Value.{Value}
 use Rattle.cfg_base.specs.Gives.{◌>>=◌}
 use Rattle.cfg_script.specs.Faults.{member_fault, wanting, unless}
 use Rattle.cfg_script.specs.Objects.{ObjectForm, unknown_name}
-use Rattle.cfg_script.specs.Script.{Plain, plain}
-use Rattle.cfg_script.specs.Settings.{ScriptRows, script_members, plain_in}
+use Rattle.cfg_script.specs.Script.{Plain, PlainShare}
+use Rattle.cfg_script.specs.Settings.{script}
+use Rattle.cfg_script.specs.Shares.{share}
 use Rattle.cfg_script.specs.declared.fault.Fault.{Fault}
 use Rattle.cfg_script.specs.declared.fault.Position.{Position}
 use Rattle.cfg_script.specs.declared.fault.ScriptFault.{ScriptFault}
 use Rattle.cfg_script.specs.declared.fault.ScriptFault.TheVariants as fault
 use Rattle.cfg_script.specs.declared.fault.Wanted.TheVariants as wanted
-use Rattle.cfg_script.specs.declared.script.Script.{Script}
 
 -- the sections are refused, and some are there
 abbrev pub refused_beside : Members → Bool
@@ -31,16 +31,9 @@ beside_fault ms = if refused_beside ms then Some (member_fault (codes "refused")
 abbrev pub members_said : {A : Type 0} → ObjectForm A → Members → Result A Fault
 members_said object ms = unless (unknown_name object.has ms) (unless (beside_fault ms) (object.read ms))
 
-unfoldable pub rows_said : Members → Result ScriptRows Fault
-rows_said ms = members_said script_members ms
-
--- what the members say, each in its place
-unfoldable pub script_said : Members → Result Plain Fault
-script_said ms = rows_said ms >>= λ rows. Ok (plain_in rows)
-
 -- a script is an object
-unfoldable pub value_said : Data → Result Plain Fault
-value_said d = wanting wanted.Object (as_object d) >>= script_said
+abbrev pub value_said : {A : Type 0} → ObjectForm A → Data → Result A Fault
+value_said object d = wanting wanted.Object (as_object d) >>= members_said object
 
 -- why bytes are no script: they are no JSON, or a value is of another form
 pub data Reason : Type 0 where
@@ -51,25 +44,32 @@ pub data Reason : Type 0 where
 unfoldable pub json_value : List ℕ → Option Data
 json_value bytes = if is_utf8 bytes then read bytes else None
 
-abbrev pub or_reason : Result Plain Fault → Result Plain Reason
+abbrev pub or_reason : {A : Type 0} → Result A Fault → Result A Reason
 or_reason (Ok p) = Ok p
 or_reason (Err fault) = Err (Form fault)
 
-abbrev pub json_said : Option Data → Result Plain Reason
-json_said None = Err NoJson
-json_said (Some d) = or_reason (value_said d)
+abbrev pub json_said : {A : Type 0} → ObjectForm A → Option Data → Result A Reason
+json_said object None = Err NoJson
+json_said object (Some d) = or_reason (value_said object d)
 
--- what the bytes say as a script, or why they are none
-unfoldable pub bytes_said : List ℕ → Result Plain Reason
-bytes_said bytes = json_said (json_value bytes)
+-- what the bytes say as a script with the members of this object, or why they are none
+unfoldable pub bytes_said : {A : Type 0} → ObjectForm A → List ℕ → Result A Reason
+bytes_said object bytes = json_said object (json_value bytes)
 
 -- what the bytes say as a script, if they are one
 unfoldable pub script_of : List ℕ → Option Plain
-script_of bytes = result_ok (bytes_said bytes)
+script_of bytes = result_ok (bytes_said script bytes)
 
 -- why the bytes are no script, if they are none
 unfoldable pub fault_of : List ℕ → Option Reason
-fault_of bytes = result_err (bytes_said bytes)
+fault_of bytes = result_err (bytes_said script bytes)
+
+-- the same of a script of several callers
+unfoldable pub share_of : List ℕ → Option PlainShare
+share_of bytes = result_ok (bytes_said share bytes)
+
+unfoldable pub share_fault_of : List ℕ → Option Reason
+share_fault_of bytes = result_err (bytes_said share bytes)
 
 -- ---- what a call that reads bytes holds of them
 
@@ -83,6 +83,6 @@ abbrev pub reason_of : ScriptFault → Reason
 reason_of (fault.NoJson position) = NoJson
 reason_of (fault.Form f) = Form f
 
-abbrev pub plain_or_reason : Result Script ScriptFault → Result Plain Reason
-plain_or_reason (Ok s) = Ok (plain s)
-plain_or_reason (Err f) = Err (reason_of f)
+abbrev pub plain_or_reason : {X A : Type 0} → (X → A) → Result X ScriptFault → Result A Reason
+plain_or_reason seen (Ok s) = Ok (seen s)
+plain_or_reason seen (Err f) = Err (reason_of f)

@@ -5,6 +5,7 @@ use Rattle.cfg_base.specs.TextMap.{named}
 use Rattle.cfg_types.specs.declared.environment.EnvText.{EnvText}
 use Rattle.cfg_world.specs.declared.script.DeviceLists.{DeviceLists}
 use Rattle.cfg_script.specs.declared.script.Script.{Script}
+use Rattle.cfg_script.specs.declared.script.ShareScript.{ShareScript}
 use Rattle.cfg_script.specs.declared.script.ScriptProfiles.{ScriptProfiles}
 use Rattle.cfg_script.specs.declared.script.ScriptProfiles.TheVariants as held
 
@@ -54,4 +55,26 @@ plain s = record {
   sleep = s.sleep;
   calls = s.calls;
   devices = s.devices;
+}
+
+-- the settings of a script of several callers, and the devices of each
+pub record PlainShare : Type 0 where
+  pub variables : List (List ℕ × EnvText)
+  pub profiles : PlainProfiles
+  pub selected : Option (List ℕ)
+  pub region : Option (List ℕ)
+  pub sleep : Bool
+  pub calls : ℕ
+  pub callers : List DeviceLists
+
+-- what such a script says
+abbrev pub plain_share : ShareScript → PlainShare
+plain_share s = record {
+  variables = map named s.variables.items;
+  profiles = plain_profiles s.profiles;
+  selected = option_map (λ t. string_bytes t) s.selected;
+  region = option_map (λ t. string_bytes t) s.region;
+  sleep = s.sleep;
+  calls = s.calls;
+  callers = s.callers.items;
 }

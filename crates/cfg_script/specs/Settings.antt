@@ -83,12 +83,13 @@ lists_in rows = let queues = rows.1.1.1.1.1.1.0 in record {
 abbrev pub devices : ObjectForm DeviceLists
 devices = together lists_in device_members
 
-abbrev pub ScriptRows : Type 0
-ScriptRows = List (List ℕ × EnvText) × (List Section × (List Section × (Option (List ℕ) × (Option (List ℕ) × (Option (List ℕ) × (Option Bool × (Option ℕ × DeviceLists)))))))
+-- what the settings say, in the order of their rows, and what the members behind them say
+abbrev pub SettingRows : Type 0 → Type 0
+SettingRows B = List (List ℕ × EnvText) × (List Section × (List Section × (Option (List ℕ) × (Option (List ℕ) × (Option (List ℕ) × (Option Bool × (Option ℕ × B)))))))
 
--- all members of a script: the settings, and the lists of the devices
-abbrev pub script_members : ObjectForm ScriptRows
-script_members =
+-- the settings, and other members behind them
+abbrev pub settings : {B : Type 0} → ObjectForm B → ObjectForm (SettingRows B)
+settings others =
     list_member (codes "variables") variable
     & list_member (codes "profiles") section
     & list_member (codes "sessions") section
@@ -97,7 +98,14 @@ script_members =
     & optional_member (codes "region") text
     & optional_member (codes "sleep") boolean
     & optional_member (codes "calls") call_count
-    & devices
+    & others
+
+abbrev pub ScriptRows : Type 0
+ScriptRows = SettingRows DeviceLists
+
+-- all members of a script: the settings, and the lists of the devices
+abbrev pub script_members : ObjectForm ScriptRows
+script_members = settings devices
 
 -- sections, unless they are refused
 abbrev pub profiles_of : Option (List ℕ) → List Section → List Section → PlainProfiles
@@ -115,3 +123,7 @@ plain_in rows = record {
   calls = unwrap_or rows.1.1.1.1.1.1.1.0 1;
   devices = rows.1.1.1.1.1.1.1.1;
 }
+
+-- a script's members, each in its place
+abbrev pub script : ObjectForm Plain
+script = together plain_in script_members

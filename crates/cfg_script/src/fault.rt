@@ -78,6 +78,10 @@ pub enum Wanted {
     Reply,
     /// The name of what a service refuses for.
     RefusalKind,
+    /// A list of 1 to 16 callers.
+    Callers,
+    /// An object of the lists of a caller's devices.
+    Caller,
 }
 
 /// A value of another form than is wanted at its place.

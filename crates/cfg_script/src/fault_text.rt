@@ -53,6 +53,8 @@ impl fmt::Display for Wanted {
             Wanted::RefusalKind => {
                 "a refusal is RegionDisabled, MalformedPolicyDocument, InsufficientPermissions, TokenExpired, UserCredentialsChanged or Other"
             }
+            Wanted::Callers => "callers are a list of 1 to 16 objects",
+            Wanted::Caller => "a caller is an object of lists",
         })
     }
 }

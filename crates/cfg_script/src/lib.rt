@@ -9,6 +9,7 @@
 //! (`specs/Settings`, `specs/Replies`).
 #![tactic(auto)]
 
+mod callers;
 mod fault;
 mod fault_text;
 mod form;
@@ -27,5 +28,5 @@ mod settings;
 
 pub use cfg_types::OutOfMemory;
 pub use fault::{Fault, Position, ScriptFault, Step, Wanted};
-pub use reading::{find_fault, read_script};
-pub use script::{Script, ScriptError, ScriptProfiles};
+pub use reading::{find_fault, find_share_fault, read_script, read_share};
+pub use script::{Script, ScriptError, ScriptProfiles, ShareScript};

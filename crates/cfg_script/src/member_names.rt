@@ -83,6 +83,16 @@ impl Name for Calls {
     }
 }
 
+pub(crate) struct Callers;
+
+impl Name for Callers {
+    ghost name = { codes "callers" };
+
+    fn name() -> &'static str {
+        "callers"
+    }
+}
+
 pub(crate) struct Files;
 
 impl Name for Files {

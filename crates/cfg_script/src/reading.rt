@@ -1,18 +1,20 @@
 //! From bytes to a script, or to why they are none.
-ghost use Rattle.std.specs.Prelude.{◌≡◌, Some, None, Err, IfOk, IsTrue, option_map};
+ghost use Rattle.std.specs.Prelude.{◌≡◌, All, Some, None, Err, IfOk, IsTrue, option_map, length};
 ghost use Rattle.serde_json.specs.View.{view, members_view};
 ghost use Rattle.cfg_script.specs.Gives.{Reads};
 ghost use Rattle.cfg_script.specs.Scalars.{is_call_count};
-ghost use Rattle.cfg_script.specs.Reading.{refused_beside, members_said, rows_said, script_said, value_said, json_value, bytes_said, script_of, fault_of, parsed_value, reason_of, plain_or_reason};
-ghost use Rattle.cfg_script.specs.Script.{plain};
+ghost use Rattle.cfg_script.specs.Reading.{refused_beside, members_said, value_said, json_value, bytes_said, script_of, fault_of, share_of, share_fault_of, parsed_value, reason_of, plain_or_reason};
+ghost use Rattle.cfg_script.specs.Script.{plain, plain_share};
+ghost use Rattle.cfg_script.specs.Shares.{is_caller_count};
 ghost use Rattle.cfg_script.specs.Devices.{lists_of};
 ghost use Rattle.cfg_world.specs.Script.{AllFit};
 
+use crate::callers::WholeShare;
 use crate::fault::{FormError, Position, ScriptFault, Wanted, member_fault, wanting};
 use crate::json::{member, members_of};
 use crate::object::{Object, places_of};
-use crate::script::{Script, ScriptError};
-use crate::settings::{ScriptMembers, script_by};
+use crate::script::{Script, ScriptError, ShareScript};
+use crate::settings::WholeScript;
 use cfg_types::{OutOfMemory, Text};
 use serde_json::{Map, Value};
 use std::alloc::Global;
@@ -56,41 +58,22 @@ fn read_members<O: Object>(alloc: Global, members: Map<String, Value>) -> Result
     O::read_places(alloc, places)
 }
 
-#[tactic(auto, unfolding(crate::specs::Reading::rows_said))]
-fn read_rows(
-    alloc: Global,
-    members: Map<String, Value>,
-) -> Result<<ScriptMembers as Object>::Read, FormError>
-    ensures { Reads ⟦<ScriptMembers as Object>⟧.seen result (rows_said (members_view members.entries)) }
-{
-    read_members::<ScriptMembers>(alloc, members)
-}
-
-#[tactic(auto, unfolding(crate::specs::Reading::script_said))]
-fn read_placed(alloc: Global, members: Map<String, Value>) -> Result<Script, FormError>
-    ensures { Reads plain result (script_said (members_view members.entries)) }
-{
-    let rows = read_rows(alloc, members)?;
-    Ok(script_by(rows))
-}
-
-#[tactic(auto, unfolding(crate::specs::Reading::value_said))]
-fn read_value(alloc: Global, value: Value) -> Result<Script, FormError>
-    ensures { Reads plain result (value_said (view value)) }
+fn read_value<O: Object>(alloc: Global, value: Value) -> Result<O::Read, FormError>
+    ensures { Reads O.seen result (value_said O.object_form (view value)) }
 {
     let members = wanting(alloc, Wanted::Object, members_of(value))?;
-    read_placed(alloc, members)
+    read_members::<O>(alloc, members)
 }
 
 #[tactic(auto, unfolding(crate::specs::Reading::bytes_said))]
-fn read(alloc: Global, bytes: &[u8]) -> Result<Result<Script, ScriptFault>, OutOfMemory>
-    ensures { IfOk result (λ read. plain_or_reason read ≡ bytes_said bytes.now) }
+fn read<O: Object>(alloc: Global, bytes: &[u8]) -> Result<Result<O::Read, ScriptFault>, OutOfMemory>
+    ensures { IfOk result (λ read. plain_or_reason O.seen read ≡ bytes_said O.object_form bytes.now) }
 {
     let value = match parsed(alloc, bytes)? {
         Ok(value) => value,
         Err(position) => return Ok(Err(ScriptFault::NoJson(position))),
     };
-    match read_value(alloc, value) {
+    match read_value::<O>(alloc, value) {
         Ok(script) => Ok(Ok(script)),
         Err(FormError::Fault(fault)) => Ok(Err(ScriptFault::Form(fault))),
         Err(FormError::OutOfMemory) => Err(OutOfMemory),
@@ -111,7 +94,7 @@ pub fn read_script(alloc: Global, bytes: &[u8]) -> Result<Script, ScriptError>
     ensures calls { IfOk result (λ s. IsTrue (is_call_count (plain s).calls)) }
     ensures no_script { result ≡ Err ScriptError.NoScript → script_of bytes.now ≡ None }
 {
-    match read(alloc, bytes) {
+    match read::<WholeScript>(alloc, bytes) {
         Ok(Ok(script)) => Ok(script),
         Ok(Err(_)) => Err(ScriptError::NoScript),
         Err(OutOfMemory) => Err(ScriptError::OutOfMemory),
@@ -129,7 +112,43 @@ pub fn read_script(alloc: Global, bytes: &[u8]) -> Result<Script, ScriptError>
 pub fn find_fault(alloc: Global, bytes: &[u8]) -> Result<Option<ScriptFault>, OutOfMemory>
     ensures { IfOk result (λ o. option_map reason_of o ≡ fault_of bytes.now) }
 {
-    match read(alloc, bytes)? {
+    match read::<WholeScript>(alloc, bytes)? {
+        Ok(_) => Ok(None),
+        Err(fault) => Ok(Some(fault)),
+    }
+}
+
+/// What the bytes say as a script of several callers: as [`read_script`] has it, but that the lists of the devices
+/// stand in the member `callers`, once for each of 1 to 16 callers, and not beside it.
+///
+/// # Errors
+///
+/// - `NoScript`: the bytes are no such script. [`find_share_fault`] tells why.
+/// - `OutOfMemory` where memory runs out, in place of any answer.
+#[tactic(auto, unfolding(crate::specs::Reading::share_of))]
+pub fn read_share(alloc: Global, bytes: &[u8]) -> Result<ShareScript, ScriptError>
+    ensures script { IfOk result (λ s. share_of bytes.now ≡ Some (plain_share s)) }
+    ensures fits { IfOk result (λ s. All AllFit s.callers.items) }
+    ensures callers { IfOk result (λ s. IsTrue (is_caller_count (length s.callers.items))) }
+    ensures no_script { result ≡ Err ScriptError.NoScript → share_of bytes.now ≡ None }
+{
+    match read::<WholeShare>(alloc, bytes) {
+        Ok(Ok(script)) => Ok(script),
+        Ok(Err(_)) => Err(ScriptError::NoScript),
+        Err(OutOfMemory) => Err(ScriptError::OutOfMemory),
+    }
+}
+
+/// Why the bytes are no script of several callers, in the order of [`find_fault`], or none where they are one.
+///
+/// # Errors
+///
+/// `OutOfMemory` where memory runs out, in place of any answer.
+#[tactic(auto, unfolding(crate::specs::Reading::share_fault_of))]
+pub fn find_share_fault(alloc: Global, bytes: &[u8]) -> Result<Option<ScriptFault>, OutOfMemory>
+    ensures { IfOk result (λ o. option_map reason_of o ≡ share_fault_of bytes.now) }
+{
+    match read::<WholeShare>(alloc, bytes)? {
         Ok(_) => Ok(None),
         Err(fault) => Ok(Some(fault)),
     }

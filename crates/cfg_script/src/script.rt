@@ -40,6 +40,25 @@ pub struct Script {
     pub devices: DeviceLists,
 }
 
+/// What a script of several callers says: settings as a [`Script`] has them, and what each caller's own devices answer.
+#[derive(Drop)]
+pub struct ShareScript {
+    /// Environment variables, in the script's order.
+    pub variables: Vec<(String, EnvText)>,
+    /// The sections of profile files, or that they are refused.
+    pub profiles: ScriptProfiles,
+    /// The selected profile's name, whatever the environment says. None leaves it to the environment.
+    pub selected: Option<String>,
+    /// The region of the calls that are sent, if they have one.
+    pub region: Option<String>,
+    /// Whether providers may sleep between attempts.
+    pub sleep: bool,
+    /// How many calls are made, from 1 to 100.
+    pub calls: u64,
+    /// What the devices of each caller answer, from 1 to 16 of them.
+    pub callers: Vec<DeviceLists>,
+}
+
 /// Why bytes were not read.
 #[derive(Clone, Copy, Debug, PartialEq, Eq)]
 pub enum ScriptError {

@@ -194,8 +194,8 @@ impl Object for Devices {
     }
 }
 
-/// All members of a script: the settings, and the lists of the devices.
-pub(crate) type ScriptMembers = (
+/// The settings of a script, and other members behind them.
+pub(crate) type SettingMembers<O> = (
     ListOf<Variables, Variable>,
     (
         ListOf<Profiles, Section>,
@@ -207,10 +207,7 @@ pub(crate) type ScriptMembers = (
                     Optional<Selected, KeyText>,
                     (
                         Optional<Region, KeyText>,
-                        (
-                            Optional<Sleep, Boolean>,
-                            (Optional<Calls, CallCount>, Devices),
-                        ),
+                        (Optional<Sleep, Boolean>, (Optional<Calls, CallCount>, O)),
                     ),
                 ),
             ),
@@ -218,8 +215,11 @@ pub(crate) type ScriptMembers = (
     ),
 );
 
-// Sections, unless they are refused.
-fn profiles_by(
+/// All members of a script: the settings, and the lists of the devices.
+pub(crate) type ScriptMembers = SettingMembers<Devices>;
+
+/// Sections, unless they are refused.
+pub(crate) fn profiles_by(
     refused: Option<Text>,
     profiles: Vec<(String, Vec<(String, String)>)>,
     sessions: Vec<(String, Vec<(String, String)>)>,
@@ -232,7 +232,8 @@ fn profiles_by(
     }
 }
 
-fn is_to_sleep(sleep: Option<bool>) -> bool
+/// Whether providers may sleep: true, where nothing is said.
+pub(crate) fn is_to_sleep(sleep: Option<bool>) -> bool
     ensures { result ≡ unwrap_or (option_map (λ b. b) sleep) true }
 {
     match sleep {
@@ -241,7 +242,8 @@ fn is_to_sleep(sleep: Option<bool>) -> bool
     }
 }
 
-fn call_count(calls: Option<u64>) -> u64
+/// How many calls are made: one, where nothing is said.
+pub(crate) fn call_count(calls: Option<u64>) -> u64
     ensures { result ≡ unwrap_or (option_map (λ n. n) calls) 1 }
 {
     match calls {
@@ -250,9 +252,9 @@ fn call_count(calls: Option<u64>) -> u64
     }
 }
 
-/// Each member in its place.
+// Each member in its place.
 #[tactic(auto, unfolding(crate::specs::Settings::plain_in))]
-pub(crate) fn script_by(rows: <ScriptMembers as Object>::Read) -> Script
+fn script_by(rows: <ScriptMembers as Object>::Read) -> Script
     ensures { plain result ≡ plain_in (⟦<ScriptMembers as Object>⟧.seen rows) }
 {
     let (variables, (profiles, (sessions, (refused, rows)))) = rows;
@@ -268,5 +270,43 @@ pub(crate) fn script_by(rows: <ScriptMembers as Object>::Read) -> Script
         sleep,
         calls,
         devices,
+    }
+}
+
+/// A script.
+pub(crate) struct WholeScript;
+
+impl Object for WholeScript {
+    ghost use Rattle.std.specs.Prelude.{Ok};
+    ghost use Rattle.cfg_base.specs.Gives.{◌>>=◌};
+    ghost use Rattle.cfg_script.specs.Script.{Plain as PlainScript, plain};
+    ghost use Rattle.cfg_script.specs.Settings.{plain_in, script};
+
+    type Read = Script;
+
+    type Places = <ScriptMembers as Object>::Places;
+
+    ghost Plain = { PlainScript };
+
+    ghost seen = { plain };
+
+    ghost object_form = { script };
+
+    ghost read_on = { λ places ms. ⟦<ScriptMembers as Object>⟧.read_on places ms >>= λ rows. Ok (plain_in rows) };
+
+    fn empty() -> <ScriptMembers as Object>::Places {
+        ScriptMembers::empty()
+    }
+
+    fn put(places: &mut <ScriptMembers as Object>::Places, name: &str, value: Value) -> bool {
+        ScriptMembers::put(places, name, value)
+    }
+
+    fn read_places(
+        alloc: Global,
+        places: <ScriptMembers as Object>::Places,
+    ) -> Result<Script, FormError> {
+        let rows = ScriptMembers::read_places(alloc, places)?;
+        Ok(script_by(rows))
     }
 }

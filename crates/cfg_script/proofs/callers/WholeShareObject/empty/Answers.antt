@@ -1,0 +1,7 @@
+use Rattle.std.proofs.Common.{ap, Ok}
+use Rattle.cfg_base.specs.Gives.{◌>>=◌}
+use Rattle.cfg_script.specs.Shares.{share_in}
+use Rattle.cfg_script.proofs.callers.WholeShareObject.empty.Goals as goal
+
+pub returns : goal.returns
+returns c = λ ms. ap (λ r. r >>= λ rows. Ok (share_in rows)) (c.empty.ensures ms)
