@@ -1,3 +1,4 @@
 pub mod Counting
 pub mod Configuring
 pub mod Reporting
+pub mod Polling

@@ -7,6 +7,9 @@ mod calls;
 mod configuration;
 mod devices;
 mod lines;
+mod receipts;
+#[cfg(test)]
+mod tests;
 
 use calls::report;
 use std::process::ExitCode;

@@ -1,13 +1,14 @@
 //! Calls on one `Kept`: what they answer, how much they ask and find kept, and what stands in for a call
 //! that is interrupted then.
-use crate::setup::{Setup, answer_words, called, set_up};
+use crate::setup::{Setup, answer_words, called, called_shared, set_up};
 use cfg_chain::DefaultCredentialsChain;
 use cfg_imds::Client;
-use cfg_kept::{Keeper, Kept};
+use cfg_kept::{Keeper, Kept, SharedKept};
 use cfg_script::ScriptError;
 use cfg_types::OutOfMemory;
 use cfg_world::{ScriptDevices, World};
 use std::alloc::Global;
+use std::sync::Wait;
 use std::test::Fail;
 
 fn call_words(
@@ -41,6 +42,47 @@ fn calls_by(
     Ok(format!(in alloc; "{first}{second}")?)
 }
 
+// The same over kept states that are shared.
+fn shared_call_words<R: Wait>(
+    rt: &R,
+    alloc: Global,
+    chain: &DefaultCredentialsChain,
+    kept: &SharedKept,
+    world: &mut World<ScriptDevices>,
+) -> Result<String, OutOfMemory> {
+    world.clear_journal();
+    let (answer, found) = match called_shared(rt, chain, kept, world) {
+        Some(answered) => {
+            let words = answer_words(alloc, &answered.outcome)?;
+            (words, answered.found.as_slice().len())
+        }
+        None => (String::from_str(alloc, "another key")?, 0),
+    };
+    let asked = world.journal().len();
+    let fallback = chain.fallback_on_interrupt_shared(rt, kept)?.credentials;
+    Ok(format!(in alloc; "{answer} {asked} {found} {fallback:?}\n")?)
+}
+
+// Two calls over kept states that are shared, and one more on what comes back of them.
+fn shared_calls_by<R: Wait>(
+    rt: &R,
+    alloc: Global,
+    setup: Setup,
+    imds_client: Option<Client>,
+) -> Result<String, OutOfMemory> {
+    let Setup { mut chain, devices } = setup;
+    chain.imds_client = imds_client;
+    let mut world = World::new(alloc, devices);
+    let shared = SharedKept::new(chain.new_kept()?);
+    let first = shared_call_words(rt, alloc, &chain, &shared, &mut world)?;
+    shared.trim(rt);
+    let second = shared_call_words(rt, alloc, &chain, &shared, &mut world)?;
+    let kept = shared.into_kept();
+    let fits = kept.fits(chain.token_key());
+    let found = kept.found().len();
+    Ok(format!(in alloc; "{first}{second}{fits} {found}")?)
+}
+
 // A client of this endpoint, none for an empty text. No client for what is no address.
 fn client_at(alloc: Global, endpoint: &str) -> Result<Option<Client>, OutOfMemory> {
     if endpoint.is_empty() {
@@ -57,6 +99,18 @@ fn calls_of(alloc: Global, endpoint: &str, script: &str) -> Result<String, Scrip
     let client = client_at(alloc, endpoint)?;
     let setup = set_up(alloc, script)?;
     Ok(calls_by(alloc, setup, client)?)
+}
+
+// The same over kept states that are shared.
+fn shared_calls_of<R: Wait>(
+    rt: &R,
+    alloc: Global,
+    endpoint: &str,
+    script: &str,
+) -> Result<String, ScriptError> {
+    let client = client_at(alloc, endpoint)?;
+    let setup = set_up(alloc, script)?;
+    Ok(shared_calls_by(rt, alloc, setup, client)?)
 }
 
 #[test]
@@ -84,6 +138,9 @@ fn two_calls(rt: HostRuntime) -> Result<(), Fail> {
     for (endpoint, script, want) in table {
         let words = calls_of(rt.alloc(), endpoint, script)?;
         assert_eq!(rt; words.as_str(), *want, "{script}");
+        let shared = shared_calls_of(&rt, rt.alloc(), endpoint, script)?;
+        let want = format!(in rt.alloc(); "{want}true 0")?;
+        assert_eq!(rt; shared.as_str(), want.as_str(), "shared {script}");
     }
     Ok(())
 }

@@ -2,9 +2,15 @@
 #![tactic(auto)]
 
 #[cfg(test)]
+mod audited;
+#[cfg(test)]
+mod audits;
+#[cfg(test)]
 mod building;
 #[cfg(test)]
 mod chain;
+#[cfg(test)]
+mod identity;
 #[cfg(test)]
 mod kept;
 #[cfg(test)]

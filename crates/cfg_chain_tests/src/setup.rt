@@ -4,8 +4,8 @@ ghost use Rattle.cfg_script.specs.Script.{plain};
 ghost use Rattle.cfg_script.specs.Devices.{lists_of};
 
 use crate::own::source_of;
-use cfg_chain::DefaultCredentialsChain;
-use cfg_kept::Kept;
+use cfg_chain::{Answered, DefaultCredentialsChain};
+use cfg_kept::{Kept, SharedKept};
 use cfg_profile::{ProfileSet, ProfileSource, ProviderConfig, Section};
 use cfg_region::RegionSource;
 use cfg_script::{Script, ScriptError, ScriptProfiles, read_script};
@@ -14,6 +14,7 @@ use cfg_types::{
 };
 use cfg_world::{Asking, Entry, ScriptDevices, World};
 use std::alloc::{AllocError, Global};
+use std::sync::Wait;
 
 /// A chain with sources of the tests' own, and devices for its calls.
 pub(crate) struct Setup {
@@ -151,6 +152,19 @@ pub(crate) fn called(
     Some(Outcome {
         answer: chain.provide_credentials(kept, world),
     })
+}
+
+/// The same over kept states that are shared.
+pub(crate) fn called_shared<R: Wait>(
+    rt: &R,
+    chain: &DefaultCredentialsChain,
+    kept: &SharedKept,
+    world: &mut World<ScriptDevices>,
+) -> Option<Answered> {
+    if !kept.fits(chain.token_key()) {
+        return None;
+    }
+    Some(chain.provide_credentials_shared(rt, kept, world))
 }
 
 /// What a call of the chain answers.

@@ -248,16 +248,16 @@ pub fn write_expiry(line: &mut Vec<u8>, expiry: Option<Instant>) -> Result<(), A
 fn write_signed(line: &mut Vec<u8>, number: i64) -> Result<(), AllocError>
     ensures { OnOk result (line.new.items ≡ line.old.items ++ signed_decimal number) }
 {
-    let digits = number.to_string(*line.allocator())?;
-    write_word(line, digits.as_bytes())?;
+    let mut digits = itoa::Buffer::new();
+    write_word(line, digits.format(number).as_bytes())?;
     Ok(())
 }
 
 fn write_number(line: &mut Vec<u8>, number: u64) -> Result<(), AllocError>
     ensures { OnOk result (line.new.items ≡ line.old.items ++ decimal number) }
 {
-    let digits = number.to_string(*line.allocator())?;
-    write_word(line, digits.as_bytes())?;
+    let mut digits = itoa::Buffer::new();
+    write_word(line, digits.format(number).as_bytes())?;
     Ok(())
 }
 

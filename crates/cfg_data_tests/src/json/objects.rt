@@ -115,3 +115,17 @@ fn objects_of_texts(rt: HostRuntime) -> Result<(), Fail> {
     }
     Ok(())
 }
+
+const DOCUMENT: &[u8] =
+    br#"{"AccessKeyId":"MUA","SecretAccessKey":"/7PC5om","Token":"AQoDY=","Expiration":"2016-02-25T06:03:31Z","Other":[1.5e-7,{"\u0061":null}]}"#;
+
+#[test]
+fn no_beginning_of_a_document_is_one(rt: HostRuntime) -> Result<(), Fail> {
+    for length in 0..DOCUMENT.len() {
+        let beginning = DOCUMENT.get(..length).ok_or("no beginning")?;
+        let words = words_of(rt.alloc(), beginning)?;
+        let want = if length == 0 { "NotObject" } else { "Syntax" };
+        assert_eq!(rt; words.as_str(), want, "{length}");
+    }
+    Ok(())
+}

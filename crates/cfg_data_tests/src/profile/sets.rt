@@ -3,7 +3,11 @@ use cfg_profile::{ProfileSet, Section};
 use cfg_types::OutOfMemory;
 use std::alloc::Global;
 
-fn property(alloc: Global, key: &str, value: &str) -> Result<(String, String), OutOfMemory> {
+pub(crate) fn property(
+    alloc: Global,
+    key: &str,
+    value: &str,
+) -> Result<(String, String), OutOfMemory> {
     let key = String::from_str(alloc, key)?;
     let value = String::from_str(alloc, value)?;
     Ok((key, value))

@@ -51,6 +51,17 @@ fn moment_words(alloc: Global, moment: Instant, by: u64) -> Result<String, Alloc
     format!(in alloc; "{later:?} {earlier:?}")
 }
 
+// The moment one second later, the one earlier, and whether there is one so many seconds later.
+fn end_words(alloc: Global, moment: Option<Instant>, by: u64) -> Result<String, AllocError> {
+    let Some(moment) = moment else {
+        return String::from_str(alloc, "no moment");
+    };
+    let later = moment.plus(1);
+    let earlier = moment.minus(1);
+    let checked = moment.checked_plus(by).is_some();
+    format!(in alloc; "{later:?} {earlier:?} {checked}")
+}
+
 // A command as it is shown.
 fn command_words(alloc: Global, text: &str) -> Result<String, OutOfMemory> {
     let command = CommandWithSensitiveArgs::new(Text::of(alloc, text)?).to_owned_string(alloc)?;
@@ -94,5 +105,38 @@ fn moments_stop_at_the_first_and_at_the_last(rt: HostRuntime) -> Result<(), Fail
         words.as_str(),
         "Instant { seconds: 9223372036854775807, nanos: 999999999 } Instant { seconds: -9223372036854775808, nanos: 0 }"
     );
+    Ok(())
+}
+
+#[test]
+fn moments_at_the_ends(rt: HostRuntime) -> Result<(), Fail> {
+    let table: &[(i64, u32, &str)] = &[
+        (
+            i64::MAX,
+            5,
+            "Instant { seconds: 9223372036854775807, nanos: 999999999 } Instant { seconds: 9223372036854775806, nanos: 5 } false",
+        ),
+        (
+            i64::MIN,
+            0,
+            "Instant { seconds: -9223372036854775807, nanos: 0 } Instant { seconds: -9223372036854775808, nanos: 0 } true",
+        ),
+        (
+            0,
+            0,
+            "Instant { seconds: 1, nanos: 0 } Instant { seconds: -1, nanos: 0 } true",
+        ),
+        (
+            1,
+            999_999_999,
+            "Instant { seconds: 2, nanos: 999999999 } Instant { seconds: 0, nanos: 999999999 } false",
+        ),
+        (0, 1_000_000_000, "no moment"),
+    ];
+    for (seconds, nanos, want) in table {
+        let moment = Instant::new(*seconds, *nanos);
+        let words = end_words(rt.alloc(), moment, 9_223_372_036_854_775_807)?;
+        assert_eq!(rt; words.as_str(), *want, "{seconds} {nanos}");
+    }
     Ok(())
 }

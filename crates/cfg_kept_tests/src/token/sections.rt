@@ -8,7 +8,7 @@ use cfg_types::{OutOfMemory, Region, Text};
 use std::alloc::Global;
 use std::test::Fail;
 
-fn state(alloc: Global) -> Result<TokenState<CachedSsoToken>, OutOfMemory>
+pub(crate) fn state(alloc: Global) -> Result<TokenState<CachedSsoToken>, OutOfMemory>
     ensures { IfOk result (λ s. is_sso s.key ≡ true) }
 {
     let session = Text::of(alloc, "abc")?;

@@ -184,6 +184,55 @@ fn a_sink_that_fails_has_a_prefix_of_the_line(rt: HostRuntime) -> Result<(), Fai
     Ok(())
 }
 
+// Two calls over metadata, of which the second fails, and their lines.
+const METADATA: &str =
+    r#"{"calls":2,"clock":[100],"replies":{"imds-token":[[200,[["x-aws-ec2-metadata-token-ttl-seconds","21600"]],"tok"]],"imds-get":[[200,[],"role"],[200,[],"{\"AccessKeyId\":\"MUA...\",\"SecretAccessKey\":\"S\",\"Token\":\"T\",\"Expiration\":\"2016-02-25T06:03:31Z\"}"],[500,[],""],[500,[],""],[500,[],""],[500,[],""]]}}"#;
+
+const LINES: &str =
+    "credentials =MUA... =IMDSv2 1456380211.000000000 now,imds-token,now,imds-get,now,imds-get,now\ncredentials =MUA... =IMDSv2 1456380211.000000000 now,imds-get,imds-get,imds-get,imds-get\n";
+
+// The first call of the source whose failing does not end the run as it should, and how the run ends then.
+fn failing_reads(alloc: Global, most: usize) -> Result<String, OutOfMemory>
+    requires { 0 < most }
+{
+    for call in 1..=1_000 {
+        let told = run_in_pieces(alloc, &["resolve"], METADATA.as_bytes(), most, call, 0)?;
+        if told.as_str() != "SourceFault " {
+            return Ok(format!(in alloc; "{call} {told}")?);
+        }
+    }
+    Ok(String::from_str(alloc, "too many reads")?)
+}
+
+// The same of the sink, which then has a beginning of the lines.
+fn failing_writes(alloc: Global, most: usize) -> Result<String, OutOfMemory>
+    requires { 0 < most }
+{
+    for call in 1..=1_000 {
+        let told = run_in_pieces(alloc, &["resolve"], METADATA.as_bytes(), most, 0, call)?;
+        match told.as_str().strip_prefix("SinkFault ") {
+            Some(written) if LINES.starts_with(written) => {}
+            _ => return Ok(format!(in alloc; "{call} {told}")?),
+        }
+    }
+    Ok(String::from_str(alloc, "too many writes")?)
+}
+
+// Each read fails in turn, and each write: the first call behind the last one changes nothing. The script has 314
+// bytes, which come in so many pieces and then end; the lines have 183.
+#[test]
+fn each_read_and_each_write_may_fail(rt: HostRuntime) -> Result<(), Fail> {
+    for (most, reads, writes) in [(1, 314, 183), (3, 105, 61), (8_192, 1, 1)] {
+        let told = failing_reads(rt.alloc(), most)?;
+        let want = format!(in rt.alloc(); "{} Done {LINES}", reads + 2)?;
+        assert_eq!(rt; told.as_str(), want.as_str(), "reads of {most}");
+        let told = failing_writes(rt.alloc(), most)?;
+        let want = format!(in rt.alloc(); "{} Done {LINES}", writes + 1)?;
+        assert_eq!(rt; told.as_str(), want.as_str(), "writes of {most}");
+    }
+    Ok(())
+}
+
 /// A reader that fails where it is read again after its end.
 #[derive(Drop)]
 struct EndsOnce {

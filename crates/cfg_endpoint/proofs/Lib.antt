@@ -1,0 +1,14 @@
+pub mod Numbers
+pub mod Makings
+pub mod Documents
+pub mod Stretches
+pub mod Moving
+pub mod Questions
+pub mod Replies
+pub mod Gets
+pub mod Roles
+pub mod Addresses
+pub mod Members
+pub mod GoingOn
+pub mod ContainerAddresses
+pub mod ContainerCalls

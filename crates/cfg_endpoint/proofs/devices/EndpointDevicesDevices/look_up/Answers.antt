@@ -1,0 +1,11 @@
+-- No host is found.
+use Rattle.cfg_base.specs.Text.{characters}
+use Rattle.cfg_world.specs.declared.ask.Answer.TheVariants as answer
+use Rattle.cfg_world.specs.Asked.{answer_of, written_answer}
+use Rattle.cfg_endpoint.proofs.Questions.{other_asked, other_look_up}
+use Rattle.cfg_endpoint.proofs.devices.EndpointDevicesDevices.look_up.Goals as goal
+
+pub returns-clause-asked : goal.returns-clause-asked
+returns-clause-asked c =
+    let was = c.self.inside in
+    other_asked was.endpoint was.clock was.place was.first_given was.first_place c.args.self.now was.others c.look_up.new.self c.self.view_is c.self.invariant.unanswered _ (answer_of answer.Addresses c.look_up.result) (other_look_up (characters c.args.host.now)) c.look_up.ensures.handed c.look_up.ensures.asked

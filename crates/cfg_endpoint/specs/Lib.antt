@@ -1,0 +1,7 @@
+pub mod Endpoints
+pub mod Made
+pub mod Serves
+pub mod Devices
+pub mod FaultTexts
+pub mod Calls
+pub mod Lending

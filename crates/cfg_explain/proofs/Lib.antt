@@ -1,0 +1,9 @@
+pub mod HandedAnswers
+pub mod JournalSteps
+pub mod Standing
+pub mod ChainTrees
+pub mod Judging
+pub mod OneVerdict
+pub mod AnsweringSteps
+pub mod ReplaySteps
+pub mod OneReplay

@@ -1,0 +1,40 @@
+//! Laws of verdicts and of replays, each on a call that carries it.
+ghost use Rattle.std.specs.Prelude.{◌≡◌, ◌↔◌, List};
+ghost use Rattle.cfg_world.specs.Fits.{Pair};
+ghost use Rattle.cfg_kept.specs.Kinds.{Value, States};
+ghost use Rattle.cfg_providers.specs.CustomSources.{Answer};
+ghost use Rattle.cfg_chain.specs.Settings.{ChainSetting};
+ghost use Rattle.cfg_explain.specs.Replays.{Tells, IsAnsweredCall};
+ghost use Rattle.cfg_explain.specs.Verdicts.{Judges, IsCallTo};
+ghost use Rattle.cfg_explain.specs.declared.answering.Answering.{Answering as Handed};
+ghost use Rattle.cfg_explain.specs.declared.answering.Replay.{Replay as Told};
+ghost use Rattle.cfg_explain.specs.declared.answering.Replay.TheVariants.{Whole};
+ghost use Rattle.cfg_explain.specs.declared.verdict.Verdict.{Verdict as Said};
+ghost use Rattle.cfg_explain.specs.declared.verdict.Verdict.TheVariants.{Yes};
+
+/// The verdict is yes exactly where the journal is that of a call which came to this outcome, features of credentials
+/// aside.
+pub fn yes_is_said_exactly_of_calls()
+    ensures { (over : ChainSetting) (old new : States) (found : List Value) (journal : List Pair) (out : Answer) (verdict : Said) →
+        Judges over old new found journal out verdict →
+        (verdict ≡ Yes) ↔ ((after : States) × (finds : List Value) × IsCallTo over old after finds journal out) }
+{}
+
+/// Of one journal and one outcome there is one verdict, so that each comes exactly where it is true.
+pub fn one_verdict_is_true()
+    ensures { (over : ChainSetting) (old new newer : States) (found more : List Value) (journal : List Pair) (out : Answer) (verdict also : Said) →
+        Judges over old new found journal out verdict → Judges over old newer more journal out also → verdict ≡ also }
+{}
+
+/// A whole call is told exactly where there is one that asks questions of these kinds and is answered so, and it is
+/// that call.
+pub fn a_whole_call_is_told_exactly_where_there_is_one()
+    ensures { (over : ChainSetting) (old new : States) (found : List Value) (answers : List Handed) (told : Told) (journal : List Pair) (out : Answer) →
+        Tells over old new found answers told → (told ≡ Whole journal out) ↔ IsAnsweredCall over old answers journal out }
+{}
+
+/// Of one list of answers there is one replay, so that each comes exactly where it is true.
+pub fn one_replay_is_true()
+    ensures { (over : ChainSetting) (old new newer : States) (found more : List Value) (answers : List Handed) (told also : Told) →
+        Tells over old new found answers told → Tells over old newer more answers also → told ≡ also }
+{}

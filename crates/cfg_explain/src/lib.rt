@@ -1,0 +1,17 @@
+//! Audits: whether a journal and an outcome, or answers by the kinds of their questions, can be those of a call of the
+//! default chain. It stands on cfg_chain. The layers above may use that a verdict is the one that is true of what was
+//! handed in, and that a yes is said, and a whole call told, exactly where there is such a call.
+#![tactic(auto)]
+
+pub mod alike;
+pub mod answering;
+mod journals;
+pub mod kinds;
+pub mod laws;
+pub mod replaying;
+pub mod verdict;
+
+pub use answering::{Answering, Replay};
+pub use cfg_types::OutOfMemory;
+pub use kinds::kind_of;
+pub use verdict::{Verdict, check};

@@ -1,0 +1,4 @@
+pub mod Turns
+pub mod GatedSections
+pub mod GateFaults
+pub mod GateErrors

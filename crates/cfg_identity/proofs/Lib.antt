@@ -1,0 +1,4 @@
+pub mod NameSteps
+pub mod EntrySteps
+pub mod CallSteps
+pub mod CallLists
