@@ -212,9 +212,33 @@ pub mod kept {
     pub use cfg_token::{Load, Record, TokenKey, TokenState};
 }
 
+/// Kept states that callers on threads share.
+pub mod shared {
+    pub use cfg_chain::{Answered, Fallback};
+    pub use cfg_gate::{Gate, GateAnswer, GateError, GateFault, GatedToken, Pass, new_gate};
+    pub use cfg_kept::{SharedKept, SharedPass};
+    pub use cfg_token::{Finding, SharedAnswer, SharedTokenState};
+}
+
+/// Credentials that are held under names.
+pub mod cache {
+    pub use cfg_identity::{CacheFault, CacheSettings, Held, IdentityCache};
+}
+
 /// A call that is made by polls.
 pub mod run {
     pub use cfg_run::{RegionRun, RegionStep, Run, Step};
+}
+
+/// Whether a journal can be that of a call.
+pub mod explain {
+    pub use cfg_explain::replaying::replay;
+    pub use cfg_explain::{Answering, Replay, Verdict, check};
+}
+
+/// A local endpoint for tests.
+pub mod endpoint {
+    pub use cfg_endpoint::{Endpoint, EndpointDevices, EndpointFault, Served};
 }
 
 /// What an error comes of.
