@@ -215,14 +215,18 @@ pub mod kept {
 /// Kept states that callers on threads share.
 pub mod shared {
     pub use cfg_chain::{Answered, Fallback};
-    pub use cfg_gate::{Gate, GateAnswer, GateError, GateFault, GatedToken, Pass, new_gate};
+    pub use cfg_gate::{
+        Gate, GateAnswer, GateError, GateFault, GatedCalls, GatedToken, Pass, gated_calls, new_gate,
+    };
     pub use cfg_kept::{SharedKept, SharedPass};
     pub use cfg_token::{Finding, SharedAnswer, SharedTokenState};
 }
 
-/// Credentials that are held under names.
+/// Credentials that are held under names, for one caller or for several on threads.
 pub mod cache {
-    pub use cfg_identity::{CacheFault, CacheSettings, Held, IdentityCache};
+    pub use cfg_identity::{
+        CacheAnswer, CacheFault, CacheSettings, Held, IdentityCache, SharedIdentityCache,
+    };
 }
 
 /// A call that is made by polls.
@@ -233,7 +237,7 @@ pub mod run {
 /// Whether a journal can be that of a call.
 pub mod explain {
     pub use cfg_explain::replaying::replay;
-    pub use cfg_explain::{Answering, Replay, Verdict, check};
+    pub use cfg_explain::{Answering, Replay, Verdict, check, owners};
 }
 
 /// A local endpoint for tests.

@@ -10,7 +10,7 @@ mod keeping;
 use cfg_program::run::run;
 use cfg_program::{Command, LIMIT, Status, USAGE, command_of};
 use cfg_providers::CustomSource;
-use cfg_script::find_fault;
+use cfg_script::{ScriptFault, find_audit_fault, find_fault};
 use cfg_types::{EnvText, OutOfMemory, Text};
 use cfg_world::{Devices, LocalDevices, ReaderSource, Sink, Source, World, WriterSink};
 use fixed::Fixed;
@@ -26,8 +26,10 @@ fn main(rt: HostRuntime) -> ExitCode {
     let mut source = KeepingSource::new(alloc, ReaderSource::new(rt.stdin()));
     let mut sink = WriterSink::new(rt.stdout());
     let mut world = World::new(alloc, LocalDevices::new(alloc, &rt));
+    let mut command = None;
     let status = match arguments_and_variables(&rt) {
         Ok((arguments, variables)) => {
+            command = command_of(&arguments);
             let ended = run_with(
                 alloc,
                 arguments.as_slice(),
@@ -43,7 +45,7 @@ fn main(rt: HostRuntime) -> ExitCode {
     if status == Status::UnknownCommand {
         let _ = rt.eprintln(USAGE);
     }
-    if let Ok(Some(reason)) = reason_of(alloc, status, source.kept()) {
+    if let Ok(Some(reason)) = reason_of(alloc, status, command, source.kept()) {
         let _ = eprintln!(rt; "bujerova: {reason}");
     }
     ExitCode::from(status.number())
@@ -87,13 +89,14 @@ fn arguments_and_variables(
 fn reason_of(
     alloc: Global,
     status: Status,
+    command: Option<Command>,
     kept: Option<&[u8]>,
 ) -> Result<Option<String>, OutOfMemory> {
     let Some(bytes) = kept else {
         return Ok(None);
     };
     let reason = match status {
-        Status::NoScript => match find_fault(alloc, bytes)? {
+        Status::NoScript => match fault_in(alloc, command, bytes)? {
             Some(fault) => format!(in alloc; "{fault}")?,
             None => String::from_str(alloc, "calls: this command makes one call")?,
         },
@@ -101,6 +104,18 @@ fn reason_of(
         _ => return Ok(None),
     };
     Ok(Some(reason))
+}
+
+// Why the bytes are no script of the command's kind, or none where they are one.
+fn fault_in(
+    alloc: Global,
+    command: Option<Command>,
+    bytes: &[u8],
+) -> Result<Option<ScriptFault>, OutOfMemory> {
+    match command {
+        Some(Command::Audit) => find_audit_fault(alloc, bytes),
+        _ => find_fault(alloc, bytes),
+    }
 }
 
 // The program's arguments. Those that are no texts are no known command.

@@ -17,14 +17,14 @@ use std::test::Fail;
 
 // One place of a journal, changed.
 #[derive(Clone, Copy, PartialEq, Eq)]
-enum Change {
+pub(crate) enum Change {
     LeftOut,
     Doubled,
     Exchanged,
     Answered,
 }
 
-const CHANGES: [(Change, &str); 4] = [
+pub(crate) const CHANGES: [(Change, &str); 4] = [
     (Change::LeftOut, "left out"),
     (Change::Doubled, "doubled"),
     (Change::Exchanged, "exchanged with the next"),
@@ -71,7 +71,7 @@ fn push_changed(
 }
 
 // The journal, with the entry of this place changed.
-fn changed(
+pub(crate) fn changed(
     alloc: Global,
     journal: &[Entry],
     change: Change,
@@ -111,7 +111,7 @@ fn verdict_words(alloc: Global, verdict: &Verdict) -> Result<String, AllocError>
 }
 
 // The verdict on a journal and an outcome, from nothing kept.
-fn judged(
+pub(crate) fn judged(
     alloc: Global,
     chain: &DefaultCredentialsChain,
     journal: &[Entry],

@@ -1,5 +1,7 @@
 //! Caches of credentials over chains that a script configures: what each call answers and asks, and what is held
 //! behind it.
+mod shared;
+
 use crate::setup::{Configured, chain_of, read_configuration};
 use cfg_identity::{CacheFault, CacheSettings, Credentials, Held, IdentityCache};
 use cfg_profile::ProviderConfig;
@@ -43,7 +45,7 @@ fn write_asked(words: &mut String, journal: &[Entry]) -> Result<(), AllocError> 
     Ok(())
 }
 
-fn answer_words(
+pub(crate) fn answer_words(
     alloc: Global,
     answer: &Result<Credentials, CacheFault>,
     journal: &[Entry],
@@ -61,7 +63,7 @@ fn answer_words(
     Ok(words)
 }
 
-fn held_words(alloc: Global, held: Option<&Held>) -> Result<String, AllocError> {
+pub(crate) fn held_words(alloc: Global, held: Option<&Held>) -> Result<String, AllocError> {
     match held {
         Some(held) => {
             let id = held.credentials.access_key_id();
@@ -73,7 +75,7 @@ fn held_words(alloc: Global, held: Option<&Held>) -> Result<String, AllocError> 
     }
 }
 
-fn added(
+pub(crate) fn added(
     alloc: Global,
     cache: &mut IdentityCache,
     config: &ProviderConfig,
@@ -129,7 +131,7 @@ fn steps_of(
     Ok(words)
 }
 
-const fn settings(buffer_seconds: u64, default_life_seconds: u64) -> CacheSettings {
+pub(crate) const fn settings(buffer_seconds: u64, default_life_seconds: u64) -> CacheSettings {
     CacheSettings {
         buffer_seconds,
         default_life_seconds,
@@ -330,6 +332,134 @@ fn held_and_asked_again(rt: HostRuntime) -> Result<(), Fail> {
                 Step::Ask("a"),
             ],
             "added\naccess EnvironmentVariable 1 now\nheld access 900 0\naccess EnvironmentVariable 1 now\n",
+        ),
+        // A nanosecond less than the buffer.
+        (
+            settings(10, 900),
+            r#"{"profiles":[["default",[["role_arn","r"],["role_session_name","s"],["source_profile","c"]]],["c",[["aws_access_key_id","KC"],["aws_secret_access_key","SC"]]]],"clock":[5,[1990,1]],"replies":{"assume-role":[{"id":"KA","secret":"SA","token":"TA","expires":2000},{"id":"KB","secret":"SB","token":"TB","expires":3000}]}}"#,
+            &[Step::Add("a"), Step::Ask("a"), Step::Ask("a")],
+            "added\nKA AssumeRoleProvider 1 now assume-role\nKB AssumeRoleProvider 1 now assume-role\n",
+        ),
+        // An expiry with nanoseconds is compared with them.
+        (
+            settings(10, 900),
+            r#"{"profiles":[["default",[["role_arn","r"],["role_session_name","s"],["source_profile","c"]]],["c",[["aws_access_key_id","KC"],["aws_secret_access_key","SC"]]]],"clock":[5,[1990,499999999],[1990,500000000]],"replies":{"assume-role":[{"id":"KA","secret":"SA","token":"TA","expires":[2000,500000000]},{"id":"KB","secret":"SB","token":"TB","expires":3000}]}}"#,
+            &[
+                Step::Add("a"),
+                Step::Ask("a"),
+                Step::Held("a"),
+                Step::Ask("a"),
+                Step::Ask("a"),
+            ],
+            "added\nKA AssumeRoleProvider 1 now assume-role\nheld KA 2000 500000000\nKA AssumeRoleProvider 1 now\nKB AssumeRoleProvider 1 now assume-role\n",
+        ),
+        // A default life of the buffer is none, and one of a second more is one of less than a second.
+        (
+            settings(10, 10),
+            r#"{"variables":[["AWS_ACCESS_KEY_ID","access"],["SECRET_ACCESS_KEY","secret"]],"clock":[7,7]}"#,
+            &[
+                Step::Add("a"),
+                Step::Ask("a"),
+                Step::Held("a"),
+                Step::Ask("a"),
+                Step::Held("a"),
+            ],
+            "added\naccess EnvironmentVariable 1 now\nheld access 17 0\naccess EnvironmentVariable 1 now\nheld access 17 0\n",
+        ),
+        (
+            settings(10, 11),
+            r#"{"profiles":[["default",[["credential_process","p"]]]],"commands":[[0,"{\"Version\":1,\"AccessKeyId\":\"P\",\"SecretAccessKey\":\"S\"}",""],[0,"{\"Version\":1,\"AccessKeyId\":\"Q\",\"SecretAccessKey\":\"S\"}",""]],"clock":[7,[7,999999999],8]}"#,
+            &[
+                Step::Add("a"),
+                Step::Ask("a"),
+                Step::Ask("a"),
+                Step::Ask("a"),
+                Step::Held("a"),
+            ],
+            "added\nP CredentialProcess 2 now run\nP CredentialProcess 2 now\nQ CredentialProcess 2 now run\nheld Q 19 0\n",
+        ),
+        // What a process gives with an expiry is held until then, and not for the default life.
+        (
+            settings(10, 900),
+            r#"{"profiles":[["default",[["credential_process","p"]]]],"commands":[[0,"{\"Version\":1,\"AccessKeyId\":\"P\",\"SecretAccessKey\":\"S\",\"Expiration\":\"1970-01-01T00:01:00Z\"}",""]],"clock":[7,49,50]}"#,
+            &[
+                Step::Add("a"),
+                Step::Ask("a"),
+                Step::Held("a"),
+                Step::Ask("a"),
+                Step::Ask("a"),
+                Step::Held("a"),
+            ],
+            "added\nP CredentialProcess 2 now run\nheld P 60 0\nP CredentialProcess 2 now\nprovider error now run\nheld P 60 0\n",
+        ),
+        // An expiry before the epoch.
+        (
+            settings(10, 900),
+            r#"{"profiles":[["default",[["role_arn","r"],["role_session_name","s"],["source_profile","c"]]],["c",[["aws_access_key_id","KC"],["aws_secret_access_key","SC"]]]],"clock":[0],"replies":{"assume-role":[{"id":"KA","secret":"SA","token":"TA","expires":[-5,7]},{"id":"KB","secret":"SB","token":"TB","expires":3000}]}}"#,
+            &[
+                Step::Add("a"),
+                Step::Ask("a"),
+                Step::Held("a"),
+                Step::Ask("a"),
+                Step::Ask("a"),
+            ],
+            "added\nKA AssumeRoleProvider 1 now assume-role\nheld KA -5 7\nKB AssumeRoleProvider 1 now assume-role\nKB AssumeRoleProvider 1 now\n",
+        ),
+        // Two errors, before which and behind which credentials are given.
+        (
+            settings(10, 900),
+            r#"{"profiles":[["default",[["role_arn","r"],["role_session_name","s"],["source_profile","c"]]],["c",[["aws_access_key_id","KC"],["aws_secret_access_key","SC"]]]],"clock":[0,1990,1991,0],"replies":{"assume-role":[{"id":"KA","secret":"SA","token":"TA","expires":2000},"timeout",null]}}"#,
+            &[
+                Step::Add("a"),
+                Step::Ask("a"),
+                Step::Ask("a"),
+                Step::Ask("a"),
+                Step::Ask("a"),
+                Step::Held("a"),
+            ],
+            "added\nKA AssumeRoleProvider 1 now assume-role\nprovider error now assume-role\nprovider error now assume-role\nKA AssumeRoleProvider 1 now\nheld KA 2000 0\n",
+        ),
+        // What is given up after an error is not held either.
+        (
+            settings(10, 900),
+            r#"{"profiles":[["default",[["role_arn","r"],["role_session_name","s"],["source_profile","c"]]],["c",[["aws_access_key_id","KC"],["aws_secret_access_key","SC"]]]],"clock":[0],"replies":{"assume-role":["broken",{"id":"KA","secret":"SA","token":"TA","expires":2000}]}}"#,
+            &[
+                Step::Add("a"),
+                Step::Ask("a"),
+                Step::Forget("a"),
+                Step::Ask("a"),
+                Step::Forget("a"),
+                Step::Held("a"),
+                Step::Ask("a"),
+            ],
+            "added\nprovider error now assume-role\nnothing\nKA AssumeRoleProvider 1 now assume-role\nheld KA 2000 0\nnothing\nprovider error now assume-role\n",
+        ),
+        // A session of IAM Identity Center, whose token is kept when its credentials are asked for again.
+        (
+            settings(10, 900),
+            r#"{"variables":[["HOME","/home/u"]],"profiles":[["default",[["sso_session","abc"],["sso_account_id","1"],["sso_role_name","r"]]]],"sessions":[["abc",[["sso_region","us-east-1"],["sso_start_url","u"]]]],"files":[["/home/u/.aws/sso/cache/a9993e364706816aba3e25717850c26c9cd0d89d.json","{\"accessToken\":\"t\",\"expiresAt\":\"1970-01-01T01:00:00Z\"}"]],"clock":[0,0,0,90,90,90],"replies":{"role-credentials":[{"id":"R","secret":"S","token":"T","expires_ms":100000},{"id":"Q","secret":"S","token":"T","expires_ms":200000}]}}"#,
+            &[
+                Step::Add("a"),
+                Step::Ask("a"),
+                Step::Ask("a"),
+                Step::Ask("a"),
+                Step::Held("a"),
+            ],
+            "added\nR SSO 2 now now read now send\nQ SSO 2 now now send\nQ SSO 2 now\nheld Q 200 0\n",
+        ),
+        // Two names with one session each keep a token of their own.
+        (
+            settings(10, 900),
+            r#"{"variables":[["HOME","/home/u"]],"profiles":[["default",[["sso_session","abc"],["sso_account_id","1"],["sso_role_name","r"]]]],"sessions":[["abc",[["sso_region","us-east-1"],["sso_start_url","u"]]]],"files":[["/home/u/.aws/sso/cache/a9993e364706816aba3e25717850c26c9cd0d89d.json","{\"accessToken\":\"t\",\"expiresAt\":\"1970-01-01T01:00:00Z\"}"]],"clock":[0],"replies":{"role-credentials":[{"id":"R","secret":"S","token":"T","expires_ms":100000},{"id":"Q","secret":"S","token":"T","expires_ms":200000}]}}"#,
+            &[
+                Step::Add("a"),
+                Step::Add("b"),
+                Step::Ask("a"),
+                Step::Ask("b"),
+                Step::Ask("a"),
+                Step::Ask("b"),
+            ],
+            "added\nadded\nR SSO 2 now now read now send\nQ SSO 2 now now read now send\nR SSO 2 now\nQ SSO 2 now\n",
         ),
         // Credentials that were retrieved from instance metadata answer a refusal: they are what the chain gives, and
         // are held.

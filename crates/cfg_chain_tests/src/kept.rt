@@ -1,15 +1,52 @@
 //! Calls on one `Kept`: what they answer, how much they ask and find kept, and what stands in for a call
 //! that is interrupted then.
+use crate::replay::{SESSION, SIGN_IN};
 use crate::setup::{Setup, answer_words, called, called_shared, set_up};
 use cfg_chain::DefaultCredentialsChain;
 use cfg_imds::Client;
-use cfg_kept::{Keeper, Kept, SharedKept};
+use cfg_kept::{Keeper, Kept, Place, SharedKept};
 use cfg_script::ScriptError;
+use cfg_token::{FileToken, TokenState};
 use cfg_types::OutOfMemory;
 use cfg_world::{ScriptDevices, World};
-use std::alloc::Global;
+use std::alloc::{AllocError, Global};
+use std::fmt;
 use std::sync::Wait;
 use std::test::Fail;
+
+// The token, the last attempt and how many loads there were.
+fn token_words<T: FileToken + fmt::Debug>(
+    alloc: Global,
+    state: Option<&TokenState<T>>,
+) -> Result<String, AllocError> {
+    let Some(state) = state else {
+        return String::from_str(alloc, "-");
+    };
+    let token = state.kept();
+    let last = state.last_attempt();
+    let loads = state.records().len();
+    format!(in alloc; "{token:?} {last:?} {loads}")
+}
+
+fn retrieved_words(alloc: Global, kept: &Kept, place: Place) -> Result<String, AllocError> {
+    match kept.retrieved_for(place) {
+        None => String::from_str(alloc, "-"),
+        Some(retrieved) => {
+            let credentials = retrieved.credentials();
+            format!(in alloc; "{credentials:?}")
+        }
+    }
+}
+
+/// What is kept, as far as it can be seen.
+pub(crate) fn kept_words(alloc: Global, kept: &Kept) -> Result<String, AllocError> {
+    let session = token_words(alloc, kept.sso_state())?;
+    let sign_in = token_words(alloc, kept.login_state())?;
+    let chain = retrieved_words(alloc, kept, Place::Chain)?;
+    let named = retrieved_words(alloc, kept, Place::Named)?;
+    let found = kept.found().len();
+    format!(in alloc; "{session}; {sign_in}; {chain}; {named}; {found}")
+}
 
 fn call_words(
     alloc: Global,
@@ -154,8 +191,8 @@ fn switched_off(alloc: Global, on: &str, off: &str) -> Result<String, ScriptErro
     let answered = call_words(alloc, &chain, &mut kept, &mut world)?;
     let Setup { chain, devices } = set_up(alloc, off)?;
     let mut world = World::new(alloc, devices);
-    let kept_words = call_words(alloc, &chain, &mut kept, &mut world)?;
-    Ok(format!(in alloc; "{answered}{kept_words}")?)
+    let later = call_words(alloc, &chain, &mut kept, &mut world)?;
+    Ok(format!(in alloc; "{answered}{later}")?)
 }
 
 #[test]
@@ -167,5 +204,54 @@ fn two_chains_on_one_kept(rt: HostRuntime) -> Result<(), Fail> {
     let want =
         "Credentials { provider_name: \"IMDSv2\", access_key_id: \"M\", secret_access_key: \"** redacted **\", expires_after: 1456380211 s 0 ns } S Some(\"T\") [CredentialsImds] 7 2 Some(Credentials { provider_name: \"IMDSv2\", access_key_id: \"M\", secret_access_key: \"** redacted **\", expires_after: 1456380211 s 0 ns })\nCredentials { provider_name: \"IMDSv2\", access_key_id: \"M\", secret_access_key: \"** redacted **\", expires_after: 1456380211 s 0 ns } S Some(\"T\") [] 0 1 Some(Credentials { provider_name: \"IMDSv2\", access_key_id: \"M\", secret_access_key: \"** redacted **\", expires_after: 1456380211 s 0 ns })\n";
     assert_eq!(rt; words.as_str(), want);
+    Ok(())
+}
+
+/// Metadata, and a session token that is kept.
+pub(crate) const TOKEN: &str =
+    r#"{"clock":[100],"replies":{"imds-token":[[200,[["x-aws-ec2-metadata-token-ttl-seconds","21600"]],"tok"]],"imds-get":[[200,[],"role"],[200,[],"{\"AccessKeyId\":\"M\",\"SecretAccessKey\":\"S\",\"Token\":\"T\",\"Expiration\":\"2016-02-25T06:03:31Z\"}"]]}}"#;
+
+// The same for a source that a profile names.
+const NAMED: &str =
+    r#"{"profiles":[["default",[["role_arn","r"],["credential_source","Ec2InstanceMetadata"],["role_session_name","s"]]]],"clock":[100],"replies":{"imds-token":[[200,[["x-aws-ec2-metadata-token-ttl-seconds","21600"]],"tok"]],"imds-get":[[200,[],"role"],[200,[],"{\"AccessKeyId\":\"M\",\"SecretAccessKey\":\"S\",\"Token\":\"T\",\"Expiration\":\"2016-02-25T06:03:31Z\"}"]],"assume-role":[{"id":"KA","secret":"SA","token":"TA","expires":2000}]}}"#;
+
+// What comes back of kept states that were shared for a call, the records of loads given up.
+fn returned_by<R: Wait>(rt: &R, alloc: Global, setup: Setup) -> Result<String, OutOfMemory> {
+    let Setup { chain, devices } = setup;
+    let mut world = World::new(alloc, devices);
+    let shared = SharedKept::new(chain.new_kept()?);
+    let _call = shared_call_words(rt, alloc, &chain, &shared, &mut world)?;
+    shared.trim(rt);
+    let kept = shared.into_kept();
+    Ok(kept_words(alloc, &kept)?)
+}
+
+fn returned<R: Wait>(rt: &R, alloc: Global, script: &str) -> Result<String, ScriptError> {
+    let setup = set_up(alloc, script)?;
+    Ok(returned_by(rt, alloc, setup)?)
+}
+
+#[test]
+fn shared_states_come_back(rt: HostRuntime) -> Result<(), Fail> {
+    let retrieved =
+        r#"Credentials { provider_name: "IMDSv2", access_key_id: "M", secret_access_key: "** redacted **", expires_after: 1456380211 s 0 ns }"#;
+    let of_chain = format!(in rt.alloc(); "-; -; {retrieved}; -; 0")?;
+    let of_named = format!(in rt.alloc(); "-; -; -; {retrieved}; 0")?;
+    let table: &[(&str, &str)] = &[
+        (
+            SESSION,
+            r#"Some(CachedSsoToken { secrets: "** redacted **", expires_at: 4300 s 0 ns }) Some(Instant { seconds: 700, nanos: 0 }) 0; -; -; -; 0"#,
+        ),
+        (
+            SIGN_IN,
+            r#"-; Some(LoginToken { access_token: Credentials { provider_name: "Login", access_key_id: "AK2", secret_access_key: "** redacted **", expires_after: 1900 s 0 ns, account_id: "012345678901" }, secrets: "** redacted **" }) Some(Instant { seconds: 1000, nanos: 0 }) 0; -; -; 0"#,
+        ),
+        (TOKEN, of_chain.as_str()),
+        (NAMED, of_named.as_str()),
+    ];
+    for (script, want) in table {
+        let words = returned(&rt, rt.alloc(), script)?;
+        assert_eq!(rt; words.as_str(), *want, "{script}");
+    }
     Ok(())
 }

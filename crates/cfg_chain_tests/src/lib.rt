@@ -10,11 +10,17 @@ mod building;
 #[cfg(test)]
 mod chain;
 #[cfg(test)]
+mod driven;
+#[cfg(test)]
 mod identity;
 #[cfg(test)]
 mod kept;
 #[cfg(test)]
 mod own;
+#[cfg(test)]
+mod owners;
+#[cfg(test)]
+mod region_runs;
 #[cfg(test)]
 mod replay;
 #[cfg(test)]

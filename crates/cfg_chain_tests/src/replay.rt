@@ -63,8 +63,8 @@ fn faults_of(alloc: Global, script: &str) -> Result<String, ScriptError> {
     Ok(lines)
 }
 
-// What a call over all of a script's devices comes to, and its journal.
-fn whole_call(
+/// What a call over all of a script's devices comes to, and its journal.
+pub(crate) fn whole_call(
     alloc: Global,
     setup: Setup,
     journal: &mut Vec<Entry>,
@@ -78,8 +78,8 @@ fn whole_call(
     Ok(answer)
 }
 
-// The receipts of these entries, which a world that answers alike gives.
-fn receipts(
+/// The receipts of these entries, which a world that answers alike gives.
+pub(crate) fn receipts(
     alloc: Global,
     entries: &[Entry],
     devices: ScriptDevices,

@@ -11,7 +11,11 @@ use cfg_world::Question;
 use std::alloc::{AllocError, Global};
 use std::test::Fail;
 
-fn question_words(alloc: Global, question: Option<&Question>) -> Result<String, AllocError> {
+/// The question, if there is one.
+pub(crate) fn question_words(
+    alloc: Global,
+    question: Option<&Question>,
+) -> Result<String, AllocError> {
     match question {
         Some(question) => format!(in alloc; "{question:?}"),
         None => String::from_str(alloc, "none"),

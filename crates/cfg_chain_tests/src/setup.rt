@@ -1,7 +1,10 @@
 //! The chain that a script configures, over the devices that it scripts.
+ghost use Rattle.std.specs.Prelude.{◌≡◌};
 ghost use Rattle.cfg_world.specs.Script.{AllFit};
 ghost use Rattle.cfg_script.specs.Script.{plain};
 ghost use Rattle.cfg_script.specs.Devices.{lists_of};
+ghost use Rattle.cfg_kept.specs.KeptStates.{kept_key};
+ghost use Rattle.cfg_chain.specs.profile.Plans.{key_of};
 
 use crate::own::source_of;
 use cfg_chain::{Answered, DefaultCredentialsChain};
@@ -187,7 +190,19 @@ pub(crate) fn followed<A: Asking>(
     asking: &mut A,
 ) -> Result<String, OutOfMemory> {
     let mut kept = chain.new_kept()?;
-    match chain.follow(&mut kept, asking) {
+    followed_on(alloc, chain, &mut kept, asking)
+}
+
+/// The same on what is kept.
+pub(crate) fn followed_on<A: Asking>(
+    alloc: Global,
+    chain: &DefaultCredentialsChain,
+    kept: &mut Kept,
+    asking: &mut A,
+) -> Result<String, OutOfMemory>
+    requires { kept_key kept.old ≡ key_of chain.now.core }
+{
+    match chain.follow(kept, asking) {
         Ok(answer) => {
             let outcome = Outcome { answer };
             Ok(answer_words(alloc, &outcome.answer)?)

@@ -1,6 +1,6 @@
 -- Each call of the default chain over an endpoint gives what it serves.
 use Rattle.std.proofs.Common.{◌≡◌, ◌≢◌, ◌≤◌, ◌<◌, ◌+◌, ◌*◌, ◌≤ℤ◌, ℕ, zero, suc, pos, List, [], ◌∷◌, ◌++◌, Bool, true, false, Option, Some, None, refl, sym, ap, ◌∙◌, subst, arith}
-use Rattle.std.specs.Prelude.{All, slice_get, unwrap_or, option_map, option_and_then, length, ◌-◌, codes}
+use Rattle.std.specs.Prelude.{All, slice_get, unwrap_or, option_map, option_and_then, length, drop, ◌-◌, codes}
 use Rattle.std.specs.Option.{option_or}
 use Rattle.std.specs.FinMap.{get}
 use Rattle.std.specs.Str.{encode_utf8_all, all_scalars}
@@ -42,13 +42,14 @@ use Rattle.cfg_chain.specs.Settings.{ChainSetting, Services, AreServices, Settin
 use Rattle.cfg_chain.proofs.Calls.{runs_call, some_is}
 use Rattle.cfg_endpoint.specs.Endpoints.{EndpointState}
 use Rattle.cfg_endpoint.specs.Made.{IsWritable, IsMade, is_asked_for, service_address}
-use Rattle.cfg_endpoint.specs.Serves.{Serves, after_questions}
+use Rattle.cfg_endpoint.specs.Serves.{Serves, after_questions, requests_in}
 use Rattle.cfg_endpoint.specs.Devices.{DevicesState, QuestionKept, place_after, reading_at, Keeps, places_after, start, Allows, Stands}
-use Rattle.cfg_endpoint.specs.Calls.{HasNoSections, HasNothing, IsEarly, IsReadyFor, HasGone, endpoint_after, GaveFew, Fresh, metadata_expiry, metadata_keys, GivesMetadata, IsServed, GoesOn, Called, AreCalls, EachGives}
+use Rattle.cfg_endpoint.specs.Calls.{HasNoSections, HasNothing, IsEarly, IsReadyFor, HasGone, endpoint_after, HasTokens, Fresh, metadata_expiry, metadata_keys, GivesMetadata, IsServed, GoesOn, Called, requests_of, AreCalls, EachGives}
 use Rattle.cfg_endpoint.proofs.Addresses.{service_at}
 use Rattle.cfg_endpoint.proofs.Gets.{timely_split, IsTimely, AreTimely, IsUsual, Later, later_questions}
 use Rattle.cfg_endpoint.proofs.Makings.{asked_is}
 use Rattle.cfg_endpoint.proofs.Members.{unread, no_container, last_member, first_gives}
+use Rattle.cfg_endpoint.proofs.Requests.{given_by_requests, behind_is}
 use Rattle.cfg_endpoint.proofs.Roles.{metadata_served}
 use Rattle.cfg_endpoint.proofs.Stretches.{serves_split, keeps_split, after_both}
 
@@ -120,7 +121,7 @@ module _ (over : ChainSetting) (nothing : HasNothing over) (old new : States) (f
   is_usual : IsUsual s.client.service
   is_usual = ap (λ (k : ClientRules). k.service.settings.ttl_seconds) client_is ∙ ap (λ (v : Service). v.settings.ttl_seconds) c.names.named_client.service
 
-  call_served : (e : EndpointState) → IsMade e → GaveFew e → Serves e part → AreTimely part → Fresh e old →
+  pub call_served : (e : EndpointState) → IsMade e → HasTokens e → Serves e part → AreTimely part → Fresh e old →
       GivesMetadata e.served part out × Fresh (after_questions e part) new × ((after_questions e part).given ≤ e.given + 2)
   unfolding member_tree
   call_served e made few serves timely fresh =
@@ -150,7 +151,7 @@ made_later e f l m = record {
   forgotten = omega (arith, l.since, l.given, m.forgotten);
 }
 
-pub goes_on : (over : ChainSetting) (old new : States) (found : List Value) (d : DevicesState) (journal part : List Pair) (before later : Held DevicesState) (out : Answer) → HasNothing over → IsReadyFor d → HasGone d before.devices journal → GaveFew (endpoint_after d journal) → Fresh (endpoint_after d journal) old →
+pub goes_on : (over : ChainSetting) (old new : States) (found : List Value) (d : DevicesState) (journal part : List Pair) (before later : Held DevicesState) (out : Answer) → HasNothing over → IsReadyFor d → HasGone d before.devices journal → HasTokens (endpoint_after d journal) → Fresh (endpoint_after d journal) old →
     later.journal ≡ before.journal ++ part → Same (Allows before.devices) (Allows later.devices) → StandsOn (Stands before.devices) (Stands later.devices) part → IsCall over old new found part out → GoesOn d journal new before later out
 goes_on over old new found d journal part before later out nothing ready gone few fresh grows same stands call =
     let e : EndpointState = endpoint_after d journal in
@@ -169,20 +170,57 @@ goes_on over old new found d journal part before later out nothing ready gone fe
         gives = subst (λ s. GivesMetadata s part out) l.served r.0;
         fresh = subst (λ f. Fresh f new) (sym whole) r.1;
         few = subst (λ f. f.given ≤ e.given + 2) (sym whole) r.2;
+        asked = subst (λ f. f.given ≤ e.given + requests_in part) (sym whole) (given_by_requests e part);
       };
       gone = record { same = record { to = λ j h. same.to j (gone.same.to j h); from = λ j h. gone.same.from j (same.from j h) }; stands = st };
     }
 
 -- ---- calls one after another
 
-pub calls_go_on : (g : Ghosts DevicesState) (over : ChainSetting) (d : DevicesState) →
-    ((old new : States) (found : List Value) (journal : List Pair) (before later : Held DevicesState) (out : Answer) → HasGone d before.devices journal → GaveFew (endpoint_after d journal) → Fresh (endpoint_after d journal) old →
+-- So many tokens were given before these calls, and the bound that is meant leaves two for the first of them; behind it
+-- the bound holds of the others.
+pub record Leaves (Enough : ℕ → Held DevicesState → List Called → Type 0) : Type 0 where
+  pub two : (n : ℕ) (before : Held DevicesState) (call : Called) (calls : List Called) → Enough n before (call ∷ calls) → n + 2 ≤ full_count
+  pub next : (n m : ℕ) (before : Held DevicesState) (call : Called) (calls : List Called) (part : List Pair) → call.world.journal ≡ before.journal ++ part →
+      m ≤ n + 2 → m ≤ n + requests_in part → Enough n before (call ∷ calls) → Enough m call.world calls
+
+pub calls_go_on : (g : Ghosts DevicesState) (over : ChainSetting) (d : DevicesState) (Enough : ℕ → Held DevicesState → List Called → Type 0) → Leaves Enough →
+    ((old new : States) (found : List Value) (journal : List Pair) (before later : Held DevicesState) (out : Answer) → HasGone d before.devices journal → HasTokens (endpoint_after d journal) → Fresh (endpoint_after d journal) old →
     Provides g over old new found before later out → GoesOn d journal new before later out) →
-    (calls : List Called) (old : States) (journal : List Pair) (before : Held DevicesState) → HasGone d before.devices journal → (endpoint_after d journal).given + 2 * length calls < 4294967296 → Fresh (endpoint_after d journal) old →
+    (calls : List Called) (old : States) (journal : List Pair) (before : Held DevicesState) → HasGone d before.devices journal → Enough (endpoint_after d journal).given before calls → Fresh (endpoint_after d journal) old →
     AreCalls g over old before calls → EachGives d.endpoint.served before calls
-calls_go_on g over d one [] old journal before gone few fresh made = tt
-calls_go_on g over d one (call ∷ calls) old journal before gone few fresh made =
-    let r = one old call.kept call.found journal before call.world call.out gone (omega (arith, few)) fresh made.0 in (
+calls_go_on g over d Enough leaves one [] old journal before gone enough fresh made = tt
+calls_go_on g over d Enough leaves one (call ∷ calls) old journal before gone enough fresh made =
+    let n : ℕ = (endpoint_after d journal).given in
+    let r = one old call.kept call.found journal before call.world call.out gone (leaves.two n before call calls enough) fresh made.0 in
+    let m : ℕ = (endpoint_after d (journal ++ r.part)).given in (
       (r.part, r.grows, r.served.gives),
-      calls_go_on g over d one calls call.kept (journal ++ r.part) call.world r.gone (omega (arith, few, r.served.few)) r.served.fresh made.1,
+      calls_go_on g over d Enough leaves one calls call.kept (journal ++ r.part) call.world r.gone
+          (leaves.next n m before call calls r.part r.grows r.served.few r.served.asked enough) r.served.fresh made.1,
     )
+
+-- fewer than 4,294,967,296 requests
+abbrev pub FewRequests : ℕ → Held DevicesState → List Called → Type 0
+FewRequests n before calls = n + requests_of before calls < 4294967296
+
+pub requests_leave : Leaves FewRequests
+requests_leave = record {
+  two = λ n before call calls few. omega (arith, few);
+  next = λ n m before call calls part grows two one few.
+      let same : requests_in (drop (length before.journal) call.world.journal) ≡ requests_in part = ap requests_in (behind_is before.journal part call.world.journal grows) in
+      omega (arith, few, one, same);
+}
+
+-- so many tokens that two are left for each call
+abbrev pub TwoForEach : ℕ → Held DevicesState → List Called → Type 0
+TwoForEach n before calls = n + 2 * length calls ≤ full_count
+
+pub calls_leave : Leaves TwoForEach
+calls_leave = record {
+  two = λ n before call calls few. omega (arith, few);
+  next = λ n m before call calls part grows two one few. omega (arith, few, two);
+}
+
+-- fewer than 4,294,967,296 calls
+pub few_calls : (n : ℕ) (before : Held DevicesState) (calls : List Called) → n < 4294967296 → length calls < 4294967296 → TwoForEach n before calls
+few_calls n before calls few short = omega (arith, few, short)

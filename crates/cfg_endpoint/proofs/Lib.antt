@@ -2,11 +2,14 @@ pub mod Numbers
 pub mod Makings
 pub mod Documents
 pub mod Stretches
+pub mod Requests
 pub mod Moving
 pub mod Questions
 pub mod Replies
 pub mod Gets
 pub mod Roles
+pub mod Alike
+pub mod Starts
 pub mod Addresses
 pub mod Members
 pub mod GoingOn

@@ -84,7 +84,7 @@ other_path role named text = by_test (bytes_eq (characters (role_path role)) (ch
 itself_is : (xs : List ℕ) → bytes_eq xs xs ≡ true
 itself_is xs = (bytes_eq-Decides xs xs).1 refl
 
-listing_at : (f : EndpointState) → at_path f (characters listing_path) ≡ with_body (encode_utf8_all f.role)
+pub listing_at : (f : EndpointState) → at_path f (characters listing_path) ≡ with_body (encode_utf8_all f.role)
 listing_at f = ap (λ b. if b then with_body (encode_utf8_all f.role) else (if bytes_eq (characters listing_path) (characters (role_path f.role)) then with_body (document_of f.served) else without_body 404)) (itself_is (characters listing_path))
 
 role_at : (f : EndpointState) (role : List ℕ) → f.role ≡ role → role ≢ [] → all_scalars role ≡ true → at_path f (characters (role_path role)) ≡ with_body (document_of f.served)

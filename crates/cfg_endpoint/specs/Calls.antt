@@ -1,5 +1,5 @@
 -- What calls of the default chain over an endpoint give.
-use Rattle.std.specs.Prelude.{◌≡◌, ◌<◌, ◌≤◌, ◌+◌, ◌≤ℤ◌, ℕ, pos, List, [], ◌∷◌, ◌++◌, All, Option, Some, None, IfSome, Ok, codes, if◌then◌else◌}
+use Rattle.std.specs.Prelude.{◌≡◌, ◌<◌, ◌≤◌, ◌+◌, ◌≤ℤ◌, ℕ, pos, List, [], ◌∷◌, ◌++◌, length, drop, All, Option, Some, None, IfSome, Ok, codes, if◌then◌else◌}
 use Rattle.std.specs.FinMap.{get}
 use Rattle.std.specs.Str.{bytes_eq}
 use Rattle.cfg_base.specs.Moment.{Moment}
@@ -10,6 +10,7 @@ use Rattle.cfg_types.specs.declared.environment.EnvText.{EnvText}
 use Rattle.cfg_types.specs.declared.environment.EnvText.TheVariants as variable
 use Rattle.cfg_world.specs.declared.devices.Devices.{Ghosts}
 use Rattle.cfg_world.specs.Asked.{Same}
+use Rattle.cfg_world.specs.Faults.{full_count}
 use Rattle.cfg_world.specs.Fits.{Pair}
 use Rattle.cfg_world.specs.Held.{Held}
 use Rattle.cfg_world.specs.LastReadings.{last_reading}
@@ -24,7 +25,7 @@ use Rattle.cfg_chain.specs.Settings.{ChainSetting}
 use Rattle.cfg_endpoint.specs.declared.served.Served.{Served}
 use Rattle.cfg_endpoint.specs.Endpoints.{EndpointState, Accepts}
 use Rattle.cfg_endpoint.specs.Made.{IsMade}
-use Rattle.cfg_endpoint.specs.Serves.{after_questions}
+use Rattle.cfg_endpoint.specs.Serves.{after_questions, requests_in}
 use Rattle.cfg_endpoint.specs.Devices.{DevicesState, start, Allows, Stands}
 
 -- ---- what the calls are over
@@ -75,9 +76,9 @@ pub record HasGone (d now : DevicesState) (journal : List Pair) : Type 0 where
 abbrev pub endpoint_after : DevicesState → List Pair → EndpointState
 endpoint_after d journal = after_questions (start d) journal
 
--- few tokens were given
-abbrev pub GaveFew : EndpointState → Type 0
-GaveFew e = e.given < 4294967296
+-- two session tokens more can be given: as many as a call asks for at most
+abbrev pub HasTokens : EndpointState → Type 0
+HasTokens e = e.given + 2 ≤ full_count
 
 -- A session token that is kept for the chain was given by the endpoint, and is not forgotten.
 abbrev pub Fresh : EndpointState → States → Type 0
@@ -121,12 +122,13 @@ pub record GoesOnByContainer (d : DevicesState) (journal : List Pair) (old kept 
   pub same : endpoint_after d (journal ++ part) ≡ endpoint_after d journal
   pub gone : HasGone d later.devices (journal ++ part)
 
--- What a call on what is kept gives: the served keys, and a session token that is fresh then; and few tokens more are
--- given.
+-- What a call on what is kept gives: the served keys, and a session token that is fresh then; and at most two tokens
+-- more are given, and at most one for each request.
 pub record IsServed (d : DevicesState) (journal part : List Pair) (kept : States) (out : Answer) : Type 0 where
   pub gives : GivesMetadata d.endpoint.served part out
   pub fresh : Fresh (endpoint_after d (journal ++ part)) kept
   pub few : (endpoint_after d (journal ++ part)).given ≤ (endpoint_after d journal).given + 2
+  pub asked : (endpoint_after d (journal ++ part)).given ≤ (endpoint_after d journal).given + requests_in part
 
 -- The journal grew by the part of a call that gives the served keys, and the devices stand for the journal with it.
 pub record GoesOn (d : DevicesState) (journal : List Pair) (kept : States) (before later : Held DevicesState) (out : Answer) : Type 0 where
@@ -143,6 +145,11 @@ pub record Called : Type 0 where
   pub kept : States
   pub world : Held DevicesState
   pub out : Answer
+
+-- how many requests the endpoint gets in these calls
+abbrev pub requests_of : Held DevicesState → List Called → ℕ
+requests_of before [] = 0
+requests_of before (call ∷ calls) = requests_in (drop (length before.journal) call.world.journal) + requests_of call.world calls
 
 -- These calls of a chain were made one after another over one world, each on what the call before it left kept.
 abbrev pub AreCalls : Ghosts DevicesState → ChainSetting → States → Held DevicesState → List Called → Type 0

@@ -112,3 +112,7 @@ after_token e seconds = if gives_token e seconds then with_token e else e
 abbrev pub after_request : EndpointState → Request → EndpointState
 after_request e (request.MetadataToken call) = after_token e call.ttl_seconds
 after_request e _ = e
+
+-- the tokens that were given are forgotten
+abbrev pub forgotten : EndpointState → EndpointState
+forgotten e = record e { since = e.given }

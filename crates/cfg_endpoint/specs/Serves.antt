@@ -1,5 +1,5 @@
 -- What an endpoint answers, one question after the other.
-use Rattle.std.specs.Prelude.{◌≡◌, List, [], ◌∷◌}
+use Rattle.std.specs.Prelude.{◌≡◌, ℕ, ◌+◌, List, [], ◌∷◌}
 use Rattle.cfg_types.specs.declared.reply.Reply.TheVariants as reply
 use Rattle.cfg_types.specs.declared.reply.http.HttpReply.{HttpReply}
 use Rattle.cfg_types.specs.declared.request.Request.{Request}
@@ -42,3 +42,15 @@ Serves e (x ∷ journal) = AnswersAs e x.0 x.1 × Serves (after_question e x.0) 
 abbrev pub after_questions : EndpointState → List Pair → EndpointState
 after_questions e [] = e
 after_questions e (x ∷ journal) = after_questions (after_question e x.0) journal
+
+-- how many requests a question is to the endpoint
+abbrev pub requests_by : Question → ℕ
+requests_by (question.Send (request.Http call)) = 1
+requests_by (question.Send (request.MetadataToken call)) = 1
+requests_by (question.Send (request.MetadataGet call)) = 1
+requests_by _ = 0
+
+-- how many requests to the endpoint these questions are
+abbrev pub requests_in : List Pair → ℕ
+requests_in [] = 0
+requests_in (x ∷ journal) = requests_by x.0 + requests_in journal

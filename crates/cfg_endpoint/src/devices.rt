@@ -4,8 +4,10 @@ ghost use Rattle.cfg_base.specs.Text.{characters};
 ghost use Rattle.cfg_world.specs.Asked.{answer_of};
 ghost use Rattle.cfg_world.specs.Script.{step, last_reading};
 ghost use Rattle.cfg_world.specs.Tallies.{no_faults};
-ghost use Rattle.cfg_endpoint.specs.Endpoints.{IsServed};
+ghost use Rattle.cfg_endpoint.specs.Endpoints.{IsServed, forgotten};
 ghost use Rattle.cfg_endpoint.specs.Devices.{reading_at, RepliesBy};
+ghost use Rattle.cfg_endpoint.specs.Lending.{started_with};
+ghost use Rattle.cfg_endpoint.specs.Made.{IsMade};
 
 use crate::endpoint::Endpoint;
 use cfg_types::{Address, Bytes, Fault, Finished, Instant, Reply, Request, Seq};
@@ -79,6 +81,16 @@ impl EndpointDevices {
         self.first_given = self.endpoint.given();
         self.first_place = self.place;
         &mut self.endpoint
+    }
+
+    /// Forgets the tokens that the endpoint gave, as [`Endpoint::forget`] does. They start again here.
+    pub fn forget(&mut self)
+        ensures forgets { self.new ≡ started_with self.old (forgotten self.old.endpoint) }
+        ensures made { IsMade self.new.endpoint }
+    {
+        self.first_given = self.endpoint.given();
+        self.first_place = self.place;
+        self.endpoint.forget();
     }
 }
 

@@ -5,8 +5,8 @@ ghost use Rattle.std.specs.Fmt.{decimal};
 ghost use Rattle.cfg_exchange.specs.Lifetimes.{lifetime_header as lifetime_header_name};
 ghost use Rattle.cfg_base.specs.Text.{characters};
 ghost use Rattle.cfg_imds_credentials.specs.Metadata.{role_path as role_path_of};
-ghost use Rattle.cfg_endpoint.specs.Endpoints.{with_body as with_body_of, without_body as without_body_of, token_reply as token_reply_of, token_answer, after_token, at_path, IsGetReply, container_answer, IsServed, IsReply, after_request};
-ghost use Rattle.cfg_endpoint.specs.Made.{is_asked_for, Makes, Replaces};
+ghost use Rattle.cfg_endpoint.specs.Endpoints.{with_body as with_body_of, without_body as without_body_of, token_reply as token_reply_of, token_answer, after_token, at_path, IsGetReply, container_answer, IsServed, IsReply, after_request, forgotten};
+ghost use Rattle.cfg_endpoint.specs.Made.{is_asked_for, IsMade, Makes, Replaces};
 
 use crate::document::document_of;
 use crate::fault::EndpointFault;
@@ -118,7 +118,8 @@ impl Endpoint {
     /// Forgets the tokens that were given: a request with one of them gets 401. The next token has the next number
     /// nonetheless.
     pub fn forget(&mut self)
-        ensures { self.new ≡ record self.old { since = self.old.given } }
+        ensures forgets { self.new ≡ forgotten self.old }
+        ensures made { IsMade self.new }
     {
         self.since = self.given;
     }

@@ -1,5 +1,5 @@
 //! Laws of an endpoint, each on a call that carries it.
-ghost use Rattle.std.specs.Prelude.{◌≡◌, ◌+◌, ◌*◌, ◌<◌, List, length, Ok, Some, None as none};
+ghost use Rattle.std.specs.Prelude.{◌≡◌, ◌+◌, ◌<◌, List, length, Ok, Some, None as none};
 ghost use Rattle.cfg_json.specs.declared.credentials.JsonCredentials.TheVariants as document;
 ghost use Rattle.cfg_world.specs.Fits.{Pair};
 ghost use Rattle.cfg_world.specs.Held.{Held};
@@ -12,7 +12,7 @@ ghost use Rattle.cfg_endpoint.specs.declared.served.Served.{Served as Keys};
 ghost use Rattle.cfg_endpoint.specs.Endpoints.{document_of};
 ghost use Rattle.cfg_endpoint.specs.Made.{IsWritable};
 ghost use Rattle.cfg_endpoint.specs.Devices.{DevicesState};
-ghost use Rattle.cfg_endpoint.specs.Calls.{HasNothing, IsReadyFor, HasGone, endpoint_after, GaveFew, Fresh, GoesOn, HasContainer, GoesOnByContainer, Called, AreCalls, EachGives};
+ghost use Rattle.cfg_endpoint.specs.Calls.{HasNothing, IsReadyFor, HasGone, endpoint_after, HasTokens, Fresh, GoesOn, HasContainer, GoesOnByContainer, Called, requests_of, AreCalls, EachGives};
 
 use crate::devices::EndpointDevices;
 use cfg_world::Devices;
@@ -25,19 +25,26 @@ pub fn a_written_document_is_read_back()
 
 /// A call of the default chain over an endpoint gives what the endpoint serves: where the chain has nothing but the
 /// instance metadata service; the devices from which the calls started have a made endpoint and an early clock, and
-/// stand for the journal since; few tokens were given; and the session token that is kept, if one is, was given by
-/// the endpoint. Then this holds after the call again, so that a loop carries it on.
+/// stand for the journal since; and the session token that is kept, if one is, was given by
+/// the endpoint. The call gets two tokens at most, and so many can still be given. Then this holds after the call
+/// again, so that a loop carries it on.
 pub fn a_call_gives_what_is_served()
     ensures { (over : ChainSetting) (old new : States) (found : List Value) (d : DevicesState) (journal : List Pair) (before later : Held DevicesState) (out : Answer) →
-        HasNothing over → IsReadyFor d → HasGone d before.devices journal → GaveFew (endpoint_after d journal) → Fresh (endpoint_after d journal) old →
+        HasNothing over → IsReadyFor d → HasGone d before.devices journal → HasTokens (endpoint_after d journal) → Fresh (endpoint_after d journal) old →
         Provides ⟦<EndpointDevices as Devices>⟧ over old new found before later out → GoesOn d journal new before later out }
 {}
 
 /// Calls of the default chain that are made one after another over one world each give what the endpoint serves,
-/// where this holds before the first, and fewer than 4,294,967,296 tokens are given though each call gets two.
+/// where this holds before the first, and 4,294,967,295 tokens were given at most: where the endpoint gets fewer than
+/// 4,294,967,296 requests, and where there are fewer than 4,294,967,296 calls, however many requests they make.
 pub fn calls_give_what_is_served()
-    ensures { (over : ChainSetting) (old : States) (d : DevicesState) (journal : List Pair) (before : Held DevicesState) (calls : List Called) →
-        HasNothing over → IsReadyFor d → HasGone d before.devices journal → (endpoint_after d journal).given + 2 * length calls < 4294967296 → Fresh (endpoint_after d journal) old →
+    ensures requests { (over : ChainSetting) (old : States) (d : DevicesState) (journal : List Pair) (before : Held DevicesState) (calls : List Called) →
+        HasNothing over → IsReadyFor d → HasGone d before.devices journal → Fresh (endpoint_after d journal) old →
+        (endpoint_after d journal).given + requests_of before calls < 4294967296 →
+        AreCalls ⟦<EndpointDevices as Devices>⟧ over old before calls → EachGives d.endpoint.served before calls }
+    ensures calls { (over : ChainSetting) (old : States) (d : DevicesState) (journal : List Pair) (before : Held DevicesState) (calls : List Called) →
+        HasNothing over → IsReadyFor d → HasGone d before.devices journal → Fresh (endpoint_after d journal) old →
+        (endpoint_after d journal).given < 4294967296 → length calls < 4294967296 →
         AreCalls ⟦<EndpointDevices as Devices>⟧ over old before calls → EachGives d.endpoint.served before calls }
 {}
 

@@ -114,7 +114,7 @@ fn two_calls(
     let mut words = call(alloc, &chain, &mut kept, &mut world)?;
     let mut devices = world.into_devices();
     if forgets {
-        devices.endpoint_mut().forget();
+        devices.forget();
     }
     let mut world = World::new(alloc, devices);
     let again = call(alloc, &chain, &mut kept, &mut world)?;

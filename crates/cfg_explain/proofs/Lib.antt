@@ -7,3 +7,5 @@ pub mod OneVerdict
 pub mod AnsweringSteps
 pub mod ReplaySteps
 pub mod OneReplay
+pub mod OwnerSteps
+pub mod OneOwner

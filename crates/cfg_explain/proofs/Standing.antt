@@ -8,6 +8,7 @@ use Rattle.cfg_kept.specs.KeptInquiry.{KeptInquiry, Gives, Puts, Finds, Leaves, 
 use Rattle.cfg_kept.specs.Beginnings.{IsWhole, IsNext}
 use Rattle.cfg_kept.proofs.Beginnings.{one_beginning, begins_whole, one_next, next_no_end, next_entry}
 use Rattle.cfg_kept.proofs.Told.{run_begins}
+use Rattle.cfg_run.proofs.TreeSteps.{asks_begins}
 use Rattle.cfg_explain.proofs.JournalSteps.{longer}
 
 -- each entry of a run has the question that is next behind those before it
@@ -22,16 +23,6 @@ run_asks (Finds spot n) old new [] journal e rest out h = absurd h
 run_asks (Finds spot n) old new (f ∷ found) [] e rest out h = let r = run_asks (n f) old new found [] e rest out h.2 in (f ∷ r.0, r.1, (h.0, h.1, r.2))
 run_asks (Finds spot n) old new (f ∷ found) (d ∷ journal) e rest out h = let r = run_asks (n f) old new found (d ∷ journal) e rest out h.2 in (f ∷ r.0, r.1, (h.0, h.1, r.2))
 run_asks (Leaves v p) old new found journal e rest out h = run_asks p (leave old v) new found journal e rest out h
-
--- where a question is next, the journal has begun
-asks_begins : {R : Type 0} (p : KeptInquiry R) (old new : Option States) (found : List Value) (journal : List Pair) (q : Question) → Asks p old found journal q new → Begins p old found journal new
-asks_begins (Gives r) old new found journal q h = absurd h
-asks_begins (Puts s n) old new [] [] q h = h.1
-asks_begins (Puts s n) old new (f ∷ found) [] q h = absurd h
-asks_begins (Puts s n) old new found (e ∷ journal) q h = (h.0, asks_begins (n e.1) old new found journal q h.1)
-asks_begins (Finds spot n) old new [] journal q h = absurd h
-asks_begins (Finds spot n) old new (f ∷ found) journal q h = (h.0, h.1, asks_begins (n f) old new found journal q h.2)
-asks_begins (Leaves v p) old new found journal q h = inr (asks_begins p (leave old v) new found journal q h)
 
 -- The tree asks this question next; or there is none, and it has come to its end.
 abbrev pub StandsAt : {R : Type 0} → KeptInquiry R → States → List Pair → Option Question → Type 0

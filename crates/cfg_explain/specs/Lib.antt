@@ -4,3 +4,4 @@ pub mod Journals
 pub mod Verdicts
 pub mod Answerings
 pub mod Replays
+pub mod Owners

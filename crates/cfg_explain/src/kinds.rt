@@ -10,7 +10,8 @@ use cfg_world::Question;
 /// request `http`, `imds-token`, `imds-get`, `assume-role`, `web-identity`, `role-credentials`, `create-token` or
 /// `sign-in`.
 pub fn kind_of(question: &Question) -> &'static str
-    ensures { characters result.now ≡ kind_named question.now }
+    ensures name { result.now ≡ kind_named question.now }
+    ensures characters { characters result.now ≡ kind_named question.now }
 {
     match question {
         Question::Now => "now",
@@ -24,7 +25,8 @@ pub fn kind_of(question: &Question) -> &'static str
 }
 
 fn kind_of_request(request: &Request) -> &'static str
-    ensures { characters result.now ≡ request_named request.now }
+    ensures name { result.now ≡ request_named request.now }
+    ensures characters { characters result.now ≡ request_named request.now }
 {
     match request {
         Request::Http(_) => "http",

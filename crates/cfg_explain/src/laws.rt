@@ -1,9 +1,10 @@
-//! Laws of verdicts and of replays, each on a call that carries it.
-ghost use Rattle.std.specs.Prelude.{◌≡◌, ◌↔◌, List};
+//! Laws of verdicts, of replays and of owners, each on a call that carries it.
+ghost use Rattle.std.specs.Prelude.{◌≡◌, ◌↔◌, ℕ, List, Option, IsSome, IsTrue};
 ghost use Rattle.cfg_world.specs.Fits.{Pair};
 ghost use Rattle.cfg_kept.specs.Kinds.{Value, States};
 ghost use Rattle.cfg_providers.specs.CustomSources.{Answer};
 ghost use Rattle.cfg_chain.specs.Settings.{ChainSetting};
+ghost use Rattle.cfg_explain.specs.Owners.{Owns, is_of_a_call};
 ghost use Rattle.cfg_explain.specs.Replays.{Tells, IsAnsweredCall};
 ghost use Rattle.cfg_explain.specs.Verdicts.{Judges, IsCallTo};
 ghost use Rattle.cfg_explain.specs.declared.answering.Answering.{Answering as Handed};
@@ -37,4 +38,18 @@ pub fn a_whole_call_is_told_exactly_where_there_is_one()
 pub fn one_replay_is_true()
     ensures { (over : ChainSetting) (old new newer : States) (found more : List Value) (answers : List Handed) (told also : Told) →
         Tells over old new found answers told → Tells over old newer more answers also → told ≡ also }
+{}
+
+/// Owners are told exactly where the journal is that of a call: none exactly where the verdict tells where it departs from
+/// a call's, or that it is short or long.
+pub fn owners_are_told_exactly_of_calls()
+    ensures { (over : ChainSetting) (old new newer : States) (found more : List Value) (journal : List Pair) (out : Answer) (verdict : Said)
+        (names : Option (List (List ℕ))) →
+        Judges over old new found journal out verdict → Owns over old newer more journal names → IsSome names ↔ IsTrue (is_of_a_call verdict) }
+{}
+
+/// Of one journal there is one list of owners.
+pub fn one_list_of_owners_is_true()
+    ensures { (over : ChainSetting) (old new newer : States) (found more : List Value) (journal : List Pair) (names also : Option (List (List ℕ))) →
+        Owns over old new found journal names → Owns over old newer more journal also → names ≡ also }
 {}

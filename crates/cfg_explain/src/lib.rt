@@ -1,10 +1,12 @@
 //! Audits: whether a journal and an outcome, or answers by the kinds of their questions, can be those of a call of the
-//! default chain. It stands on cfg_chain. The layers above may use that a verdict is the one that is true of what was
-//! handed in, and that a yes is said, and a whole call told, exactly where there is such a call.
+//! default chain; and which member of the chain asked each question. It stands on cfg_chain and cfg_run. The layers above
+//! may use that a verdict is the one that is true of what was handed in, that a yes is said, and a whole call told,
+//! exactly where there is such a call, and that each entry's owner is the member that asked its question.
 #![tactic(auto)]
 
 pub mod alike;
 pub mod answering;
+pub mod asking;
 mod journals;
 pub mod kinds;
 pub mod laws;
@@ -12,6 +14,7 @@ pub mod replaying;
 pub mod verdict;
 
 pub use answering::{Answering, Replay};
+pub use asking::owners;
 pub use cfg_types::OutOfMemory;
 pub use kinds::kind_of;
 pub use verdict::{Verdict, check};

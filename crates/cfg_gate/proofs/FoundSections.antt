@@ -1,5 +1,6 @@
 -- A section on the loads that it found.
-use Rattle.std.proofs.Common.{◌≡◌, ℕ, ◌+◌, length, length-append, Bool, true, false, List, [], ◌∷◌, ◌++◌, Option, Some, None, Result, Ok, Err, refl, sym, subst, ◌∙◌, ap}
+use Rattle.std.proofs.Common.{◌≡◌, ℕ, ◌+◌, length, length-append, Bool, true, false, List, [], ◌++◌, Option, Result, refl, sym, subst, ◌∙◌, ap}
+use Rattle.std.specs.Prelude.{IfSome}
 use Rattle.cfg_base.specs.Moment.{Moment}
 use Rattle.cfg_types.specs.Environment.{Variables}
 use Rattle.cfg_types.specs.declared.settings.CallSettings.{CallSettings}
@@ -13,7 +14,7 @@ use Rattle.cfg_token.specs.declared.sections.Sectioned.{Sectioned}
 use Rattle.cfg_token.specs.declared.sections.Sectioned.TheVariants.{Hit, Load}
 use Rattle.cfg_token.specs.Rules.{Rules}
 use Rattle.cfg_token.specs.Sections.{section, answer_of}
-use Rattle.cfg_token.specs.Histories.{TokenLoad, History, IsHistory, record_of, with_section, token_in, kept_in, last_in, load_in}
+use Rattle.cfg_token.specs.Histories.{TokenLoad, History, IsHistory, IsTokenLoad, record_of, with_section, token_in, kept_in, last_in, load_in}
 use Rattle.cfg_token.specs.SectionCalls.{is_memory, Answers, Interrupted}
 use Rattle.cfg_gate.specs.GatedSections.{loads_of, Finds, EndsTurn, BreaksTurn, AnswersTurn}
 
@@ -22,10 +23,10 @@ loads_made h part (Hit token) = length-append h.records []
 loads_made h part (Load l) = length-append h.records _
 
 module _ {A T E : Type 0} (t : Rules T E) {a : Ghosts A} {key : TokenKey} {env : Variables} {settings : CallSettings} {old new : A} (h later : History T E) where
-  pub ends_turn : {kept : Option (TokenLoad T E)} {last : Option Moment} {answer : Result T E} → IsHistory t h → kept ≡ load_in h → token_in kept ≡ kept_in h → last ≡ last_in h →
+  pub ends_turn : {kept : Option (TokenLoad T E)} {last : Option Moment} {answer : Result T E} → IsHistory t h → kept ≡ load_in h → IfSome kept (IsTokenLoad t) → token_in kept ≡ kept_in h → last ≡ last_in h →
       Answers t a key env settings old h new later answer → EndsTurn t a key env settings old new kept last (length h.records) (length later.records) answer
-  ends_turn {kept = kept} {last = last} history is token n given = record {
-    finds = record { loads = h; history = history; number = refl; kept_is = is; last_is = n };
+  ends_turn {kept = kept} {last = last} history is carried token n given = record {
+    finds = record { loads = h; history = history; number = refl; kept_is = is; carried = carried; last_is = n };
     made = given.made;
     answers = given.answers;
     ends = record {
@@ -50,11 +51,11 @@ module _ {A T E : Type 0} (t : Rules T E) {a : Ghosts A} {key : TokenKey} {env :
     sees = ap (λ (x : History T E). length x.records) stopped.history;
   }
 
-  pub answers_turn : {kept : Option (TokenLoad T E)} {last : Option Moment} {answer : Result T E} → IsHistory t h → kept ≡ load_in h → token_in kept ≡ kept_in h → last ≡ last_in h →
+  pub answers_turn : {kept : Option (TokenLoad T E)} {last : Option Moment} {answer : Result T E} → IsHistory t h → kept ≡ load_in h → IfSome kept (IsTokenLoad t) → token_in kept ≡ kept_in h → last ≡ last_in h →
       (is_memory t answer ≡ false → Answers t a key env settings old h new later answer) → (is_memory t answer ≡ true → Interrupted t a key env settings old h new later) →
       AnswersTurn t a key env settings old new kept last (length h.records) (length later.records) answer
-  answers_turn history is token n finished stopped = record {
-    finished = λ e. ends_turn history is token n (finished e);
+  answers_turn history is carried token n finished stopped = record {
+    finished = λ e. ends_turn history is carried token n (finished e);
     stopped = λ e. breaks_turn history (stopped e);
   }
 

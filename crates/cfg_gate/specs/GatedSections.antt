@@ -1,5 +1,5 @@
 -- What a section at a gate tells.
-use Rattle.std.specs.Prelude.{◌≡◌, ℕ, ◌+◌, ◌<◌, ◌≤◌, length, Bool, true, false, Option, None, Result, Ok, Err}
+use Rattle.std.specs.Prelude.{◌≡◌, ℕ, ◌+◌, length, Bool, true, false, Option, IfSome, Result, Ok, Err}
 use Rattle.cfg_base.specs.Moment.{Moment}
 use Rattle.cfg_types.specs.Environment.{Variables}
 use Rattle.cfg_types.specs.declared.settings.CallSettings.{CallSettings}
@@ -10,7 +10,7 @@ use Rattle.cfg_token.specs.declared.sections.Sectioned.{Sectioned}
 use Rattle.cfg_token.specs.declared.sections.Sectioned.TheVariants.{Hit, Load}
 use Rattle.cfg_token.specs.Rules.{Rules}
 use Rattle.cfg_token.specs.Sections.{section, answer_of}
-use Rattle.cfg_token.specs.Histories.{TokenLoad, History, IsHistory, token_in, kept_in, last_in, load_in}
+use Rattle.cfg_token.specs.Histories.{TokenLoad, History, IsHistory, IsTokenLoad, token_in, kept_in, last_in, load_in}
 use Rattle.cfg_token.specs.SectionCalls.{is_memory}
 use Rattle.cfg_gate.specs.declared.answer.GateError.{GateError}
 use Rattle.cfg_gate.specs.GateErrors.{by_token}
@@ -20,12 +20,14 @@ abbrev pub loads_of : {T E : Type 0} → Sectioned T E → ℕ
 loads_of (Hit token) = 0
 loads_of (Load l) = 1
 
--- A section found loads, so many, of which these are the one that is kept and the last attempt.
+-- A section found loads, so many, of which these are the one that is kept and the last attempt. The load that is kept
+-- gave a token by its own receipts.
 pub record Finds {T E : Type 0} (t : Rules T E) (found : ℕ) (kept : Option (TokenLoad T E)) (last : Option Moment) : Type 0 where
   pub loads : History T E
   pub history : IsHistory t loads
   pub number : found ≡ length loads.records
   pub kept_is : kept ≡ load_in loads
+  pub carried : IfSome kept (IsTokenLoad t)
   pub last_is : last ≡ last_in loads
 
 -- It gave this answer, by the rules of the token's kind from what it found. Its caller has then seen the loads that

@@ -34,7 +34,7 @@ pub enum GateFault {
 }
 
 impl fmt::Display for GateFault {
-    ghost use Rattle.std.specs.Prelude.{Some, codes};
+    ghost use Rattle.std.specs.Prelude.{Some};
     ghost use Rattle.cfg_gate.specs.GateFaults.{fault_text};
 
     ghost output = { λ fault. Some (fault_text fault) };

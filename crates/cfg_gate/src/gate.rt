@@ -1,5 +1,5 @@
 //! A gate round the loads of one token, and the passes of its callers.
-ghost use Rattle.std.specs.Prelude.{◌≡◌, ◌↔◌, ◌+◌, ◌-◌, ◌<◌, ◌≤◌, ◌^◌, ℕ, [], length, IfOk, IfErr, IsErr, Err};
+ghost use Rattle.std.specs.Prelude.{◌≡◌, ◌↔◌, ◌+◌, ◌-◌, ◌<◌, ◌≤◌, ◌^◌, ℕ, [], IfOk, IsErr, Err};
 ghost use Rattle.cfg_gate.specs.Turns.{IsSized, greater};
 ghost use Rattle.cfg_gate.specs.declared.rule.Stage.TheVariants.{Idle};
 ghost use Rattle.cfg_gate.specs.declared.answer.GateFault.TheVariants.{Spent};
@@ -58,7 +58,8 @@ pub fn new_gate<T: FileToken>(
 }
 
 fn larger(a: u64, b: u64) -> u64
-    ensures { result ≡ greater a b }
+    ensures is { result ≡ greater a b }
+    ensures keeps { (a ≤ result) × (b ≤ result) }
 {
     if a <= b { b } else { a }
 }
@@ -120,6 +121,7 @@ impl<T: FileToken> Pass<T> {
         ensures of { self.new.place.table_id ≡ self.old.place.table_id }
         ensures allowance { self.new.allowance ≡ self.old.allowance + other.allowance }
         ensures seen { self.new.seen ≡ greater self.old.seen other.seen }
+        ensures keeps { (self.old.seen ≤ self.new.seen) × (other.seen ≤ self.new.seen) }
     {
         let Pass {
             place,

@@ -4,6 +4,7 @@
 #![tactic(auto)]
 
 mod answer;
+mod calls;
 mod gate;
 mod places;
 pub mod rule;
@@ -14,5 +15,6 @@ mod token;
 mod turns;
 
 pub use answer::{GateAnswer, GateError, GateFault};
+pub use calls::{Called, GatedCalls, gated_calls};
 pub use gate::{Gate, Pass, new_gate};
 pub use token::GatedToken;

@@ -1,6 +1,6 @@
 //! A section at a gate.
 ghost use Rattle.std.specs.Prelude.{◌≡◌, ◌↔◌, ◌+◌, ◌-◌, ◌<◌, ◌≤◌, ℕ, None, Err, true};
-ghost use Rattle.cfg_gate.specs.GatedSections.{IsTurn};
+ghost use Rattle.cfg_gate.specs.GatedSections.{IsTurn, AnswersTurn};
 ghost use Rattle.cfg_gate.specs.GateErrors.{by_token};
 ghost use Rattle.cfg_gate.specs.declared.answer.GateError.TheVariants.{Spent};
 
@@ -8,6 +8,7 @@ use crate::answer::{GateAnswer, GateError};
 use crate::gate::{Gate, Pass};
 use crate::sections::counted_section;
 use crate::turns::{Taken, end_turn, take_turn};
+use cfg_token::SharedAnswer;
 use cfg_token::file_token::FileToken;
 use cfg_types::{CallSettings, Env};
 use cfg_world::{Asking, Devices, World};
@@ -59,26 +60,32 @@ impl<T: FileToken> Pass<T> {
                 found: self.seen,
             };
         }
-        self.take_turn(rt, gate, env, settings, world)
+        let (answer, found) = self.take_turn(rt, gate, env, settings, world);
+        GateAnswer {
+            outcome: by_token(answer.outcome),
+            kept: answer.kept,
+            last: answer.last,
+            found,
+        }
     }
 
-    // A section of a pass that has an allowance.
-    fn take_turn<R: Wait, D: Devices>(
+    /// A section of a pass that has an allowance, and how many loads it found.
+    pub(crate) fn take_turn<R: Wait, D: Devices>(
         &mut self,
         rt: &R,
         gate: &Gate<T>,
         env: &Env,
         settings: &CallSettings,
         world: &mut World<D>,
-    ) -> GateAnswer<T>
+    ) -> (SharedAnswer<T>, u64)
         requires of { self.old.place.table_id ≡ gate.now.table.shared.table_id }
         requires kind { T.rules.is_kind gate.now.key ≡ true }
         requires left { 0 < self.old.allowance }
         ensures of { self.new.place.table_id ≡ self.old.place.table_id }
-        ensures fresh { self.old.seen ≤ result.found }
+        ensures fresh { self.old.seen ≤ result.1 }
         ensures left { self.new.allowance ≡ self.old.allowance - 1 }
-        ensures turn { IsTurn T.rules ⟦<World<D> as Asking>⟧ gate.now.key env.now settings.now world.old world.new
-            result.kept result.last result.found self.new.seen result.outcome }
+        ensures turn { AnswersTurn T.rules ⟦<World<D> as Asking>⟧ gate.now.key env.now settings.now world.old world.new
+            result.0.kept result.0.last result.1 self.new.seen result.0.outcome }
     {
         let board = &gate.table.shared;
         let Taken {
@@ -86,17 +93,10 @@ impl<T: FileToken> Pass<T> {
             ticket,
             loads: found,
         } = take_turn(rt, board, &mut self.place);
-        let (state, answered, made) = counted_section(
-            state, found, &gate.key, env, settings, world,
-        );
+        let (state, answer, made) = counted_section(state, found, &gate.key, env, settings, world);
         end_turn(board, &mut self.place, ticket, made, state);
         self.allowance -= 1;
         self.seen = found + made;
-        GateAnswer {
-            outcome: by_token(answered.outcome),
-            kept: answered.kept,
-            last: answered.last,
-            found,
-        }
+        (answer, found)
     }
 }

@@ -1,21 +1,21 @@
 // One section on the loads that were taken, with what it found.
-ghost use Rattle.std.specs.Prelude.{◌≡◌, ◌+◌, ◌≤◌, ℕ, length, true, false};
-ghost use Rattle.cfg_token.specs.Histories.{load_in, last_in, kept_in};
-ghost use Rattle.cfg_token.specs.SectionCalls.{is_memory};
+ghost use Rattle.std.specs.Prelude.{◌≡◌, ◌+◌, ◌≤◌, ℕ, length, IfSome, true};
+ghost use Rattle.cfg_token.specs.Histories.{IsTokenLoad};
 ghost use Rattle.cfg_gate.specs.GatedSections.{AnswersTurn};
 
 use cfg_token::file_token::FileToken;
 use cfg_token::loads::{Loads, section_on};
-use cfg_token::{Load, TokenKey};
-use cfg_types::{CallSettings, Env, Instant};
+use cfg_token::{Load, SharedAnswer, TokenKey};
+use cfg_types::{CallSettings, Env};
 use cfg_world::{Asking, Devices, World};
 
-// What a section found and gave.
-#[derive(Drop)]
-pub(crate) struct Answered<T: FileToken> {
-    pub(crate) outcome: Result<T, T::Error>,
-    pub(crate) kept: Option<Load<T>>,
-    pub(crate) last: Option<Instant>,
+// What the type of a load keeps: it gave a token by its own receipts.
+fn carries_receipts<T: FileToken>(load: &Option<Load<T>>)
+    ensures { IfSome load.now (IsTokenLoad T.rules) }
+{
+    if let Some(load) = load {
+        let _record = load.loaded_by();
+    }
 }
 
 // One section on these loads, and a copy of what it found, made before it changes anything.
@@ -25,7 +25,7 @@ fn section_found<T: FileToken, D: Devices>(
     env: &Env,
     settings: &CallSettings,
     world: &mut World<D>,
-) -> Answered<T>
+) -> SharedAnswer<T>
     requires { T.rules.is_kind key.now ≡ true }
     ensures turn { AnswersTurn T.rules ⟦<World<D> as Asking>⟧ key.now env.now settings.now world.old world.new
         result.kept result.last (length loads.old.records) (length loads.new.records) result.outcome }
@@ -34,14 +34,15 @@ fn section_found<T: FileToken, D: Devices>(
     let _records = loads.records();
     let last = loads.last_attempt();
     let Ok(kept) = loads.load() else {
-        return Answered {
+        return SharedAnswer {
             outcome: Err(T::out_of_memory()),
             kept: None,
             last,
         };
     };
+    carries_receipts(&kept);
     let outcome = section_on(loads, key, env, settings, world);
-    Answered {
+    SharedAnswer {
         outcome,
         kept,
         last,
@@ -56,7 +57,7 @@ pub(crate) fn counted_section<T: FileToken, D: Devices>(
     env: &Env,
     settings: &CallSettings,
     world: &mut World<D>,
-) -> (Loads<T>, Answered<T>, u64)
+) -> (Loads<T>, SharedAnswer<T>, u64)
     requires kind { T.rules.is_kind key.now ≡ true }
     requires found { found ≡ length loads.records }
     ensures turn { AnswersTurn T.rules ⟦<World<D> as Asking>⟧ key.now env.now settings.now world.old world.new
@@ -64,7 +65,7 @@ pub(crate) fn counted_section<T: FileToken, D: Devices>(
     ensures loads { length result.0.records ≡ found + result.2 }
     ensures most { result.2 ≤ 1 }
 {
-    let answered = section_found(&mut loads, key, env, settings, world);
+    let answer = section_found(&mut loads, key, env, settings, world);
     let made = loads.records().len() as u64 - found;
-    (loads, answered, made)
+    (loads, answer, made)
 }

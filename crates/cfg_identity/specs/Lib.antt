@@ -5,4 +5,6 @@ pub mod Cached
 pub mod Faults
 pub mod Entries
 pub mod Views
+pub mod SharedCalls
+pub mod SharedViews
 pub mod CallLists

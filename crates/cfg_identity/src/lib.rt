@@ -11,10 +11,13 @@ pub mod laws;
 mod loaded;
 mod names;
 mod settings;
+mod shared;
 
 pub use cache::IdentityCache;
 pub use cfg_chain::DefaultCredentialsChain;
+pub use cfg_kept::Found;
 pub use cfg_types::{Credentials, CredentialsError, OutOfMemory};
 pub use fault::CacheFault;
 pub use held::Held;
 pub use settings::CacheSettings;
+pub use shared::{CacheAnswer, SharedIdentityCache};

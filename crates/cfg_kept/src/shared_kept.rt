@@ -127,7 +127,10 @@ impl SharedKept {
         self.alloc
     }
 
-    pub(crate) fn place(&self, place: Place) -> &SharedPlace {
+    pub(crate) fn place(&self, place: Place) -> &SharedPlace
+        ensures chain { place ≡ Place.Chain → result.now ≡ self.now.chain }
+        ensures named { place ≡ Place.Named → result.now ≡ self.now.named }
+    {
         match place {
             Place::Chain => &self.chain,
             Place::Named => &self.named,

@@ -1,6 +1,8 @@
-//! The tests of tokens and what is kept between calls, over public calls: what no clause says.
+//! The tests of tokens, of gates and of what is kept between calls, over public calls: what no clause says.
 #![tactic(auto)]
 
+#[cfg(test)]
+mod gate;
 #[cfg(test)]
 mod kept;
 #[cfg(test)]

@@ -3,12 +3,13 @@ ghost use Rattle.std.specs.Prelude.{◌≡◌, true, IfOk};
 ghost use Rattle.cfg_script.specs.Devices.{lists_of};
 ghost use Rattle.cfg_script.specs.Script.{plain};
 ghost use Rattle.cfg_token.specs.SectionCalls.{section_on};
+ghost use Rattle.cfg_token.specs.SsoTokens.{is_sso};
 ghost use Rattle.cfg_world.specs.Inquiry.{Begun};
 ghost use Rattle.cfg_world.specs.Script.{AllFit};
 
 use cfg_script::{Script, ScriptError, read_script};
-use cfg_token::{FileToken, TokenState, finish, next_question, section, section_after};
-use cfg_types::{CallSettings, Env, OutOfMemory, Seq, Timeouts, TryCopy};
+use cfg_token::{FileToken, TokenKey, TokenState, finish, next_question, section, section_after};
+use cfg_types::{CallSettings, Env, OutOfMemory, Region, Seq, Text, Timeouts, TryCopy};
 use cfg_world::{DeviceLists, Question, Receipt, ScriptDevices, World};
 use std::alloc::Global;
 use std::fmt;
@@ -27,6 +28,20 @@ pub(crate) fn settings() -> CallSettings {
             attempt_ms: None,
         },
     }
+}
+
+/// The key of the session `abc`.
+pub(crate) fn session_key(alloc: Global) -> Result<TokenKey, OutOfMemory>
+    ensures { IfOk result (λ key. is_sso key ≡ true) }
+{
+    let session = Text::of(alloc, "abc")?;
+    let region = Region::new(alloc, "us-east-1")?;
+    let start_url = Text::of(alloc, "u")?;
+    Ok(TokenKey::Sso {
+        session,
+        region,
+        start_url,
+    })
 }
 
 // What a section answers; the questions and the records so far, the last attempt, and whether a token is

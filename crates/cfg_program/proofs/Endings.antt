@@ -7,26 +7,38 @@ use Rattle.cfg_world.specs.Held.{Held}
 use Rattle.cfg_kept.specs.Kinds.{no_states}
 use Rattle.cfg_chain.specs.Settings.{ChainSetting}
 use Rattle.cfg_chain.proofs.WholeCalls.{call_begins}
-use Rattle.cfg_script.specs.Script.{Plain}
 use Rattle.cfg_program.specs.declared.status.Status.{Status}
 use Rattle.cfg_program.specs.declared.status.Status.TheVariants as status
 use Rattle.cfg_program.specs.Local.{Handed, CallAnswers, local_setting, LocalAnswers, StopsInCall, LeavesWorld}
 use Rattle.cfg_program.specs.Streams.{SourceSeen, SinkSeen}
 use Rattle.cfg_program.specs.Written.{LinesWritten}
 use Rattle.cfg_program.specs.Generated.{GeneratedAnswers, GeneratedLineWritten, GeneratedWritten}
-use Rattle.cfg_program.specs.Run.{WorldSeen, IsScript, WritesNothing, EndsUnread, EndsReading, LocalLineWritten, EndsLocal}
+use Rattle.cfg_program.specs.Run.{WorldSeen, IsScript, WritesNothing, EndsUnread, EndsEarly, EndsReading, LocalLineWritten, EndsLocal}
 
-module _ (source : SourceSeen) (sink : SinkSeen) (reads : List ℕ → Option Plain) (answers : Plain → Bool → List ℕ → Type 0) where
+-- an input that is not known to its end is read as no script
+pub early_unread : {P : Type 0} (source : SourceSeen) (reads : List ℕ → Option P) (ended : Status) → EndsEarly source ended → EndsUnread source reads ended
+early_unread source reads status.Done h = absurd h
+early_unread source reads status.Refused h = absurd h
+early_unread source reads status.UnknownCommand h = absurd h
+early_unread source reads status.NoScript h = absurd h
+early_unread source reads status.SourceFault h = h
+early_unread source reads status.SinkFault h = absurd h
+early_unread source reads status.OutOfMemory h = h
+early_unread source reads status.TooLong h = h
+early_unread source reads status.HistoryDiffers h = absurd h
+early_unread source reads status.NotBuilt h = absurd h
+
+module _ {P : Type 0} (source : SourceSeen) (sink : SinkSeen) (reads : List ℕ → Option P) (answers : P → Bool → List ℕ → Type 0) where
   -- the lines were written, as far as the sink took them
-  pub lines_end : (p : Plain) (b : Bool) (lines : List ℕ) (ended : Status) → IsScript source reads p → answers p b lines
+  pub lines_end : (p : P) (b : Bool) (lines : List ℕ) (ended : Status) → IsScript source reads p → answers p b lines
       → LinesWritten sink b lines ended → EndsReading source sink reads answers ended
   lines_end p b lines status.Done i a w = record { p = p; input = i; lines = lines; answered = subst (λ x. answers p x lines) w.0 a; written = w.1 }
   lines_end p b lines status.Refused i a w = record { p = p; input = i; lines = lines; answered = subst (λ x. answers p x lines) w.0 a; written = w.1 }
   lines_end p b lines status.UnknownCommand i a w = w
   lines_end p b lines status.NoScript i a w = absurd w
   lines_end p b lines status.SourceFault i a w = absurd w
-  lines_end p b lines status.SinkFault i a w = (w.0, record { p = p; input = i; is_ok = b; lines = lines; answered = a; written = w.1 })
-  lines_end p b lines status.OutOfMemory i a w = inr (record { p = p; input = i; is_ok = b; lines = lines; answered = a; written = w })
+  lines_end p b lines status.SinkFault i a w = (w.0, record { p = p; input = i; end = b; lines = lines; answered = a; written = w.1 })
+  lines_end p b lines status.OutOfMemory i a w = inr (record { p = p; input = i; end = b; lines = lines; answered = a; written = w })
   lines_end p b lines status.TooLong i a w = absurd w
   lines_end p b lines status.HistoryDiffers i a w = absurd w
   lines_end p b lines status.NotBuilt i a w = absurd w

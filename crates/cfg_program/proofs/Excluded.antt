@@ -5,32 +5,36 @@ use Rattle.std.specs.Io.KnownBytes.{Appends}
 use Rattle.std.proofs.lemmas.Bool.{lt-ltb, le-ltb}
 use Rattle.cfg_world.specs.Fits.{Pair}
 use Rattle.cfg_script.specs.Script.{Plain}
-use Rattle.cfg_script.specs.Reading.{script_of}
+use Rattle.cfg_script.specs.Reading.{script_of, audit_of}
 use Rattle.cfg_script.specs.Devices.{lists_of}
 use Rattle.cfg_chain.specs.Settings.{alone, with_sources}
 use Rattle.cfg_program.specs.declared.status.Status.{Status}
 use Rattle.cfg_program.specs.declared.status.Status.TheVariants as status
 use Rattle.cfg_program.specs.declared.commands.Command.{Command}
-use Rattle.cfg_program.specs.declared.commands.Command.TheVariants.{Help, Version, Resolve, Region, Token, Local, Generate}
+use Rattle.cfg_program.specs.declared.commands.Command.TheVariants.{Help, Version, Resolve, Region, Token, Explain, Audit, Local, Generate}
 use Rattle.cfg_program.specs.declared.lines.LineForm.{LineForm}
 use Rattle.cfg_program.specs.declared.lines.LineForm.TheVariants as form
 use Rattle.cfg_program.specs.declared.commands.TheConstants.{HELP, VERSION}
 use Rattle.cfg_program.specs.Inputs.{IsTooLong, most_bytes}
-use Rattle.cfg_program.specs.Scripts.{reads_input, script_for, script_of_one_call}
+use Rattle.cfg_program.specs.Scripts.{reads_input, script_of_one_call}
 use Rattle.cfg_program.specs.Regions.{RegionAnswers}
 use Rattle.cfg_program.specs.Tokens.{TokenAnswers}
+use Rattle.cfg_program.specs.Explained.{ExplainAnswers}
+use Rattle.cfg_program.specs.Audited.{AuditAnswers}
 use Rattle.cfg_program.specs.Calls.{Answers, configuration_of}
 use Rattle.cfg_program.specs.Local.{Handed, LocalAnswers, local_configuration}
 use Rattle.cfg_program.specs.Generated.{generated_configuration, generated_lists, GeneratedLineWritten, GeneratedWritten}
 use Rattle.cfg_program.specs.Streams.{SourceSeen, SinkSeen}
 use Rattle.cfg_program.specs.Written.{TextWritten}
 use Rattle.cfg_program.specs.Run.{WorldSeen, Seen, IsInput, WasRead, IsScript, WritesLines, WritesNothing, EndsReading, EndsUnknown, LocalLineWritten, EndsLocal, EndsRun}
-use Rattle.cfg_program.specs.Exclusion.{depends_on_input, BytesAreKnown, AppendTheSame, GainTheSame, CallsFor, comes}
+use Rattle.cfg_program.specs.Exclusion.{depends_on_input, BytesAreKnown, AppendTheSame, GainTheSame, ReadingCallsFor, CallsFor, comes}
 use Rattle.cfg_program.proofs.Pieces.{none_grown}
 use Rattle.cfg_program.proofs.OneList.{one_list}
 use Rattle.cfg_program.proofs.OneLine.{one_line, one_part}
 use Rattle.cfg_program.proofs.OneRegion.{one_region}
 use Rattle.cfg_program.proofs.OneToken.{one_token}
+use Rattle.cfg_program.proofs.Explaining.{one_explanation}
+use Rattle.cfg_program.proofs.Auditing.{one_audit}
 
 -- the status of lines
 abbrev status_of : Bool → Status
@@ -68,7 +72,7 @@ none_is_some h = cc
 one_some : (s t : Status) → ◌≡◌ {A = Option Status} (Some s) (Some t) → s ≡ t
 one_some s t h = cc
 
-one_script : (p q : Plain) → ◌≡◌ {A = Option Plain} (Some p) (Some q) → p ≡ q
+one_script : {P : Type 0} (p q : P) → ◌≡◌ {A = Option P} (Some p) (Some q) → p ≡ q
 one_script p q h = cc
 
 -- the refusal that a status is, if it is one
@@ -79,9 +83,9 @@ refusal s = Some s
 
 -- ---- commands that read a script
 
-module _ (reads : List ℕ → Option Plain) where
+module _ {P : Type 0} (reads : List ℕ → Option P) where
   -- the refusal that bytes call for, if they call for one
-  abbrev refused_by : Option Plain → Option Status
+  abbrev refused_by : Option P → Option Status
   refused_by None = Some status.NoScript
   refused_by (Some p) = None
 
@@ -89,13 +93,13 @@ module _ (reads : List ℕ → Option Plain) where
   refused_for bytes = cond (nat_lt most_bytes (length bytes)) (Some status.TooLong) (refused_by (reads bytes))
 
   -- the bytes of an input call for what their script calls for
-  read_is_refused : (source : SourceSeen) (all : List ℕ) → source.left ≡ Some all → (bytes : List ℕ) → IsInput source bytes → (r : Option Plain) → reads bytes ≡ r → refused_for all ≡ refused_by r
+  read_is_refused : (source : SourceSeen) (all : List ℕ) → source.left ≡ Some all → (bytes : List ℕ) → IsInput source bytes → (r : Option P) → reads bytes ≡ r → refused_for all ≡ refused_by r
   read_is_refused source all e bytes was r is =
       ap refused_for (known_is source.left all (λ b. b ≡ bytes) e was.all)
       ∙ ap (λ t. cond t (Some status.TooLong) (refused_by (reads bytes))) (le-ltb most_bytes (length bytes) was.short)
       ∙ ap refused_by is
 
-  script_is_not_refused : (source : SourceSeen) (all : List ℕ) → source.left ≡ Some all → (p : Plain) → IsScript source reads p → refused_for all ≡ None
+  script_is_not_refused : (source : SourceSeen) (all : List ℕ) → source.left ≡ Some all → (p : P) → IsScript source reads p → refused_for all ≡ None
   script_is_not_refused source all e p is = read_is_refused source all e is.bytes (was_input source is.bytes is.read) (Some p) is.script
 
   long_is_refused : (source : SourceSeen) (all : List ℕ) → source.left ≡ Some all → IfSome source.left (λ b. most_bytes < length b) → refused_for all ≡ Some status.TooLong
@@ -104,7 +108,7 @@ module _ (reads : List ℕ → Option Plain) where
       (lt-ltb most_bytes (length all) (known_is source.left all (λ b. most_bytes < length b) e long))
 
   -- a refusal that the input calls for
-  called_is_refused : (seen : Seen) (all : List ℕ) → seen.source.left ≡ Some all → (cause : Status) → CallsFor seen reads cause → refused_for all ≡ Some cause
+  called_is_refused : (seen : Seen) (all : List ℕ) → seen.source.left ≡ Some all → (cause : Status) → ReadingCallsFor seen reads cause → refused_for all ≡ Some cause
   called_is_refused seen all e status.Done h = absurd h
   called_is_refused seen all e status.Refused h = absurd h
   called_is_refused seen all e status.UnknownCommand h = absurd h
@@ -119,7 +123,7 @@ module _ (reads : List ℕ → Option Plain) where
   lines_or_refusal : (all : List ℕ) (ended : Status) → refused_for all ≡ None → refused_for all ≡ Some ended → ⊥
   lines_or_refusal all ended h k = none_is_some (sym h ∙ k)
 
-  module _ (answers : Plain → Bool → List ℕ → Type 0) where
+  module _ (answers : P → Bool → List ℕ → Type 0) where
     -- how a run over a known input ends, whose status depends on it alone: with the lines of its script,
     -- or with the refusal that it calls for
     record HasLines (source : SourceSeen) (sink : SinkSeen) (all : List ℕ) (ended : Status) : Type 0 where
@@ -146,7 +150,7 @@ module _ (reads : List ℕ → Option Plain) where
     ends_as source sink all e status.NotBuilt t ends = absurd ends
 
     -- one input is one script
-    same_script : (one other : SourceSeen) (all : List ℕ) → one.left ≡ Some all → other.left ≡ Some all → (p q : Plain) → IsScript one reads p → IsScript other reads q → p ≡ q
+    same_script : (one other : SourceSeen) (all : List ℕ) → one.left ≡ Some all → other.left ≡ Some all → (p q : P) → IsScript one reads p → IsScript other reads q → p ≡ q
     same_script one other all e f p q is also =
         one_script p q
         (sym is.script ∙ ap reads (sym (known_is one.left all (λ b. b ≡ is.bytes) e is.read.all) ∙ known_is other.left all (λ b. b ≡ also.bytes) f also.read.all) ∙ also.script)
@@ -155,12 +159,12 @@ module _ (reads : List ℕ → Option Plain) where
     is_called source sink all cause ended h (inl x) = absurd (lines_or_refusal all cause x.called h)
     is_called source sink all cause ended h (inr x) = one_some ended cause (sym x.called ∙ h)
 
-    comes_where_called : (seen : Seen) (cause ended : Status) → BytesAreKnown seen → CallsFor seen reads cause → IsTrue (depends_on_input ended) → EndsReading seen.source seen.sink reads answers ended → ended ≡ cause
+    comes_where_called : (seen : Seen) (cause ended : Status) → BytesAreKnown seen → ReadingCallsFor seen reads cause → IsTrue (depends_on_input ended) → EndsReading seen.source seen.sink reads answers ended → ended ≡ cause
     comes_where_called seen cause ended known h t ends =
         let all = known_of seen.source.left known in
         is_called seen.source seen.sink all.0 cause ended (called_is_refused seen all.0 all.1 cause h) (ends_as seen.source seen.sink all.0 all.1 ended t ends)
 
-    module _ (one_answer : (p : Plain) (a b : Bool) (lines other : List ℕ) → answers p a lines → answers p b other → (a ≡ b) × (lines ≡ other)) (x y : SourceSeen) (u v : SinkSeen) (all : List ℕ) (e : x.left ≡ Some all) (f : y.left ≡ Some all) where
+    module _ (one_answer : (p : P) (a b : Bool) (lines other : List ℕ) → answers p a lines → answers p b other → (a ≡ b) × (lines ≡ other)) (x y : SourceSeen) (u v : SinkSeen) (all : List ℕ) (e : x.left ≡ Some all) (f : y.left ≡ Some all) where
       same_lines : (a b : Bool) → WritesLines x u reads answers a → WritesLines y v reads answers b → (a ≡ b) × BothAppend u v
       same_lines a b l m =
           let script : m.p ≡ l.p = same_script y x all f e m.p l.p m.input l.input in
@@ -175,7 +179,7 @@ module _ (reads : List ℕ → Option Plain) where
       both_end s t (inr a) (inl b) = absurd (lines_or_refusal all s b.called a.called)
       both_end s t (inr a) (inr b) = (one_some s t (sym a.called ∙ b.called), both_nothing u v a.nothing b.nothing)
 
-    alike_reading : (one_answer : (p : Plain) (a b : Bool) (lines other : List ℕ) → answers p a lines → answers p b other → (a ≡ b) × (lines ≡ other)) (one other : Seen) (s t : Status)
+    alike_reading : (one_answer : (p : P) (a b : Bool) (lines other : List ℕ) → answers p a lines → answers p b other → (a ≡ b) × (lines ≡ other)) (one other : Seen) (s t : Status)
         → BytesAreKnown one → one.source.left ≡ other.source.left → IsTrue (depends_on_input s) → IsTrue (depends_on_input t)
         → EndsReading one.source one.sink reads answers s → EndsReading other.source other.sink reads answers t → (s ≡ t) × AppendTheSame one other
     alike_reading one_answer one other s t known same u v a b =
@@ -296,6 +300,8 @@ module _ (handed : Handed) where
   alike one other (Some (Resolve below)) s t known same gain u v a b = alike_reading script_of (Answers handed.sources (form.Call below)) (one_answer handed (form.Call below)) one other s t known same u v a b
   alike one other (Some Region) s t known same gain u v a b = alike_reading script_of_one_call RegionAnswers one_region one other s t known same u v a b
   alike one other (Some (Token below)) s t known same gain u v a b = alike_reading script_of_one_call (TokenAnswers below) (one_token below) one other s t known same u v a b
+  alike one other (Some Explain) s t known same gain u v a b = alike_reading script_of_one_call (ExplainAnswers handed.sources) (one_explanation handed.sources) one other s t known same u v a b
+  alike one other (Some Audit) s t known same gain u v a b = alike_reading audit_of (AuditAnswers handed.sources) (one_audit handed.sources) one other s t known same u v a b
   alike one other (Some Local) s t known same gain u v a b = alike_locally handed one.sink other.sink one.world other.world gain.0 s t u v gain.1 gain.2 a b
   alike one other (Some (Generate n)) s t known same gain u v a b = alike_generating one.sink other.sink n s t u v a b
 
@@ -306,23 +312,27 @@ module _ (handed : Handed) where
   exclude_one_another seen (Some (Resolve below)) one other known t u a b = (alike_reading script_of (Answers handed.sources (form.Call below)) (one_answer handed (form.Call below)) seen seen one other known refl t u a b).0
   exclude_one_another seen (Some Region) one other known t u a b = (alike_reading script_of_one_call RegionAnswers one_region seen seen one other known refl t u a b).0
   exclude_one_another seen (Some (Token below)) one other known t u a b = (alike_reading script_of_one_call (TokenAnswers below) (one_token below) seen seen one other known refl t u a b).0
+  exclude_one_another seen (Some Explain) one other known t u a b = (alike_reading script_of_one_call (ExplainAnswers handed.sources) (one_explanation handed.sources) seen seen one other known refl t u a b).0
+  exclude_one_another seen (Some Audit) one other known t u a b = (alike_reading audit_of (AuditAnswers handed.sources) (one_audit handed.sources) seen seen one other known refl t u a b).0
   exclude_one_another seen (Some Local) one other known t u a b =
       let gain = gained_by seen.sink seen.world handed one t a in
       (alike_locally handed seen.sink seen.sink seen.world seen.world gain.0 one other t u gain.1 gain.1 a b).0
   exclude_one_another seen (Some (Generate n)) one other known t u a b = (alike_generating seen.sink seen.sink n one other t u a b).0
 
-  pub comes_where_called_for : (seen : Seen) (command : Command) (cause ended : Status) → BytesAreKnown seen → IsTrue (reads_input command) → CallsFor seen (script_for command) cause → IsTrue (depends_on_input ended) → EndsRun seen handed (Some command) ended → ended ≡ cause
+  pub comes_where_called_for : (seen : Seen) (command : Command) (cause ended : Status) → BytesAreKnown seen → IsTrue (reads_input command) → CallsFor seen command cause → IsTrue (depends_on_input ended) → EndsRun seen handed (Some command) ended → ended ≡ cause
   comes_where_called_for seen Help cause ended known r h t ends = cc
   comes_where_called_for seen Version cause ended known r h t ends = cc
   comes_where_called_for seen (Resolve below) cause ended known r h t ends = comes_where_called script_of (Answers handed.sources (form.Call below)) seen cause ended known h t ends
   comes_where_called_for seen Region cause ended known r h t ends = comes_where_called script_of_one_call RegionAnswers seen cause ended known h t ends
   comes_where_called_for seen (Token below) cause ended known r h t ends = comes_where_called script_of_one_call (TokenAnswers below) seen cause ended known h t ends
+  comes_where_called_for seen Explain cause ended known r h t ends = comes_where_called script_of_one_call (ExplainAnswers handed.sources) seen cause ended known h t ends
+  comes_where_called_for seen Audit cause ended known r h t ends = comes_where_called audit_of (AuditAnswers handed.sources) seen cause ended known h t ends
   comes_where_called_for seen Local cause ended known r h t ends = cc
   comes_where_called_for seen (Generate n) cause ended known r h t ends = cc
 
 -- ---- statuses that never come
 
-reading_comes : (source : SourceSeen) (sink : SinkSeen) (reads : List ℕ → Option Plain) (answers : Plain → Bool → List ℕ → Type 0) (s : Status) → EndsReading source sink reads answers s → IsTrue (comes s)
+reading_comes : {P : Type 0} (source : SourceSeen) (sink : SinkSeen) (reads : List ℕ → Option P) (answers : P → Bool → List ℕ → Type 0) (s : Status) → EndsReading source sink reads answers s → IsTrue (comes s)
 reading_comes source sink reads answers status.Done ends = refl
 reading_comes source sink reads answers status.Refused ends = refl
 reading_comes source sink reads answers status.UnknownCommand ends = refl
@@ -380,5 +390,7 @@ run_comes seen handed (Some Version) s ends = telling_comes seen.sink VERSION.no
 run_comes seen handed (Some (Resolve below)) s ends = reading_comes seen.source seen.sink script_of (Answers handed.sources (form.Call below)) s ends
 run_comes seen handed (Some Region) s ends = reading_comes seen.source seen.sink script_of_one_call RegionAnswers s ends
 run_comes seen handed (Some (Token below)) s ends = reading_comes seen.source seen.sink script_of_one_call (TokenAnswers below) s ends
+run_comes seen handed (Some Explain) s ends = reading_comes seen.source seen.sink script_of_one_call (ExplainAnswers handed.sources) s ends
+run_comes seen handed (Some Audit) s ends = reading_comes seen.source seen.sink audit_of (AuditAnswers handed.sources) s ends
 run_comes seen handed (Some Local) s ends = local_comes seen.sink seen.world handed s ends
 run_comes seen handed (Some (Generate n)) s ends = generating_comes seen.sink n s ends

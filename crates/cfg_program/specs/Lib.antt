@@ -11,6 +11,8 @@ pub mod Written
 pub mod Local
 pub mod Regions
 pub mod Tokens
+pub mod Explained
+pub mod Audited
 pub mod Generated
 pub mod Run
 pub mod Exclusion

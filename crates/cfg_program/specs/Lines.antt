@@ -7,13 +7,13 @@ use Rattle.cfg_base.specs.Moment.{Moment}
 use Rattle.cfg_types.specs.Keys.{Keys}
 use Rattle.cfg_types.specs.Classes.{class_of, class_name}
 use Rattle.cfg_types.specs.declared.errors.CredentialsError.{CredentialsError}
-use Rattle.cfg_types.specs.declared.request.Request.{Request}
 use Rattle.cfg_types.specs.declared.request.Request.TheVariants as request
 use Rattle.cfg_world.specs.declared.ask.Question.{Question}
 use Rattle.cfg_world.specs.declared.ask.Question.TheVariants as question
 use Rattle.cfg_world.specs.declared.ask.Answer.{Answer}
 use Rattle.cfg_world.specs.declared.ask.Answer.TheVariants.{Failed}
 use Rattle.cfg_world.specs.Fits.{Pair}
+use Rattle.cfg_explain.specs.Kinds.{kind_of}
 use Rattle.cfg_error_report.specs.CredentialsCauses.{causes_of}
 use Rattle.cfg_program.specs.Escapes.{word_byte}
 use Rattle.cfg_program.specs.CauseLines.{with_below}
@@ -41,27 +41,6 @@ abbrev pub shown_expiry : Option Moment → List ℕ
 shown_expiry None = codes "none"
 shown_expiry (Some m) = signed_decimal m.seconds ++ (codes "." ++ nine_digits m.nanos)
 
--- the name of a request, under which a script has its replies
-abbrev pub name_of_request : Request → List ℕ
-name_of_request (request.Http call) = codes "http"
-name_of_request (request.MetadataToken call) = codes "imds-token"
-name_of_request (request.MetadataGet call) = codes "imds-get"
-name_of_request (request.AssumeRole call) = codes "assume-role"
-name_of_request (request.AssumeRoleWithWebIdentity call) = codes "web-identity"
-name_of_request (request.GetRoleCredentials call) = codes "role-credentials"
-name_of_request (request.CreateToken call) = codes "create-token"
-name_of_request (request.CreateOAuth2Token call) = codes "sign-in"
-
--- the name of a question
-abbrev pub name_of_question : Question → List ℕ
-name_of_question question.Now = codes "now"
-name_of_question question.Jitter = codes "jitter"
-name_of_question (question.Read path) = codes "read"
-name_of_question (question.Write path bytes) = codes "write"
-name_of_question (question.Run command) = codes "run"
-name_of_question (question.LookUp host) = codes "lookup"
-name_of_question (question.Send request) = name_of_request request
-
 -- `!` behind a question that failed
 abbrev pub mark : Answer → List ℕ
 mark (Failed kind) = codes "!"
@@ -69,7 +48,7 @@ mark _ = []
 
 -- the kind of a question, with `!` where it failed
 abbrev pub kind : Pair → List ℕ
-kind e = name_of_question e.0 ++ mark e.1
+kind e = kind_of e.0 ++ mark e.1
 
 -- the kind of a question behind another
 abbrev pub later_kind : Pair → List ℕ

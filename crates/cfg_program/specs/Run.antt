@@ -3,19 +3,21 @@ use Rattle.std.specs.Prelude.{◌≡◌, ℕ, ◌≤◌, List, [], ◌++◌, len
 use Rattle.std.specs.Io.KnownBytes.{Appends}
 use Rattle.cfg_world.specs.Faults.{Rose}
 use Rattle.cfg_world.specs.Fits.{Pair}
-use Rattle.cfg_script.specs.Script.{Plain}
+use Rattle.cfg_script.specs.Reading.{script_of, audit_of}
 use Rattle.cfg_program.specs.declared.status.Status.{Status}
 use Rattle.cfg_program.specs.declared.status.Status.TheVariants as status
 use Rattle.cfg_program.specs.declared.commands.Command.{Command}
-use Rattle.cfg_program.specs.declared.commands.Command.TheVariants.{Help, Version, Resolve, Region, Token, Local, Generate}
+use Rattle.cfg_program.specs.declared.commands.Command.TheVariants.{Help, Version, Resolve, Region, Token, Explain, Audit, Local, Generate}
 use Rattle.cfg_program.specs.declared.lines.LineForm.TheVariants as form
 use Rattle.cfg_program.specs.declared.commands.TheConstants.{HELP, VERSION}
 use Rattle.cfg_program.specs.Streams.{GrowsByPrefix, SourceSeen, SinkSeen}
 use Rattle.cfg_program.specs.Inputs.{IsTooLong, most_bytes}
 use Rattle.cfg_program.specs.Calls.{Answers}
-use Rattle.cfg_program.specs.Scripts.{script_for}
+use Rattle.cfg_program.specs.Scripts.{script_of_one_call}
 use Rattle.cfg_program.specs.Regions.{RegionAnswers}
 use Rattle.cfg_program.specs.Tokens.{TokenAnswers}
+use Rattle.cfg_program.specs.Explained.{ExplainAnswers}
+use Rattle.cfg_program.specs.Audited.{AuditAnswers}
 use Rattle.cfg_program.specs.Local.{Handed, LocalAnswers}
 use Rattle.cfg_program.specs.Generated.{GeneratedWritten}
 use Rattle.cfg_program.specs.Written.{TextWritten, LinesWritten}
@@ -50,39 +52,46 @@ pub record WasRead (source : SourceSeen) (bytes : List ℕ) : Type 0 where
   pub short : length bytes ≤ most_bytes
 
 -- the input is this script, as a command reads it
-pub record IsScript (source : SourceSeen) (reads : List ℕ → Option Plain) (p : Plain) : Type 0 where
+pub record IsScript {P : Type 0} (source : SourceSeen) (reads : List ℕ → Option P) (p : P) : Type 0 where
   pub bytes : List ℕ
   pub read : WasRead source bytes
   pub script : reads bytes ≡ Some p
 
+-- how a command ends whose input is not known to its end
+abbrev pub EndsEarly : SourceSeen → Status → Type 0
+EndsEarly source status.SourceFault = Rose source.faults source.faults_after
+EndsEarly source status.OutOfMemory = ⊤
+EndsEarly source status.TooLong = IsTooLong source.left source.left_after
+EndsEarly source _ = ⊥
+
 -- how a command ends that finds no script
-abbrev pub EndsUnread : SourceSeen → (List ℕ → Option Plain) → Status → Type 0
+abbrev pub EndsUnread : {P : Type 0} → SourceSeen → (List ℕ → Option P) → Status → Type 0
 EndsUnread source reads status.NoScript = (bytes : List ℕ) × WasRead source bytes × (reads bytes ≡ None)
 EndsUnread source reads status.SourceFault = Rose source.faults source.faults_after
 EndsUnread source reads status.OutOfMemory = ⊤
 EndsUnread source reads status.TooLong = IsTooLong source.left source.left_after
 EndsUnread source reads _ = ⊥
 
--- the lines of the script's own calls were written
-pub record WritesLines (source : SourceSeen) (sink : SinkSeen) (reads : List ℕ → Option Plain) (answers : Plain → Bool → List ℕ → Type 0) (is_ok : Bool) : Type 0 where
-  pub p : Plain
+-- the lines of the script's own calls were written, and they call for this end
+pub record WritesLines {P E : Type 0} (source : SourceSeen) (sink : SinkSeen) (reads : List ℕ → Option P) (answers : P → E → List ℕ → Type 0) (end : E) : Type 0 where
+  pub p : P
   pub input : IsScript source reads p
   pub lines : List ℕ
-  pub answered : answers p is_ok lines
+  pub answered : answers p end lines
   pub written : Appends sink.written sink.written_after lines
 
 -- a prefix of those lines was written
-pub record WritesPrefix (source : SourceSeen) (sink : SinkSeen) (reads : List ℕ → Option Plain) (answers : Plain → Bool → List ℕ → Type 0) : Type 0 where
-  pub p : Plain
+pub record WritesPrefix {P E : Type 0} (source : SourceSeen) (sink : SinkSeen) (reads : List ℕ → Option P) (answers : P → E → List ℕ → Type 0) : Type 0 where
+  pub p : P
   pub input : IsScript source reads p
-  pub is_ok : Bool
+  pub end : E
   pub lines : List ℕ
-  pub answered : answers p is_ok lines
+  pub answered : answers p end lines
   pub written : GrowsByPrefix sink.written sink.written_after lines
 
 -- How a command ends that reads a script: by what it reads bytes as, and by what the calls of a script answer,
 -- that is, whether the last one gave what it was asked for, and their lines.
-abbrev pub EndsReading : SourceSeen → SinkSeen → (List ℕ → Option Plain) → (Plain → Bool → List ℕ → Type 0) → Status → Type 0
+abbrev pub EndsReading : {P : Type 0} → SourceSeen → SinkSeen → (List ℕ → Option P) → (P → Bool → List ℕ → Type 0) → Status → Type 0
 EndsReading source sink reads answers status.Done = WritesLines source sink reads answers true
 EndsReading source sink reads answers status.Refused = WritesLines source sink reads answers false
 EndsReading source sink reads answers status.UnknownCommand = ⊥
@@ -119,8 +128,10 @@ abbrev pub EndsRun : Seen → Handed → Option Command → Status → Type 0
 EndsRun seen handed None ended = EndsUnknown seen.sink ended
 EndsRun seen handed (Some Help) ended = TextWritten seen.sink HELP.now ended
 EndsRun seen handed (Some Version) ended = TextWritten seen.sink VERSION.now ended
-EndsRun seen handed (Some (Resolve below)) ended = EndsReading seen.source seen.sink (script_for (Resolve below)) (Answers handed.sources (form.Call below)) ended
-EndsRun seen handed (Some Region) ended = EndsReading seen.source seen.sink (script_for Region) RegionAnswers ended
-EndsRun seen handed (Some (Token below)) ended = EndsReading seen.source seen.sink (script_for (Token below)) (TokenAnswers below) ended
+EndsRun seen handed (Some (Resolve below)) ended = EndsReading seen.source seen.sink script_of (Answers handed.sources (form.Call below)) ended
+EndsRun seen handed (Some Region) ended = EndsReading seen.source seen.sink script_of_one_call RegionAnswers ended
+EndsRun seen handed (Some (Token below)) ended = EndsReading seen.source seen.sink script_of_one_call (TokenAnswers below) ended
+EndsRun seen handed (Some Explain) ended = EndsReading seen.source seen.sink script_of_one_call (ExplainAnswers handed.sources) ended
+EndsRun seen handed (Some Audit) ended = EndsReading seen.source seen.sink audit_of (AuditAnswers handed.sources) ended
 EndsRun seen handed (Some Local) ended = EndsLocal seen.sink seen.world handed ended
 EndsRun seen handed (Some (Generate n)) ended = GeneratedWritten seen.sink n ended

@@ -3,7 +3,7 @@ use Rattle.std.specs.Prelude.{ℕ, ◌==◌, List, Bool, true, false, Option, So
 use Rattle.cfg_script.specs.Script.{Plain}
 use Rattle.cfg_script.specs.Reading.{script_of}
 use Rattle.cfg_program.specs.declared.commands.Command.{Command}
-use Rattle.cfg_program.specs.declared.commands.Command.TheVariants.{Resolve, Region, Token}
+use Rattle.cfg_program.specs.declared.commands.Command.TheVariants.{Resolve, Region, Token, Explain, Audit}
 
 -- a script of one call
 abbrev pub of_one_call : Option Plain → Option Plain
@@ -19,10 +19,6 @@ abbrev pub reads_input : Command → Bool
 reads_input (Resolve below) = true
 reads_input Region = true
 reads_input (Token below) = true
+reads_input Explain = true
+reads_input Audit = true
 reads_input _ = false
-
--- what a command that does reads bytes as
-abbrev pub script_for : Command → List ℕ → Option Plain
-script_for Region bytes = script_of_one_call bytes
-script_for (Token below) bytes = script_of_one_call bytes
-script_for command bytes = script_of bytes

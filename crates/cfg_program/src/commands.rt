@@ -17,6 +17,10 @@ pub enum Command {
     Region,
     /// The bearer token that a script's default token chain gives, with this below the line of an error.
     Token(Below),
+    /// The call that a script describes, with the member of the chain that asked each question.
+    Explain,
+    /// Whether a script's journal can be that of a call.
+    Audit,
     /// One call over the variables and the world that are handed in.
     Local,
     /// One call over a set of so many profiles, at most [`MOST_PROFILES`].
@@ -38,6 +42,8 @@ usage: bujerova resolve < SCRIPT     a line for each call that the script descri
        bujerova region < SCRIPT      a line for the region of the script's default region chain
        bujerova token < SCRIPT       a line for the token of the script's default token chain
        bujerova why-token < SCRIPT   the same, and below an error what it comes of
+       bujerova explain < SCRIPT     a line for each question of the script's call: who asked it
+       bujerova audit < SCRIPT       whether the script's journal can be that of a call
        bujerova local                one line for a call over the variables and files here
        bujerova generate N           one line for a call over N profiles, 1 to 1000
        bujerova --help | --version
@@ -53,6 +59,8 @@ usage: bujerova resolve < SCRIPT
        bujerova region < SCRIPT
        bujerova token < SCRIPT
        bujerova why-token < SCRIPT
+       bujerova explain < SCRIPT
+       bujerova audit < SCRIPT
        bujerova local
        bujerova generate N
        bujerova --help | --version";
@@ -84,6 +92,10 @@ fn named(name: &str) -> Option<Command>
         Some(Command::Token(Below::Nothing))
     } else if name == "why-token" {
         Some(Command::Token(Below::Causes))
+    } else if name == "explain" {
+        Some(Command::Explain)
+    } else if name == "audit" {
+        Some(Command::Audit)
     } else if name == "local" {
         Some(Command::Local)
     } else if name == "--help" {

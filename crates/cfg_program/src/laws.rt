@@ -5,7 +5,7 @@ ghost use Rattle.cfg_world.specs.Fits.{Pair};
 ghost use Rattle.cfg_world.specs.declared.script.DeviceLists.{DeviceLists as Lists};
 ghost use Rattle.cfg_chain.specs.Settings.{ChainSetting};
 ghost use Rattle.cfg_providers.specs.CustomSources.{NamedAnswer};
-ghost use Rattle.cfg_script.specs.Script.{Plain};
+ghost use Rattle.cfg_script.specs.Script.{Plain, PlainAudit};
 ghost use Rattle.cfg_program.specs.declared.causes.Below.{Below};
 ghost use Rattle.cfg_program.specs.declared.status.Status.{Status as Ended};
 ghost use Rattle.cfg_program.specs.declared.commands.Command.{Command};
@@ -19,9 +19,11 @@ ghost use Rattle.cfg_program.specs.Escapes.{escaped_in_word};
 ghost use Rattle.cfg_program.specs.Calls.{AnswersOver, Answers};
 ghost use Rattle.cfg_program.specs.Generated.{GeneratedAnswers};
 ghost use Rattle.cfg_program.specs.Run.{Seen, EndsRun};
-ghost use Rattle.cfg_program.specs.Scripts.{reads_input, script_for};
+ghost use Rattle.cfg_program.specs.Scripts.{reads_input};
 ghost use Rattle.cfg_program.specs.Regions.{RegionAnswers};
 ghost use Rattle.cfg_program.specs.Tokens.{TokenAnswers};
+ghost use Rattle.cfg_program.specs.Explained.{ExplainAnswers};
+ghost use Rattle.cfg_program.specs.Audited.{AuditAnswers};
 ghost use Rattle.cfg_program.specs.Local.{Handed, LocalAnswers};
 ghost use Rattle.cfg_program.specs.Exclusion.{BytesAreKnown, AppendTheSame, GainTheSame, CallsFor, depends_on_input, comes};
 
@@ -60,6 +62,19 @@ pub fn one_script_has_one_token()
         TokenAnswers below script is_token line → TokenAnswers below script is_other other → (is_token ≡ is_other) × (line ≡ other) }
 {}
 
+/// A script has one list of lines that tell who asked each question of its call, and one status, where the caller's own
+/// sources are the same.
+pub fn one_script_is_explained_in_one_way()
+    ensures { (sources : List NamedAnswer) (script : Plain) (is_credentials is_other : Bool) (lines other : List ℕ) →
+        ExplainAnswers sources script is_credentials lines → ExplainAnswers sources script is_other other → (is_credentials ≡ is_other) × (lines ≡ other) }
+{}
+
+/// The script of an audit has one line, and one status, where the caller's own sources are the same.
+pub fn one_script_has_one_audit()
+    ensures { (sources : List NamedAnswer) (script : PlainAudit) (is_yes is_other : Bool) (line other : List ℕ) →
+        AuditAnswers sources script is_yes line → AuditAnswers sources script is_other other → (is_yes ≡ is_other) × (line ≡ other) }
+{}
+
 /// The call over what is handed in has one line, and one status, for what the world's journal gained.
 pub fn one_journal_has_one_line()
     ensures { (handed : Handed) (part : List Pair) (is_credentials is_other : Bool) (line other : List ℕ) →
@@ -94,7 +109,7 @@ pub fn runs_over_one_input_are_alike()
 /// command that reads them ends with it, or with a fault, or memory runs out.
 pub fn a_refusal_comes_where_the_input_calls_for_it()
     ensures { (seen : Seen) (handed : Handed) (command : Command) (cause ended : Ended)
-        → BytesAreKnown seen → IsTrue (reads_input command) → CallsFor seen (script_for command) cause → IsTrue (depends_on_input ended)
+        → BytesAreKnown seen → IsTrue (reads_input command) → CallsFor seen command cause → IsTrue (depends_on_input ended)
         → EndsRun seen handed (Some command) ended → ended ≡ cause }
 {}
 

@@ -1,11 +1,13 @@
 //! The program without its process: `run` does what a command asks for, over any source, sink and
-//! world, and answers how it ended. It stands on cfg_chain, cfg_region, cfg_token_chain, cfg_script and
+//! world, and answers how it ended. It stands on cfg_chain, cfg_region, cfg_token_chain, cfg_explain, cfg_script and
 //! cfg_error_report.
 #![tactic(auto)]
 
+mod audit;
 mod causes;
 mod commands;
 mod configuration;
+mod explain;
 mod generated;
 mod input;
 pub mod laws;

@@ -4,9 +4,10 @@ ghost use Rattle.std.specs.List.{flat_map};
 ghost use Rattle.std.specs.Fmt.{decimal, signed_decimal};
 ghost use Rattle.cfg_error_report.specs.CredentialsCauses.{causes_of};
 ghost use Rattle.cfg_program.specs.CauseLines.{with_below};
-ghost use Rattle.cfg_program.specs.Lines.{shown_text, three_digits as three_digits_of, nine_digits as nine_digits_of, shown_expiry, name_of_question, name_of_request, kind as kind_of, later_kind, kinds as kinds_of, shown_credentials, shown_outcome, shown, is_assume_role as is_assume_role_of, exchanges as exchanges_of, shown_generated, shown_as};
+ghost use Rattle.cfg_program.specs.Lines.{shown_text, three_digits as three_digits_of, nine_digits as nine_digits_of, shown_expiry, kind as kind_shown, later_kind, kinds as kinds_of, shown_credentials, shown_outcome, shown, is_assume_role as is_assume_role_of, exchanges as exchanges_of, shown_generated, shown_as};
 
 use crate::causes::{Below, write_causes};
+use cfg_explain::kind_of;
 use cfg_types::{Credentials, CredentialsError, Instant, OutOfMemory, Request};
 use cfg_world::{Answer, Entry, Question};
 use percent_encoding::{AsciiSet, CONTROLS, ascii_set, percent_encode};
@@ -62,9 +63,10 @@ fn write_with_below(
     }
 }
 
-// The kind of outcome, what it tells, and the kinds of the questions, each with `!` where it failed.
+/// Writes the kind of outcome, what it tells, and the kinds of the questions, each with `!` where it failed. `AllocError`
+/// where memory runs out.
 #[tactic(auto, using(std::proofs::lemmas::Grind::common_steps), unfolding(crate::specs::Lines::shown))]
-fn write_asked(
+pub fn write_asked(
     line: &mut Vec<u8>,
     outcome: &Result<Credentials, CredentialsError>,
     journal: &[Entry],
@@ -174,42 +176,13 @@ fn write_later_kinds(line: &mut Vec<u8>, journal: &[Entry]) -> Result<(), AllocE
 }
 
 fn write_kind(line: &mut Vec<u8>, entry: &Entry) -> Result<(), AllocError>
-    ensures { OnOk result (line.new.items ≡ line.old.items ++ kind_of entry.now) }
+    ensures { OnOk result (line.new.items ≡ line.old.items ++ kind_shown entry.now) }
 {
-    write_word(line, question_name(entry.question()))?;
+    write_word(line, kind_of(entry.question()).as_bytes())?;
     if let Answer::Failed(_) = entry.answer() {
         line.push(b'!')?;
     }
     Ok(())
-}
-
-fn question_name(question: &Question) -> &'static [u8]
-    ensures { result.now ≡ name_of_question question.now }
-{
-    match question {
-        Question::Now => b"now",
-        Question::Jitter => b"jitter",
-        Question::Read { .. } => b"read",
-        Question::Write { .. } => b"write",
-        Question::Run { .. } => b"run",
-        Question::LookUp { .. } => b"lookup",
-        Question::Send(request) => request_name(request.get()),
-    }
-}
-
-fn request_name(request: &Request) -> &'static [u8]
-    ensures { result.now ≡ name_of_request request.now }
-{
-    match request {
-        Request::Http(_) => b"http",
-        Request::MetadataToken(_) => b"imds-token",
-        Request::MetadataGet(_) => b"imds-get",
-        Request::AssumeRole(_) => b"assume-role",
-        Request::AssumeRoleWithWebIdentity(_) => b"web-identity",
-        Request::GetRoleCredentials(_) => b"role-credentials",
-        Request::CreateToken(_) => b"create-token",
-        Request::CreateOAuth2Token(_) => b"sign-in",
-    }
 }
 
 /// Writes these bytes as they are. `AllocError` where memory runs out.
@@ -253,7 +226,8 @@ fn write_signed(line: &mut Vec<u8>, number: i64) -> Result<(), AllocError>
     Ok(())
 }
 
-fn write_number(line: &mut Vec<u8>, number: u64) -> Result<(), AllocError>
+/// Writes a number in decimal digits. `AllocError` where memory runs out.
+pub fn write_number(line: &mut Vec<u8>, number: u64) -> Result<(), AllocError>
     ensures { OnOk result (line.new.items ≡ line.old.items ++ decimal number) }
 {
     let mut digits = itoa::Buffer::new();

@@ -1,6 +1,6 @@
 //! The call over the variables and the world that are handed in.
 ghost use Rattle.std.specs.Prelude.{IfOk, OnErr, map};
-ghost use Rattle.cfg_base.specs.TextMap.{named};
+ghost use Rattle.cfg_base.specs.TextMap.{named as variable};
 ghost use Rattle.cfg_chain.specs.Settings.{with_sources};
 ghost use Rattle.cfg_chain.specs.Views.{named_sources, chain_of};
 ghost use Rattle.cfg_program.specs.Local.{local_configuration, GrowsByCall, StopsInCall};
@@ -25,9 +25,9 @@ pub fn call_locally<D: Devices>(
     custom: Vec<CustomSource>,
     world: &mut World<D>,
 ) -> Result<Answered, OutOfMemory>
-    ensures made { let over = with_sources (local_configuration (map named variables.items)) (named_sources value custom.items) in
+    ensures made { let over = with_sources (local_configuration (map variable variables.items)) (named_sources value custom.items) in
         IfOk result (λ a. GrowsByCall ⟦<D as Devices>⟧ over world.old world.new a.is_ok a.lines.items) }
-    ensures stopped { let over = with_sources (local_configuration (map named variables.items)) (named_sources value custom.items) in
+    ensures stopped { let over = with_sources (local_configuration (map variable variables.items)) (named_sources value custom.items) in
         OnErr result (StopsInCall ⟦<D as Devices>⟧ over world.old world.new) }
 {
     let env = Env::new(alloc, variables)?;

@@ -3,23 +3,27 @@ ghost use Rattle.std.specs.Prelude.{◌≡◌, ◌≤◌, IsTrue, None, false, I
 ghost use Rattle.cfg_base.specs.TextMap.{named};
 ghost use Rattle.cfg_world.specs.Script.{AllFit};
 ghost use Rattle.cfg_chain.specs.Views.{named_sources};
-ghost use Rattle.cfg_script.specs.Script.{plain};
+ghost use Rattle.cfg_script.specs.Script.{plain, plain_audit};
 ghost use Rattle.cfg_script.specs.Devices.{lists_of};
-ghost use Rattle.cfg_script.specs.Reading.{script_of};
+ghost use Rattle.cfg_script.specs.Reading.{script_of, audit_of};
 ghost use Rattle.cfg_program.specs.Commands.{command_named, is_command, most_profiles};
 ghost use Rattle.cfg_program.specs.Scripts.{reads_input, script_of_one_call};
 ghost use Rattle.cfg_program.specs.Written.{TextWritten, LinesWritten};
 ghost use Rattle.cfg_program.specs.Calls.{Answers};
 ghost use Rattle.cfg_program.specs.Regions.{RegionAnswers};
 ghost use Rattle.cfg_program.specs.Tokens.{TokenAnswers};
+ghost use Rattle.cfg_program.specs.Explained.{ExplainAnswers};
+ghost use Rattle.cfg_program.specs.Audited.{AuditAnswers};
 ghost use Rattle.cfg_program.specs.Local.{LeavesWorld, WorldAfter};
 ghost use Rattle.cfg_program.specs.Streams.{source_seen, sink_seen};
-ghost use Rattle.cfg_program.specs.Run.{EndsRun, EndsReading, EndsUnread, EndsLocal, IsScript, world_seen};
+ghost use Rattle.cfg_program.specs.Run.{EndsRun, EndsReading, EndsUnread, EndsEarly, EndsLocal, WasRead, IsScript, world_seen};
 ghost use Rattle.cfg_program.specs.Exclusion.{comes};
 ghost use Rattle.cfg_program.specs.Generated.{GeneratedWritten};
 
+use crate::audit::audit;
 use crate::causes::Below;
 use crate::commands::{Command, HELP, VERSION, command_of};
+use crate::explain::explain;
 use crate::generated::generate;
 use crate::input::{InputError, read_all};
 use crate::lines::LineForm;
@@ -31,19 +35,19 @@ use crate::resolve::resolve;
 use crate::status::Status;
 use crate::token::find_token;
 use cfg_providers::CustomSource;
-use cfg_script::{Script, ScriptError, read_script};
+use cfg_script::{AuditScript, Script, ScriptError, read_audit, read_script};
 use cfg_types::{EnvText, OutOfMemory};
 use cfg_world::{Devices, Sink, Source, StreamFault, World};
 use std::alloc::Global;
 
-/// Does what the program's arguments ask for: tells a text, or reads a script from the source and writes the lines
-/// of its calls, or of its default region or token chain, to the sink, or writes the line of the call
-/// over a set of profiles that comes from a number, or of the call over `env` and the world. It answers how that
-/// ended. The arguments are read first: where they are no command that reads a script the source stays as it was, and for an
-/// unknown command the sink too. Nothing is written before the script was read to its end. The commands `resolve`,
-/// `why` and `local` alone give their chain the sources in `custom`, which profiles find by `credential_source`. The command
-/// `local` alone asks the world, whose journal gains its questions; without it `env` is left aside, and the world
-/// stays as it was.
+/// Does what the program's arguments ask for: tells a text; or reads a script from the source and writes the lines of
+/// its calls, or of its default region or token chain, to the sink, or which member asked each question of its call, or
+/// whether its journal can be that of a call; or writes the line of the call over a set of profiles that comes from a
+/// number, or of the call over `env` and the world. It answers how that ended. The arguments are read first: where they
+/// are no command that reads a script the source stays as it was, and for an unknown command the sink too. Nothing is
+/// written before the script was read to its end. The commands `resolve`, `why`, `explain`, `audit` and `local` alone
+/// give their chain the sources in `custom`, which profiles find by `credential_source`. The command `local` alone asks
+/// the world, whose journal gains its questions; without it `env` is left aside, and the world stays as it was.
 pub fn run<S: Source, K: Sink, D: Devices>(
     alloc: Global,
     arguments: &[String],
@@ -76,6 +80,8 @@ pub fn run<S: Source, K: Sink, D: Devices>(
         }
         Some(Command::Region) => region_line(alloc, source, sink),
         Some(Command::Token(below)) => token_line(alloc, source, sink, below),
+        Some(Command::Explain) => explain_lines(alloc, source, sink, custom),
+        Some(Command::Audit) => audit_line(alloc, source, sink, custom),
         Some(Command::Local) => local_line(alloc, sink, env, world, custom),
         Some(Command::Generate(n)) => generate_line(alloc, n, sink),
     }
@@ -146,6 +152,44 @@ fn token_line<S: Source, K: Sink>(
     }
 }
 
+// Reads a script of one call, makes it, and writes who asked each question, and its line.
+fn explain_lines<S: Source, K: Sink>(
+    alloc: Global,
+    source: &mut S,
+    sink: &mut K,
+    custom: Vec<CustomSource>,
+) -> Status
+    ensures { EndsReading (source_seen ⟦<S as Source>⟧ source.old source.new) (sink_seen ⟦<K as Sink>⟧ sink.old sink.new)
+        script_of_one_call (ExplainAnswers (named_sources value custom.items)) result }
+{
+    match one_call_in(alloc, source) {
+        Ok(script) => match explain(alloc, script, custom) {
+            Ok(answered) => write_lines(sink, &answered),
+            Err(OutOfMemory) => Status::OutOfMemory,
+        },
+        Err(ended) => ended,
+    }
+}
+
+// Reads a script of an audit, and writes whether its journal can be that of a call.
+fn audit_line<S: Source, K: Sink>(
+    alloc: Global,
+    source: &mut S,
+    sink: &mut K,
+    custom: Vec<CustomSource>,
+) -> Status
+    ensures { EndsReading (source_seen ⟦<S as Source>⟧ source.old source.new) (sink_seen ⟦<K as Sink>⟧ sink.old sink.new)
+        audit_of (AuditAnswers (named_sources value custom.items)) result }
+{
+    match audit_in(alloc, source) {
+        Ok(script) => match audit(alloc, script, custom) {
+            Ok(answered) => write_lines(sink, &answered),
+            Err(OutOfMemory) => Status::OutOfMemory,
+        },
+        Err(ended) => ended,
+    }
+}
+
 // The script of one call that the source has, or how a run ends that finds none.
 fn one_call_in<S: Source>(alloc: Global, source: &mut S) -> Result<Script, Status>
     ensures read { let seen = source_seen ⟦<S as Source>⟧ source.old source.new in
@@ -166,21 +210,44 @@ fn one_call_in<S: Source>(alloc: Global, source: &mut S) -> Result<Script, Statu
 }
 
 // The script that the source has, or how a run ends that finds none.
+#[tactic(auto, using(crate::proofs::Endings::early_unread))]
 fn script_in<S: Source>(alloc: Global, source: &mut S) -> Result<Script, Status>
     ensures read { let seen = source_seen ⟦<S as Source>⟧ source.old source.new in
         MatchResult result (λ script. IsScript seen script_of (plain script)) (λ ended. EndsUnread seen script_of ended) }
     ensures fit { IfOk result (λ script. AllFit (lists_of (plain script))) }
 {
-    let bytes = match read_all(alloc, source) {
-        Ok(bytes) => bytes,
-        Err(InputError::Fault) => return Err(Status::SourceFault),
-        Err(InputError::OutOfMemory) => return Err(Status::OutOfMemory),
-        Err(InputError::TooLong) => return Err(Status::TooLong),
-    };
+    let bytes = bytes_in(alloc, source)?;
     match read_script(alloc, bytes.as_slice()) {
         Ok(script) => Ok(script),
         Err(ScriptError::NoScript) => Err(Status::NoScript),
         Err(ScriptError::OutOfMemory) => Err(Status::OutOfMemory),
+    }
+}
+
+// The script of an audit that the source has, or how a run ends that finds none.
+#[tactic(auto, using(crate::proofs::Endings::early_unread))]
+fn audit_in<S: Source>(alloc: Global, source: &mut S) -> Result<AuditScript, Status>
+    ensures { let seen = source_seen ⟦<S as Source>⟧ source.old source.new in
+        MatchResult result (λ script. IsScript seen audit_of (plain_audit script)) (λ ended. EndsUnread seen audit_of ended) }
+{
+    let bytes = bytes_in(alloc, source)?;
+    match read_audit(alloc, bytes.as_slice()) {
+        Ok(script) => Ok(script),
+        Err(ScriptError::NoScript) => Err(Status::NoScript),
+        Err(ScriptError::OutOfMemory) => Err(Status::OutOfMemory),
+    }
+}
+
+// All bytes of the source, or how a run ends that has not got them.
+fn bytes_in<S: Source>(alloc: Global, source: &mut S) -> Result<Vec<u8>, Status>
+    ensures { let seen = source_seen ⟦<S as Source>⟧ source.old source.new in
+        MatchResult result (λ bytes. WasRead seen bytes.items) (λ ended. EndsEarly seen ended) }
+{
+    match read_all(alloc, source) {
+        Ok(bytes) => Ok(bytes),
+        Err(InputError::Fault) => Err(Status::SourceFault),
+        Err(InputError::OutOfMemory) => Err(Status::OutOfMemory),
+        Err(InputError::TooLong) => Err(Status::TooLong),
     }
 }
 

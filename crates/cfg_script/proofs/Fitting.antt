@@ -21,7 +21,7 @@ use Rattle.cfg_script.specs.declared.fault.Wanted.{Wanted}
 use Rattle.cfg_script.specs.declared.fault.Wanted.TheVariants as wanted
 use Rattle.cfg_script.specs.Json.{without}
 use Rattle.cfg_script.specs.Faults.{under, under_place, wanting, unless}
-use Rattle.cfg_script.specs.Forms.{Form, each, list_by, list_of, word_or}
+use Rattle.cfg_script.specs.Forms.{Form, each, list_by, list_of, whole_form, word_or}
 use Rattle.cfg_script.specs.Objects.{MemberForm, ObjectForm, ◌&◌, nothing_more, list_member, optional_member, required_member, or_missing, unknown_name, only}
 use Rattle.cfg_script.specs.Scalars.{text, characters_of, boolean, unsigned_of, unsigned_integer, is_call_count, call_count_of, call_count}
 use Rattle.cfg_script.specs.Moments.{moment_from, clock_from, clock_moment}
@@ -37,12 +37,12 @@ use Rattle.cfg_script.proofs.Steps.{went_some}
 
 -- ---- steps
 
-record Went {A B E : Type 0} (r : Result A E) (f : A → Result B E) (y : B) : Type 0 where
-  value : A
-  is : r ≡ Ok value
-  next : f value ≡ Ok y
+pub record Went {A B E : Type 0} (r : Result A E) (f : A → Result B E) (y : B) : Type 0 where
+  pub value : A
+  pub is : r ≡ Ok value
+  pub next : f value ≡ Ok y
 
-went : {A B E : Type 0} (r : Result A E) (f : A → Result B E) (y : B) → (r >>= f) ≡ Ok y → Went r f y
+pub went : {A B E : Type 0} (r : Result A E) (f : A → Result B E) (y : B) → (r >>= f) ≡ Ok y → Went r f y
 went (Ok x) f y e = record { value = x; is = refl; next = e }
 went (Err x) f y e = cc
 
@@ -105,7 +105,7 @@ module _ {A : Type 0} (P : A → Type 0) where
 some_good : {A : Type 0} (P : A → Type 0) (said a : A) → Some said ≡ Some a → P said → P a
 some_good P said a e good = subst P (let is : said ≡ a = cc in is) good
 
-ok_good : {A : Type 0} (P : A → Type 0) (said a : A) → ◌≡◌ {A = Result A Fault} (Ok said) (Ok a) → P said → P a
+pub ok_good : {A : Type 0} (P : A → Type 0) (said a : A) → ◌≡◌ {A = Result A Fault} (Ok said) (Ok a) → P said → P a
 ok_good P said a e good = subst P (let is : said ≡ a = cc in is) good
 
 -- ---- items
@@ -114,7 +114,7 @@ not_below : (z : ℤ) → int_lt z (pos 0) ≡ false → pos 0 ≤ℤ z
 not_below (pos n) e = omega (arith, ints)
 not_below (negsuc n) e = cc
 
-clock_good : (d : Data) (m : Moment) → clock_moment d ≡ Ok m → pos 0 ≤ℤ m.seconds
+pub clock_good : (d : Data) (m : Moment) → clock_moment d ≡ Ok m → pos 0 ≤ℤ m.seconds
 unfolding clock_from
 clock_good d m e =
     let w = went_some (moment_from d) (λ x. if int_lt x.seconds (pos 0) then None else Some x) m (was_there wanted.ClockMoment (clock_from d) m e) in
@@ -177,22 +177,22 @@ sign_in_good = reply_good IsSignIn (Some no_sign_in) sign_in_grant (λ x h. some
 -- ---- members
 
 -- what each member says, and each object
-record MemberSays {A : Type 0} (m : MemberForm A) (P : A → Type 0) : Type 0 where
-  says : (value : Option Data) (a : A) → m.read value ≡ Ok a → P a
+pub record MemberSays {A : Type 0} (m : MemberForm A) (P : A → Type 0) : Type 0 where
+  pub says : (value : Option Data) (a : A) → m.read value ≡ Ok a → P a
 
-record ObjectSays {A : Type 0} (object : ObjectForm A) (P : A → Type 0) : Type 0 where
-  says : (ms : Members) (a : A) → object.read ms ≡ Ok a → P a
+pub record ObjectSays {A : Type 0} (object : ObjectForm A) (P : A → Type 0) : Type 0 where
+  pub says : (ms : Members) (a : A) → object.read ms ≡ Ok a → P a
 
-free : {A : Type 0} (m : MemberForm A) → MemberSays m (λ a. Unit {0})
+pub free : {A : Type 0} (m : MemberForm A) → MemberSays m (λ a. Unit {0})
 free m = record { says = λ value a e. tt }
 
-items : {A : Type 0} (name : List ℕ) (form : Form A) (P : A → Type 0) → ((d : Data) (a : A) → form d ≡ Ok a → P a) → MemberSays (list_member name form) (All P)
+pub items : {A : Type 0} (name : List ℕ) (form : Form A) (P : A → Type 0) → ((d : Data) (a : A) → form d ≡ Ok a → P a) → MemberSays (list_member name form) (All P)
 items name form P good = record { says = list_good P form good }
 
-none_left : ObjectSays nothing_more (λ u. Unit {0})
+pub none_left : ObjectSays nothing_more (λ u. Unit {0})
 none_left = record { says = λ ms u e. tt }
 
-and : {A B : Type 0} {m : MemberForm A} {others : ObjectForm B} {P : A → Type 0} {Q : B → Type 0} → MemberSays m P → ObjectSays others Q → ObjectSays (m & others) (λ p. P p.0 × Q p.1)
+pub and : {A B : Type 0} {m : MemberForm A} {others : ObjectForm B} {P : A → Type 0} {Q : B → Type 0} → MemberSays m P → ObjectSays others Q → ObjectSays (m & others) (λ p. P p.0 × Q p.1)
 and {A} {B} {m} {others} h k = record {
   says = λ ms p e.
       let both = parts _ (m.read (get_member m.name ms)) (others.read (without m.name ms)) p e in
@@ -292,21 +292,21 @@ count_chosen : (b : Bool) (n m : ℕ) → is_call_count n ≡ b → cond b (Some
 count_chosen true n m h e = some_good (λ k. IsTrue (is_call_count k)) n m e h
 count_chosen false n m h e = cc
 
-count_good : (d : Data) (n : ℕ) → call_count d ≡ Ok n → IsTrue (is_call_count n)
+pub count_good : (w : Wanted) (d : Data) (n : ℕ) → whole_form w call_count_of d ≡ Ok n → IsTrue (is_call_count n)
 unfolding call_count_of
-count_good d n e =
-    let w = went_some (unsigned_of d) (λ k. if is_call_count k then Some k else None) n (was_there wanted.Calls (call_count_of d) n e) in
-    count_chosen (is_call_count w.value) w.value n refl w.next
+count_good w d n e =
+    let said = went_some (unsigned_of d) (λ k. if is_call_count k then Some k else None) n (was_there w (call_count_of d) n e) in
+    count_chosen (is_call_count said.value) said.value n refl said.next
 
 -- so many calls, or one where nothing is said of them
-abbrev IsCounted : Option ℕ → Type 0
+abbrev pub IsCounted : Option ℕ → Type 0
 IsCounted o = IsTrue (is_call_count (unwrap_or o 1))
 
-calls_good : (m : Option Data) (o : Option ℕ) → (optional_member (codes "calls") call_count).read m ≡ Ok o → IsCounted o
+pub calls_good : (m : Option Data) (o : Option ℕ) → (optional_member (codes "calls") call_count).read m ≡ Ok o → IsCounted o
 calls_good None o e = ok_good IsCounted None o e refl
 calls_good (Some d) o e =
     let w = went (call_count d) (λ n. Ok (Some n)) o e in
-    ok_good IsCounted (Some w.value) o w.next (count_good d w.value w.is)
+    ok_good IsCounted (Some w.value) o w.next (count_good wanted.Calls d w.value w.is)
 
 module _ {B : Type 0} {others : ObjectForm B} {P : B → Type 0} where
   -- the settings say nothing of their own but how many calls there are
@@ -355,7 +355,7 @@ module _ {A : Type 0} (object : ObjectForm A) (P : A → Type 0) (says : ObjectS
   json_says None a e = cc
   json_says (Some d) a e = value_says d a (reason_left (value_said object d) a e)
 
-  bytes_say : (bytes : List ℕ) (a : A) → bytes_said object bytes ≡ Ok a → P a
+  pub bytes_say : (bytes : List ℕ) (a : A) → bytes_said object bytes ≡ Ok a → P a
   unfolding bytes_said
   bytes_say bytes a e = json_says (json_value bytes) a e
 

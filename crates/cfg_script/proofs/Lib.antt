@@ -4,6 +4,7 @@ pub mod AddressText
 pub mod HeaderNames
 pub mod Steps
 pub mod Fitting
+pub mod EndpointFits
 pub mod InPlace
 pub mod Placing
 pub mod Ways

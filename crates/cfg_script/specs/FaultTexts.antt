@@ -46,6 +46,12 @@ wanted_text wanted.Reply = codes "a reply is what the service grants, a refusal,
 wanted_text wanted.RefusalKind = codes "a refusal is RegionDisabled, MalformedPolicyDocument, InsufficientPermissions, TokenExpired, UserCredentialsChanged or Other"
 wanted_text wanted.Callers = codes "callers are a list of 1 to 16 objects"
 wanted_text wanted.Caller = codes "a caller is an object of lists"
+wanted_text wanted.Entry = codes "an entry is [kind, answer]"
+wanted_text wanted.Kind = codes "a kind is now, jitter, read, write, run, lookup or the name of a list of replies"
+wanted_text wanted.Written = codes "a write is true or \"fail\""
+wanted_text wanted.Mode = codes "a mode is container or metadata"
+wanted_text wanted.NoRole = codes "a container has no role"
+wanted_text wanted.CallNumber = codes "the number of a call is a whole number from 1 to 100"
 
 -- a letter, a digit, `-` or `_`
 abbrev pub is_plain : ℕ → Bool

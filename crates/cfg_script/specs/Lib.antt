@@ -12,6 +12,8 @@ pub mod Addresses
 pub mod Replies
 pub mod Settings
 pub mod Shares
+pub mod Audits
 pub mod Reading
+pub mod Endpoints
 pub mod FaultTexts
 pub mod Devices

@@ -10,9 +10,10 @@ use Rattle.serde_json.specs.declared.value.Value.{Value}
 use Rattle.cfg_base.specs.Gives.{◌>>=◌}
 use Rattle.cfg_script.specs.Faults.{member_fault, wanting, unless}
 use Rattle.cfg_script.specs.Objects.{ObjectForm, unknown_name}
-use Rattle.cfg_script.specs.Script.{Plain, PlainShare}
+use Rattle.cfg_script.specs.Script.{Plain, PlainShare, PlainAudit}
 use Rattle.cfg_script.specs.Settings.{script}
 use Rattle.cfg_script.specs.Shares.{share}
+use Rattle.cfg_script.specs.Audits.{audit}
 use Rattle.cfg_script.specs.declared.fault.Fault.{Fault}
 use Rattle.cfg_script.specs.declared.fault.Position.{Position}
 use Rattle.cfg_script.specs.declared.fault.ScriptFault.{ScriptFault}
@@ -70,6 +71,13 @@ share_of bytes = result_ok (bytes_said share bytes)
 
 unfoldable pub share_fault_of : List ℕ → Option Reason
 share_fault_of bytes = result_err (bytes_said share bytes)
+
+-- the same of a script of an audit
+unfoldable pub audit_of : List ℕ → Option PlainAudit
+audit_of bytes = result_ok (bytes_said audit bytes)
+
+unfoldable pub audit_fault_of : List ℕ → Option Reason
+audit_fault_of bytes = result_err (bytes_said audit bytes)
 
 -- ---- what a call that reads bytes holds of them
 

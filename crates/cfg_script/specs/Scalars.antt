@@ -92,3 +92,7 @@ call_count_of d = unsigned_of d >>= λ n. if is_call_count n then Some n else No
 
 abbrev pub call_count : Form ℕ
 call_count = whole_form wanted.Calls call_count_of
+
+-- the number of a call, of so many as there may be
+abbrev pub call_number : Form ℕ
+call_number = whole_form wanted.CallNumber call_count_of

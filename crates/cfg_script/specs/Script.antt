@@ -3,9 +3,11 @@ use Rattle.std.specs.Prelude.{ℕ, List, Bool, Option, option_map, map, string_b
 use Rattle.std.specs.declared.alloc.Global.{Global}
 use Rattle.cfg_base.specs.TextMap.{named}
 use Rattle.cfg_types.specs.declared.environment.EnvText.{EnvText}
+use Rattle.cfg_world.specs.declared.ask.Answer.{Answer}
 use Rattle.cfg_world.specs.declared.script.DeviceLists.{DeviceLists}
 use Rattle.cfg_script.specs.declared.script.Script.{Script}
 use Rattle.cfg_script.specs.declared.script.ShareScript.{ShareScript}
+use Rattle.cfg_script.specs.declared.script.AuditScript.{AuditScript}
 use Rattle.cfg_script.specs.declared.script.ScriptProfiles.{ScriptProfiles}
 use Rattle.cfg_script.specs.declared.script.ScriptProfiles.TheVariants as held
 
@@ -77,4 +79,24 @@ plain_share s = record {
   sleep = s.sleep;
   calls = s.calls;
   callers = s.callers.items;
+}
+
+-- what one call is configured with, and a journal, by the kinds of its questions and by their answers
+pub record PlainAudit : Type 0 where
+  pub variables : List (List ℕ × EnvText)
+  pub profiles : PlainProfiles
+  pub selected : Option (List ℕ)
+  pub region : Option (List ℕ)
+  pub sleep : Bool
+  pub journal : List (List ℕ × Answer)
+
+-- what such a script says
+abbrev pub plain_audit : AuditScript → PlainAudit
+plain_audit s = record {
+  variables = map named s.variables.items;
+  profiles = plain_profiles s.profiles;
+  selected = option_map (λ t. string_bytes t) s.selected;
+  region = option_map (λ t. string_bytes t) s.region;
+  sleep = s.sleep;
+  journal = s.journal.items;
 }

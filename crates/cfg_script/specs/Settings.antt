@@ -83,13 +83,13 @@ lists_in rows = let queues = rows.1.1.1.1.1.1.0 in record {
 abbrev pub devices : ObjectForm DeviceLists
 devices = together lists_in device_members
 
--- what the settings say, in the order of their rows, and what the members behind them say
-abbrev pub SettingRows : Type 0 → Type 0
-SettingRows B = List (List ℕ × EnvText) × (List Section × (List Section × (Option (List ℕ) × (Option (List ℕ) × (Option (List ℕ) × (Option Bool × (Option ℕ × B)))))))
+-- what one call is configured with, in the order of the rows, and what the members behind that say
+abbrev pub ConfigurationRows : Type 0 → Type 0
+ConfigurationRows B = List (List ℕ × EnvText) × (List Section × (List Section × (Option (List ℕ) × (Option (List ℕ) × (Option (List ℕ) × (Option Bool × B))))))
 
--- the settings, and other members behind them
-abbrev pub settings : {B : Type 0} → ObjectForm B → ObjectForm (SettingRows B)
-settings others =
+-- what one call is configured with, and other members behind that
+abbrev pub configuration : {B : Type 0} → ObjectForm B → ObjectForm (ConfigurationRows B)
+configuration others =
     list_member (codes "variables") variable
     & list_member (codes "profiles") section
     & list_member (codes "sessions") section
@@ -97,8 +97,15 @@ settings others =
     & optional_member (codes "selected") text
     & optional_member (codes "region") text
     & optional_member (codes "sleep") boolean
-    & optional_member (codes "calls") call_count
     & others
+
+-- what the settings say, in the order of their rows, and what the members behind them say
+abbrev pub SettingRows : Type 0 → Type 0
+SettingRows B = ConfigurationRows (Option ℕ × B)
+
+-- the settings, and other members behind them
+abbrev pub settings : {B : Type 0} → ObjectForm B → ObjectForm (SettingRows B)
+settings others = configuration (optional_member (codes "calls") call_count & others)
 
 abbrev pub ScriptRows : Type 0
 ScriptRows = SettingRows DeviceLists

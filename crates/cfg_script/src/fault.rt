@@ -82,6 +82,18 @@ pub enum Wanted {
     Callers,
     /// An object of the lists of a caller's devices.
     Caller,
+    /// The name of a question's kind, and what it was answered.
+    Entry,
+    /// The name of a question's kind.
+    Kind,
+    /// That a file was written, or that it failed.
+    Written,
+    /// The name of an endpoint's mode.
+    Mode,
+    /// No role beside the mode of a container.
+    NoRole,
+    /// The number of a call, from 1 to 100.
+    CallNumber,
 }
 
 /// A value of another form than is wanted at its place.

@@ -55,6 +55,14 @@ impl fmt::Display for Wanted {
             }
             Wanted::Callers => "callers are a list of 1 to 16 objects",
             Wanted::Caller => "a caller is an object of lists",
+            Wanted::Entry => "an entry is [kind, answer]",
+            Wanted::Kind => {
+                "a kind is now, jitter, read, write, run, lookup or the name of a list of replies"
+            }
+            Wanted::Written => "a write is true or \"fail\"",
+            Wanted::Mode => "a mode is container or metadata",
+            Wanted::NoRole => "a container has no role",
+            Wanted::CallNumber => "the number of a call is a whole number from 1 to 100",
         })
     }
 }

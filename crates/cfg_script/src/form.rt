@@ -28,8 +28,12 @@ pub(crate) trait Form {
         ensures { Reads seen result (form (view value)) };
 }
 
-// The item at this place of a list.
-fn read_item<F: Form>(alloc: Global, place: usize, value: Value) -> Result<F::Read, FormError>
+/// The item at this place of a list.
+pub(crate) fn read_item<F: Form>(
+    alloc: Global,
+    place: usize,
+    value: Value,
+) -> Result<F::Read, FormError>
     ensures { Reads F.seen result (under_place place (F.form (view value))) }
 {
     match F::read(alloc, value) {

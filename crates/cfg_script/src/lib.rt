@@ -9,7 +9,9 @@
 //! (`specs/Settings`, `specs/Replies`).
 #![tactic(auto)]
 
+mod audits;
 mod callers;
+mod endpoint;
 mod fault;
 mod fault_text;
 mod form;
@@ -27,6 +29,9 @@ mod sections;
 mod settings;
 
 pub use cfg_types::OutOfMemory;
+pub use endpoint::{EndpointMode, EndpointScript, find_endpoint_fault, read_endpoint};
 pub use fault::{Fault, Position, ScriptFault, Step, Wanted};
-pub use reading::{find_fault, find_share_fault, read_script, read_share};
-pub use script::{Script, ScriptError, ScriptProfiles, ShareScript};
+pub use reading::{
+    find_audit_fault, find_fault, find_share_fault, read_audit, read_script, read_share,
+};
+pub use script::{AuditScript, Script, ScriptError, ScriptProfiles, ShareScript};

@@ -93,6 +93,16 @@ impl Name for Callers {
     }
 }
 
+pub(crate) struct Journal;
+
+impl Name for Journal {
+    ghost name = { codes "journal" };
+
+    fn name() -> &'static str {
+        "journal"
+    }
+}
+
 pub(crate) struct Files;
 
 impl Name for Files {
@@ -340,6 +350,36 @@ impl Name for Message {
 
     fn name() -> &'static str {
         "message"
+    }
+}
+
+pub(crate) struct Mode;
+
+impl Name for Mode {
+    ghost name = { codes "mode" };
+
+    fn name() -> &'static str {
+        "mode"
+    }
+}
+
+pub(crate) struct Role;
+
+impl Name for Role {
+    ghost name = { codes "role" };
+
+    fn name() -> &'static str {
+        "role"
+    }
+}
+
+pub(crate) struct ForgetAfter;
+
+impl Name for ForgetAfter {
+    ghost name = { codes "forget_after" };
+
+    fn name() -> &'static str {
+        "forget_after"
     }
 }
 

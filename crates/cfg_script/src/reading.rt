@@ -3,17 +3,18 @@ ghost use Rattle.std.specs.Prelude.{◌≡◌, All, Some, None, Err, IfOk, IsTru
 ghost use Rattle.serde_json.specs.View.{view, members_view};
 ghost use Rattle.cfg_script.specs.Gives.{Reads};
 ghost use Rattle.cfg_script.specs.Scalars.{is_call_count};
-ghost use Rattle.cfg_script.specs.Reading.{refused_beside, members_said, value_said, json_value, bytes_said, script_of, fault_of, share_of, share_fault_of, parsed_value, reason_of, plain_or_reason};
-ghost use Rattle.cfg_script.specs.Script.{plain, plain_share};
+ghost use Rattle.cfg_script.specs.Reading.{refused_beside, members_said, value_said, json_value, bytes_said, script_of, fault_of, share_of, share_fault_of, audit_of, audit_fault_of, parsed_value, reason_of, plain_or_reason};
+ghost use Rattle.cfg_script.specs.Script.{plain, plain_share, plain_audit};
 ghost use Rattle.cfg_script.specs.Shares.{is_caller_count};
 ghost use Rattle.cfg_script.specs.Devices.{lists_of};
 ghost use Rattle.cfg_world.specs.Script.{AllFit};
 
+use crate::audits::WholeAudit;
 use crate::callers::WholeShare;
 use crate::fault::{FormError, Position, ScriptFault, Wanted, member_fault, wanting};
 use crate::json::{member, members_of};
 use crate::object::{Object, places_of};
-use crate::script::{Script, ScriptError, ShareScript};
+use crate::script::{AuditScript, Script, ScriptError, ShareScript};
 use crate::settings::WholeScript;
 use cfg_types::{OutOfMemory, Text};
 use serde_json::{Map, Value};
@@ -65,8 +66,12 @@ fn read_value<O: Object>(alloc: Global, value: Value) -> Result<O::Read, FormErr
     read_members::<O>(alloc, members)
 }
 
+/// What the bytes say as an object with the members of this form, or why they are none.
 #[tactic(auto, unfolding(crate::specs::Reading::bytes_said))]
-fn read<O: Object>(alloc: Global, bytes: &[u8]) -> Result<Result<O::Read, ScriptFault>, OutOfMemory>
+pub(crate) fn read<O: Object>(
+    alloc: Global,
+    bytes: &[u8],
+) -> Result<Result<O::Read, ScriptFault>, OutOfMemory>
     ensures { IfOk result (λ read. plain_or_reason O.seen read ≡ bytes_said O.object_form bytes.now) }
 {
     let value = match parsed(alloc, bytes)? {
@@ -149,6 +154,40 @@ pub fn find_share_fault(alloc: Global, bytes: &[u8]) -> Result<Option<ScriptFaul
     ensures { IfOk result (λ o. option_map reason_of o ≡ share_fault_of bytes.now) }
 {
     match read::<WholeShare>(alloc, bytes)? {
+        Ok(_) => Ok(None),
+        Err(fault) => Ok(Some(fault)),
+    }
+}
+
+/// What the bytes say as a script of an audit: as [`read_script`] has it, but that in place of `calls` and of the lists
+/// of the devices it has the member `journal`, a list of the kinds of questions with an answer to each.
+///
+/// # Errors
+///
+/// - `NoScript`: the bytes are no such script. [`find_audit_fault`] tells why.
+/// - `OutOfMemory` where memory runs out, in place of any answer.
+#[tactic(auto, unfolding(crate::specs::Reading::audit_of))]
+pub fn read_audit(alloc: Global, bytes: &[u8]) -> Result<AuditScript, ScriptError>
+    ensures script { IfOk result (λ s. audit_of bytes.now ≡ Some (plain_audit s)) }
+    ensures no_script { result ≡ Err ScriptError.NoScript → audit_of bytes.now ≡ None }
+{
+    match read::<WholeAudit>(alloc, bytes) {
+        Ok(Ok(script)) => Ok(script),
+        Ok(Err(_)) => Err(ScriptError::NoScript),
+        Err(OutOfMemory) => Err(ScriptError::OutOfMemory),
+    }
+}
+
+/// Why the bytes are no script of an audit, in the order of [`find_fault`], or none where they are one.
+///
+/// # Errors
+///
+/// `OutOfMemory` where memory runs out, in place of any answer.
+#[tactic(auto, unfolding(crate::specs::Reading::audit_fault_of))]
+pub fn find_audit_fault(alloc: Global, bytes: &[u8]) -> Result<Option<ScriptFault>, OutOfMemory>
+    ensures { IfOk result (λ o. option_map reason_of o ≡ audit_fault_of bytes.now) }
+{
+    match read::<WholeAudit>(alloc, bytes)? {
         Ok(_) => Ok(None),
         Err(fault) => Ok(Some(fault)),
     }

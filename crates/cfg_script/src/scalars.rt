@@ -150,6 +150,26 @@ impl Form for CallCount {
     }
 }
 
+/// The number of a call.
+pub(crate) struct CallNumber;
+
+impl Form for CallNumber {
+    ghost use Rattle.std.specs.Prelude.{ℕ};
+    ghost use Rattle.cfg_script.specs.Scalars.{call_number};
+
+    type Read = u64;
+
+    ghost Plain = { ℕ };
+
+    ghost seen = { λ n. n };
+
+    ghost form = { call_number };
+
+    fn read(alloc: Global, value: Value) -> Result<u64, FormError> {
+        wanting(alloc, Wanted::CallNumber, read_call_count(&value))
+    }
+}
+
 #[tactic(auto, unfolding(crate::specs::Scalars::command_status_of))]
 fn read_command_status(value: &Value) -> Option<i32>
     ensures { result ≡ command_status_of (view value.now) }

@@ -3,7 +3,7 @@ ghost use Rattle.std.specs.Prelude.{◌≡◌};
 ghost use Rattle.cfg_script.specs.declared.script.ScriptError.TheVariants as error;
 
 use cfg_types::{EnvText, OutOfMemory, Text};
-use cfg_world::DeviceLists;
+use cfg_world::{Answer, DeviceLists};
 use std::alloc::{AllocError, AllocFailed};
 
 /// The sections of profile files, or the message that they are refused with.
@@ -57,6 +57,23 @@ pub struct ShareScript {
     pub calls: u64,
     /// What the devices of each caller answer, from 1 to 16 of them.
     pub callers: Vec<DeviceLists>,
+}
+
+/// What a script of an audit says: what one call is configured with, as a [`Script`] has it, and a journal.
+#[derive(Drop)]
+pub struct AuditScript {
+    /// Environment variables, in the script's order.
+    pub variables: Vec<(String, EnvText)>,
+    /// The sections of profile files, or that they are refused.
+    pub profiles: ScriptProfiles,
+    /// The selected profile's name, whatever the environment says. None leaves it to the environment.
+    pub selected: Option<String>,
+    /// The region of the calls that are sent, if they have one.
+    pub region: Option<String>,
+    /// Whether providers may sleep between attempts.
+    pub sleep: bool,
+    /// The kind of each question, by its name, and the answer to it, in order.
+    pub journal: Vec<(Text, Answer)>,
 }
 
 /// Why bytes were not read.

@@ -194,8 +194,8 @@ impl Object for Devices {
     }
 }
 
-/// The settings of a script, and other members behind them.
-pub(crate) type SettingMembers<O> = (
+/// What one call is configured with, and other members behind that.
+pub(crate) type ConfigurationMembers<O> = (
     ListOf<Variables, Variable>,
     (
         ListOf<Profiles, Section>,
@@ -205,15 +205,15 @@ pub(crate) type SettingMembers<O> = (
                 Optional<Refused, ValueText>,
                 (
                     Optional<Selected, KeyText>,
-                    (
-                        Optional<Region, KeyText>,
-                        (Optional<Sleep, Boolean>, (Optional<Calls, CallCount>, O)),
-                    ),
+                    (Optional<Region, KeyText>, (Optional<Sleep, Boolean>, O)),
                 ),
             ),
         ),
     ),
 );
+
+/// The settings of a script, and other members behind them.
+pub(crate) type SettingMembers<O> = ConfigurationMembers<(Optional<Calls, CallCount>, O)>;
 
 /// All members of a script: the settings, and the lists of the devices.
 pub(crate) type ScriptMembers = SettingMembers<Devices>;

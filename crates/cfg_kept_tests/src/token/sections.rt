@@ -2,24 +2,16 @@
 ghost use Rattle.std.specs.Prelude.{◌≡◌, true, IfOk};
 ghost use Rattle.cfg_token.specs.SsoTokens.{is_sso};
 
-use crate::sections::{polled, sections};
-use cfg_token::{CachedSsoToken, TokenKey, TokenState};
-use cfg_types::{OutOfMemory, Region, Text};
+use crate::sections::{polled, sections, session_key};
+use cfg_token::{CachedSsoToken, TokenState};
+use cfg_types::OutOfMemory;
 use std::alloc::Global;
 use std::test::Fail;
 
 pub(crate) fn state(alloc: Global) -> Result<TokenState<CachedSsoToken>, OutOfMemory>
     ensures { IfOk result (λ s. is_sso s.key ≡ true) }
 {
-    let session = Text::of(alloc, "abc")?;
-    let region = Region::new(alloc, "us-east-1")?;
-    let start_url = Text::of(alloc, "u")?;
-    let key = TokenKey::Sso {
-        session,
-        region,
-        start_url,
-    };
-    Ok(TokenState::new(alloc, key))
+    Ok(TokenState::new(alloc, session_key(alloc)?))
 }
 
 const SCRIPTS: &[(&str, &str)] = &[

@@ -126,6 +126,32 @@ fn words(rt: HostRuntime) -> Result<(), Fail> {
             "Refused error InvalidConfiguration -\n  invalid configuration\n  No profiles were defined\n    there are no profiles, or `default` is selected and is not there\n",
         ),
         (
+            &["explain"],
+            r#"{"profiles":[["default",[["role_arn","r"],["credential_source","OWN"]]]],"clock":[7],"replies":{"assume-role":[{"id":"KA","secret":"SA","token":"TA","expires":2000}]}}"#,
+            "Done entry 1 now Profile\nentry 2 assume-role Profile\ncredentials =KA =AssumeRoleProvider 2000.000000000 now,assume-role\n",
+        ),
+        (
+            &["explain"],
+            r#"{"calls":2,"variables":[["AWS_ACCESS_KEY_ID","A"]]}"#,
+            "NoScript ",
+        ),
+        (
+            &["audit"],
+            r#"{"profiles":[["default",[["role_arn","r"],["credential_source","OWN"]]]],"journal":[["now",7],["assume-role",{"id":"KA","secret":"SA","token":"TA","expires":2000}]]}"#,
+            "Done audit yes credentials =KA =AssumeRoleProvider 2000.000000000 now,assume-role\n",
+        ),
+        (&["audit"], "{}", "Refused audit no 1 now\n"),
+        (
+            &["audit"],
+            r#"{"refused":"bad","journal":[["jitter",18446744073709551615]]}"#,
+            "Refused audit no 1 end\n",
+        ),
+        (
+            &["audit"],
+            r#"{"calls":1,"journal":[["now",7]]}"#,
+            "NoScript ",
+        ),
+        (
             &["local"],
             "",
             "Done credentials =L =EnvironmentVariable none -\n",

@@ -8,4 +8,4 @@ returns-in_default-clause-turn g c = asks_nothing c.args.loads.now c.records-rec
 pub returns-clause-turn : goal.returns-clause-turn
 returns-clause-turn g c =
     answers_turn g.T.FileToken.rules c.args.loads.now c.section_on-outcome.new.loads c.records-records.ensures.history
-    c.in-Ok.ensures.is c.in-Ok.ensures.token c.last_attempt-last.ensures c.section_on-outcome.ensures.finished c.section_on-outcome.ensures.stopped
+    c.in-Ok.ensures.is c.carries_receipts.ensures c.in-Ok.ensures.token c.last_attempt-last.ensures c.section_on-outcome.ensures.finished c.section_on-outcome.ensures.stopped

@@ -1,0 +1,7 @@
+use Rattle.std.proofs.Common.{ap, Ok}
+use Rattle.cfg_base.specs.Gives.{◌>>=◌}
+use Rattle.cfg_script.specs.Audits.{audit_in}
+use Rattle.cfg_script.proofs.audits.WholeAuditObject.empty.Goals as goal
+
+pub returns : goal.returns
+returns c = λ ms. ap (λ r. r >>= λ rows. Ok (audit_in rows)) (c.empty.ensures ms)
