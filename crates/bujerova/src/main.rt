@@ -7,10 +7,11 @@
 mod fixed;
 mod keeping;
 
+use cfg_endpoint::EndpointFault;
 use cfg_program::run::run;
-use cfg_program::{Command, LIMIT, Status, USAGE, command_of};
+use cfg_program::{Command, LIMIT, Status, USAGE, command_of, endpoint_for};
 use cfg_providers::CustomSource;
-use cfg_script::{ScriptFault, find_audit_fault, find_fault};
+use cfg_script::{ScriptFault, find_audit_fault, find_endpoint_fault, find_fault, read_endpoint};
 use cfg_types::{EnvText, OutOfMemory, Text};
 use cfg_world::{Devices, LocalDevices, ReaderSource, Sink, Source, World, WriterSink};
 use fixed::Fixed;
@@ -84,8 +85,7 @@ fn arguments_and_variables(
     }
 }
 
-// Why the input was refused, where the status says that it was, and what was read of it is known. A script
-// that is refused has several calls, where the command makes one.
+// Why the input was refused, where the status says that it was, and what was read of it is known.
 fn reason_of(
     alloc: Global,
     status: Status,
@@ -98,7 +98,7 @@ fn reason_of(
     let reason = match status {
         Status::NoScript => match fault_in(alloc, command, bytes)? {
             Some(fault) => format!(in alloc; "{fault}")?,
-            None => String::from_str(alloc, "calls: this command makes one call")?,
+            None => unfit_for(alloc, command, bytes)?,
         },
         Status::TooLong => format!(in alloc; "more than {LIMIT} bytes")?,
         _ => return Ok(None),
@@ -114,7 +114,34 @@ fn fault_in(
 ) -> Result<Option<ScriptFault>, OutOfMemory> {
     match command {
         Some(Command::Audit) => find_audit_fault(alloc, bytes),
+        Some(Command::Endpoint) => find_endpoint_fault(alloc, bytes),
         _ => find_fault(alloc, bytes),
+    }
+}
+
+// Why a script is refused that is one of the command's kind: no endpoint is made of it, or it has several calls where
+// the command makes one.
+fn unfit_for(alloc: Global, command: Option<Command>, bytes: &[u8]) -> Result<String, OutOfMemory> {
+    match command {
+        Some(Command::Endpoint) => unmade(alloc, bytes),
+        _ => Ok(String::from_str(alloc, "calls: this command makes one call")?),
+    }
+}
+
+// Why no endpoint is made of the object that the bytes are.
+fn unmade(alloc: Global, bytes: &[u8]) -> Result<String, OutOfMemory> {
+    let Ok(script) = read_endpoint(alloc, bytes) else {
+        return Err(OutOfMemory);
+    };
+    let Err(fault) = endpoint_for(alloc, &script) else {
+        return Err(OutOfMemory);
+    };
+    match &fault {
+        EndpointFault::BadRole(_) => {
+            Ok(String::from_str(alloc, "role: no path can be asked for it")?)
+        }
+        EndpointFault::BadExpiry(_) => Ok(format!(in alloc; "expires: {fault}")?),
+        EndpointFault::OutOfMemory => Err(OutOfMemory),
     }
 }
 

@@ -28,3 +28,10 @@ pub local_chain : (over : ChainSetting) (config empty_one : Configuration) (env 
     over ≡ with_sources (in_region config None) sources → config ≡ record empty_one { environment = env } → empty_one ≡ nothing_configured true → env ≡ each_set variables →
     over ≡ with_sources (local_configuration variables) sources
 local_chain over config empty_one env variables sources is with_env empty given = rw (is, with_env, empty, given) refl
+
+-- the same of what comes of making it
+pub if_local : {X E : Type 0} (over : X → ChainSetting) (r : Result X E) (config empty_one : Configuration) (env : Named EnvText) (variables : List (List ℕ × EnvText)) (sources : List NamedAnswer) →
+    IfOk r (λ chain. over chain ≡ with_sources (in_region config None) sources) → config ≡ record empty_one { environment = env } → empty_one ≡ nothing_configured true → env ≡ each_set variables →
+    IfOk r (λ chain. over chain ≡ with_sources (local_configuration variables) sources)
+if_local over (Ok chain) config empty_one env variables sources is with_env empty given = local_chain (over chain) config empty_one env variables sources is with_env empty given
+if_local over (Err e) config empty_one env variables sources is with_env empty given = is

@@ -1,5 +1,6 @@
 -- How a run ends whose calls were made, or that found no script.
-use Rattle.std.proofs.Common.{◌≡◌, ℕ, List, [], ◌++◌, Bool, Option, refl, subst, sym, inl, inr}
+use Rattle.std.proofs.Common.{◌≡◌, ℕ, List, [], ◌++◌, Bool, Option, Some, refl, subst, sym, inl, inr}
+use Rattle.std.specs.Prelude.{Result, Ok, Err, MatchResult}
 use Rattle.cfg_world.specs.declared.devices.Devices.{Ghosts}
 use Rattle.cfg_world.specs.Fits.{Pair}
 use Rattle.cfg_world.specs.Grows.{Grows}
@@ -13,7 +14,7 @@ use Rattle.cfg_program.specs.Local.{Handed, CallAnswers, local_setting, LocalAns
 use Rattle.cfg_program.specs.Streams.{SourceSeen, SinkSeen}
 use Rattle.cfg_program.specs.Written.{LinesWritten}
 use Rattle.cfg_program.specs.Generated.{GeneratedAnswers, GeneratedLineWritten, GeneratedWritten}
-use Rattle.cfg_program.specs.Run.{WorldSeen, IsScript, WritesNothing, EndsUnread, EndsEarly, EndsReading, LocalLineWritten, EndsLocal}
+use Rattle.cfg_program.specs.Run.{WorldSeen, WasRead, IsScript, WritesNothing, EndsUnread, EndsEarly, EndsOver, EndsReading, LocalLineWritten, EndsLocal}
 
 -- an input that is not known to its end is read as no script
 pub early_unread : {P : Type 0} (source : SourceSeen) (reads : List ℕ → Option P) (ended : Status) → EndsEarly source ended → EndsUnread source reads ended
@@ -27,6 +28,26 @@ early_unread source reads status.OutOfMemory h = h
 early_unread source reads status.TooLong h = h
 early_unread source reads status.HistoryDiffers h = absurd h
 early_unread source reads status.NotBuilt h = absurd h
+
+module _ {P : Type 0} (source : SourceSeen) (reads : List ℕ → Option P) where
+  -- the bytes are no such input
+  unread_over : (bytes : List ℕ) → WasRead source bytes → (ended : Status) → EndsOver (reads bytes) ended → EndsUnread source reads ended
+  unread_over bytes was status.NoScript h = (bytes, was, h)
+  unread_over bytes was status.OutOfMemory h = h
+  unread_over bytes was status.Done h = absurd h
+  unread_over bytes was status.Refused h = absurd h
+  unread_over bytes was status.UnknownCommand h = absurd h
+  unread_over bytes was status.SourceFault h = absurd h
+  unread_over bytes was status.SinkFault h = absurd h
+  unread_over bytes was status.TooLong h = absurd h
+  unread_over bytes was status.HistoryDiffers h = absurd h
+  unread_over bytes was status.NotBuilt h = absurd h
+
+  -- what was found in the bytes is what they are read as, or there is none
+  pub found_over : (bytes : List ℕ) → WasRead source bytes → {X : Type 0} (seen : X → P) (r : Result X Status) → MatchResult r (λ x. reads bytes ≡ Some (seen x)) (EndsOver (reads bytes)) →
+      MatchResult r (λ x. IsScript source reads (seen x)) (EndsUnread source reads)
+  found_over bytes was seen (Ok x) h = record { bytes = bytes; read = was; script = h }
+  found_over bytes was seen (Err ended) h = unread_over bytes was ended h
 
 module _ {P : Type 0} (source : SourceSeen) (sink : SinkSeen) (reads : List ℕ → Option P) (answers : P → Bool → List ℕ → Type 0) where
   -- the lines were written, as far as the sink took them

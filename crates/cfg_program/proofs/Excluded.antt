@@ -11,10 +11,11 @@ use Rattle.cfg_chain.specs.Settings.{alone, with_sources}
 use Rattle.cfg_program.specs.declared.status.Status.{Status}
 use Rattle.cfg_program.specs.declared.status.Status.TheVariants as status
 use Rattle.cfg_program.specs.declared.commands.Command.{Command}
-use Rattle.cfg_program.specs.declared.commands.Command.TheVariants.{Help, Version, Resolve, Region, Token, Explain, Audit, Local, Generate}
+use Rattle.cfg_program.specs.declared.commands.Command.TheVariants.{Help, Version, Resolve, Region, Token, Explain, Audit, Endpoint, Local, Generate}
 use Rattle.cfg_program.specs.declared.lines.LineForm.{LineForm}
 use Rattle.cfg_program.specs.declared.lines.LineForm.TheVariants as form
 use Rattle.cfg_program.specs.declared.commands.TheConstants.{HELP, VERSION}
+use Rattle.cfg_program.specs.Endpoints.{made_endpoint_of, EndpointAnswers}
 use Rattle.cfg_program.specs.Inputs.{IsTooLong, most_bytes}
 use Rattle.cfg_program.specs.Scripts.{reads_input, script_of_one_call}
 use Rattle.cfg_program.specs.Regions.{RegionAnswers}
@@ -35,6 +36,7 @@ use Rattle.cfg_program.proofs.OneRegion.{one_region}
 use Rattle.cfg_program.proofs.OneToken.{one_token}
 use Rattle.cfg_program.proofs.Explaining.{one_explanation}
 use Rattle.cfg_program.proofs.Auditing.{one_audit}
+use Rattle.cfg_program.proofs.OneEndpoint.{one_endpoint}
 
 -- the status of lines
 abbrev status_of : Bool → Status
@@ -302,6 +304,7 @@ module _ (handed : Handed) where
   alike one other (Some (Token below)) s t known same gain u v a b = alike_reading script_of_one_call (TokenAnswers below) (one_token below) one other s t known same u v a b
   alike one other (Some Explain) s t known same gain u v a b = alike_reading script_of_one_call (ExplainAnswers handed.sources) (one_explanation handed.sources) one other s t known same u v a b
   alike one other (Some Audit) s t known same gain u v a b = alike_reading audit_of (AuditAnswers handed.sources) (one_audit handed.sources) one other s t known same u v a b
+  alike one other (Some Endpoint) s t known same gain u v a b = alike_reading made_endpoint_of EndpointAnswers one_endpoint one other s t known same u v a b
   alike one other (Some Local) s t known same gain u v a b = alike_locally handed one.sink other.sink one.world other.world gain.0 s t u v gain.1 gain.2 a b
   alike one other (Some (Generate n)) s t known same gain u v a b = alike_generating one.sink other.sink n s t u v a b
 
@@ -314,6 +317,7 @@ module _ (handed : Handed) where
   exclude_one_another seen (Some (Token below)) one other known t u a b = (alike_reading script_of_one_call (TokenAnswers below) (one_token below) seen seen one other known refl t u a b).0
   exclude_one_another seen (Some Explain) one other known t u a b = (alike_reading script_of_one_call (ExplainAnswers handed.sources) (one_explanation handed.sources) seen seen one other known refl t u a b).0
   exclude_one_another seen (Some Audit) one other known t u a b = (alike_reading audit_of (AuditAnswers handed.sources) (one_audit handed.sources) seen seen one other known refl t u a b).0
+  exclude_one_another seen (Some Endpoint) one other known t u a b = (alike_reading made_endpoint_of EndpointAnswers one_endpoint seen seen one other known refl t u a b).0
   exclude_one_another seen (Some Local) one other known t u a b =
       let gain = gained_by seen.sink seen.world handed one t a in
       (alike_locally handed seen.sink seen.sink seen.world seen.world gain.0 one other t u gain.1 gain.1 a b).0
@@ -327,6 +331,7 @@ module _ (handed : Handed) where
   comes_where_called_for seen (Token below) cause ended known r h t ends = comes_where_called script_of_one_call (TokenAnswers below) seen cause ended known h t ends
   comes_where_called_for seen Explain cause ended known r h t ends = comes_where_called script_of_one_call (ExplainAnswers handed.sources) seen cause ended known h t ends
   comes_where_called_for seen Audit cause ended known r h t ends = comes_where_called audit_of (AuditAnswers handed.sources) seen cause ended known h t ends
+  comes_where_called_for seen Endpoint cause ended known r h t ends = comes_where_called made_endpoint_of EndpointAnswers seen cause ended known h t ends
   comes_where_called_for seen Local cause ended known r h t ends = cc
   comes_where_called_for seen (Generate n) cause ended known r h t ends = cc
 
@@ -392,5 +397,6 @@ run_comes seen handed (Some Region) s ends = reading_comes seen.source seen.sink
 run_comes seen handed (Some (Token below)) s ends = reading_comes seen.source seen.sink script_of_one_call (TokenAnswers below) s ends
 run_comes seen handed (Some Explain) s ends = reading_comes seen.source seen.sink script_of_one_call (ExplainAnswers handed.sources) s ends
 run_comes seen handed (Some Audit) s ends = reading_comes seen.source seen.sink audit_of (AuditAnswers handed.sources) s ends
+run_comes seen handed (Some Endpoint) s ends = reading_comes seen.source seen.sink made_endpoint_of EndpointAnswers s ends
 run_comes seen handed (Some Local) s ends = local_comes seen.sink seen.world handed s ends
 run_comes seen handed (Some (Generate n)) s ends = generating_comes seen.sink n s ends

@@ -7,6 +7,7 @@ use Rattle.cfg_base.specs.Entries.{each_set}
 use Rattle.cfg_types.specs.declared.environment.EnvText.{EnvText}
 use Rattle.cfg_world.specs.declared.script.DeviceLists.{DeviceLists}
 use Rattle.cfg_world.specs.Fits.{Pair}
+use Rattle.cfg_world.specs.declared.devices.Devices.{Ghosts}
 use Rattle.cfg_world.specs.Asked.{Same, StandsOn}
 use Rattle.cfg_world.specs.Held.{Held}
 use Rattle.cfg_world.specs.Script as devices
@@ -125,14 +126,25 @@ pub record AnswersOver (over : ChainSetting) (lists : DeviceLists) (count : ℕ)
 
 -- One call more was made over these devices, on what was kept before it. Its journal is its own alone; its
 -- line stands behind the lines before it.
-pub record MakesCall (over : ChainSetting) (form : LineForm) (old new : States) (before later : devices.Script) (is_credentials : Bool) (lines lines_after : List ℕ) : Type 0 where
+pub record MakesCall {D : Type 0} (d : Ghosts D) (over : ChainSetting) (form : LineForm) (old new : States) (before later : D) (is_credentials : Bool) (lines lines_after : List ℕ) : Type 0 where
   pub call : Made
   pub made : IsMade over old call
   pub left : call.kept ≡ new
-  pub same : Same (devices.Allows before) (devices.Allows later)
-  pub stands : StandsOn (devices.Stands before) (devices.Stands later) call.journal
+  pub same : Same (d.allows before) (d.allows later)
+  pub stands : StandsOn (d.stands before) (d.stands later) call.journal
   pub credentials : is_credentials ≡ is_ok call.out
   pub shows : lines_after ≡ lines ++ shown_as form call.out call.journal
+
+-- So many calls were made over these devices, one after another, on what was kept before them. Their lines stand
+-- behind the lines before them.
+pub record MakesCalls {D : Type 0} (d : Ghosts D) (over : ChainSetting) (form : LineForm) (count : ℕ) (old new : States) (before later : D) (is_credentials : Bool) (lines lines_after : List ℕ) : Type 0 where
+  pub calls : List Made
+  pub counted : length calls ≡ count
+  pub made : InTurn over old calls new
+  pub same : Same (d.allows before) (d.allows later)
+  pub stands : StandsOn (d.stands before) (d.stands later) (asked_by calls)
+  pub credentials : is_credentials ≡ last_is_ok calls
+  pub shows : lines_after ≡ lines ++ lines_of form calls
 
 -- the calls of a script, with these sources of the caller's own and lines in this form
 abbrev pub Answers : List NamedAnswer → LineForm → Plain → Bool → List ℕ → Type 0

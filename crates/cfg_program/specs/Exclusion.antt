@@ -4,9 +4,10 @@ use Rattle.std.specs.Io.KnownBytes.{Appends}
 use Rattle.cfg_world.specs.Fits.{Pair}
 use Rattle.cfg_script.specs.Reading.{script_of, audit_of}
 use Rattle.cfg_program.specs.declared.commands.Command.{Command}
-use Rattle.cfg_program.specs.declared.commands.Command.TheVariants.{Resolve, Region, Token, Explain, Audit}
+use Rattle.cfg_program.specs.declared.commands.Command.TheVariants.{Resolve, Region, Token, Explain, Audit, Endpoint}
 use Rattle.cfg_program.specs.declared.status.Status.{Status}
 use Rattle.cfg_program.specs.declared.status.Status.TheVariants as status
+use Rattle.cfg_program.specs.Endpoints.{made_endpoint_of}
 use Rattle.cfg_program.specs.Inputs.{most_bytes}
 use Rattle.cfg_program.specs.Scripts.{script_of_one_call}
 use Rattle.cfg_program.specs.Run.{Seen, IsInput}
@@ -49,4 +50,5 @@ CallsFor seen Region cause = ReadingCallsFor seen script_of_one_call cause
 CallsFor seen (Token below) cause = ReadingCallsFor seen script_of_one_call cause
 CallsFor seen Explain cause = ReadingCallsFor seen script_of_one_call cause
 CallsFor seen Audit cause = ReadingCallsFor seen audit_of cause
+CallsFor seen Endpoint cause = ReadingCallsFor seen made_endpoint_of cause
 CallsFor seen _ cause = ⊥

@@ -9,6 +9,7 @@ pub mod Lines
 pub mod Calls
 pub mod Written
 pub mod Local
+pub mod Endpoints
 pub mod Regions
 pub mod Tokens
 pub mod Explained

@@ -7,7 +7,7 @@ use Rattle.cfg_script.specs.Reading.{script_of, audit_of}
 use Rattle.cfg_program.specs.declared.status.Status.{Status}
 use Rattle.cfg_program.specs.declared.status.Status.TheVariants as status
 use Rattle.cfg_program.specs.declared.commands.Command.{Command}
-use Rattle.cfg_program.specs.declared.commands.Command.TheVariants.{Help, Version, Resolve, Region, Token, Explain, Audit, Local, Generate}
+use Rattle.cfg_program.specs.declared.commands.Command.TheVariants.{Help, Version, Resolve, Region, Token, Explain, Audit, Endpoint, Local, Generate}
 use Rattle.cfg_program.specs.declared.lines.LineForm.TheVariants as form
 use Rattle.cfg_program.specs.declared.commands.TheConstants.{HELP, VERSION}
 use Rattle.cfg_program.specs.Streams.{GrowsByPrefix, SourceSeen, SinkSeen}
@@ -18,6 +18,7 @@ use Rattle.cfg_program.specs.Regions.{RegionAnswers}
 use Rattle.cfg_program.specs.Tokens.{TokenAnswers}
 use Rattle.cfg_program.specs.Explained.{ExplainAnswers}
 use Rattle.cfg_program.specs.Audited.{AuditAnswers}
+use Rattle.cfg_program.specs.Endpoints.{made_endpoint_of, EndpointAnswers}
 use Rattle.cfg_program.specs.Local.{Handed, LocalAnswers}
 use Rattle.cfg_program.specs.Generated.{GeneratedWritten}
 use Rattle.cfg_program.specs.Written.{TextWritten, LinesWritten}
@@ -71,6 +72,12 @@ EndsUnread source reads status.SourceFault = Rose source.faults source.faults_af
 EndsUnread source reads status.OutOfMemory = ⊤
 EndsUnread source reads status.TooLong = IsTooLong source.left source.left_after
 EndsUnread source reads _ = ⊥
+
+-- how a command ends that takes nothing from bytes: they say nothing, or memory ran out
+abbrev pub EndsOver : {P : Type 0} → Option P → Status → Type 0
+EndsOver said status.NoScript = said ≡ None
+EndsOver said status.OutOfMemory = ⊤
+EndsOver said _ = ⊥
 
 -- the lines of the script's own calls were written, and they call for this end
 pub record WritesLines {P E : Type 0} (source : SourceSeen) (sink : SinkSeen) (reads : List ℕ → Option P) (answers : P → E → List ℕ → Type 0) (end : E) : Type 0 where
@@ -133,5 +140,6 @@ EndsRun seen handed (Some Region) ended = EndsReading seen.source seen.sink scri
 EndsRun seen handed (Some (Token below)) ended = EndsReading seen.source seen.sink script_of_one_call (TokenAnswers below) ended
 EndsRun seen handed (Some Explain) ended = EndsReading seen.source seen.sink script_of_one_call (ExplainAnswers handed.sources) ended
 EndsRun seen handed (Some Audit) ended = EndsReading seen.source seen.sink audit_of (AuditAnswers handed.sources) ended
+EndsRun seen handed (Some Endpoint) ended = EndsReading seen.source seen.sink made_endpoint_of EndpointAnswers ended
 EndsRun seen handed (Some Local) ended = EndsLocal seen.sink seen.world handed ended
 EndsRun seen handed (Some (Generate n)) ended = GeneratedWritten seen.sink n ended

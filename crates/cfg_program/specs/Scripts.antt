@@ -3,7 +3,7 @@ use Rattle.std.specs.Prelude.{ℕ, ◌==◌, List, Bool, true, false, Option, So
 use Rattle.cfg_script.specs.Script.{Plain}
 use Rattle.cfg_script.specs.Reading.{script_of}
 use Rattle.cfg_program.specs.declared.commands.Command.{Command}
-use Rattle.cfg_program.specs.declared.commands.Command.TheVariants.{Resolve, Region, Token, Explain, Audit}
+use Rattle.cfg_program.specs.declared.commands.Command.TheVariants.{Resolve, Region, Token, Explain, Audit, Endpoint}
 
 -- a script of one call
 abbrev pub of_one_call : Option Plain → Option Plain
@@ -14,11 +14,12 @@ of_one_call (Some p) = if p.calls == 1 then Some p else None
 abbrev pub script_of_one_call : List ℕ → Option Plain
 script_of_one_call bytes = of_one_call (script_of bytes)
 
--- whether a command reads a script
+-- whether a command reads an input
 abbrev pub reads_input : Command → Bool
 reads_input (Resolve below) = true
 reads_input Region = true
 reads_input (Token below) = true
 reads_input Explain = true
 reads_input Audit = true
+reads_input Endpoint = true
 reads_input _ = false

@@ -21,6 +21,8 @@ pub enum Command {
     Explain,
     /// Whether a script's journal can be that of a call.
     Audit,
+    /// The calls over a local endpoint that an object describes.
+    Endpoint,
     /// One call over the variables and the world that are handed in.
     Local,
     /// One call over a set of so many profiles, at most [`MOST_PROFILES`].
@@ -44,12 +46,13 @@ usage: bujerova resolve < SCRIPT     a line for each call that the script descri
        bujerova why-token < SCRIPT   the same, and below an error what it comes of
        bujerova explain < SCRIPT     a line for each question of the script's call: who asked it
        bujerova audit < SCRIPT       whether the script's journal can be that of a call
+       bujerova endpoint < ENDPOINT  a line for each call over a local endpoint for tests
        bujerova local                one line for a call over the variables and files here
        bujerova generate N           one line for a call over N profiles, 1 to 1000
        bujerova --help | --version
 
-SCRIPT is one JSON object on standard input. docs/SCRIPT.md tells its members,
-and the statuses that the program ends with.
+SCRIPT and ENDPOINT are one JSON object on standard input. docs/SCRIPT.md tells
+their members, and the statuses that the program ends with.
 ";
 
 /// What is told of an unknown command, on standard error.
@@ -61,6 +64,7 @@ usage: bujerova resolve < SCRIPT
        bujerova why-token < SCRIPT
        bujerova explain < SCRIPT
        bujerova audit < SCRIPT
+       bujerova endpoint < ENDPOINT
        bujerova local
        bujerova generate N
        bujerova --help | --version";
@@ -96,6 +100,8 @@ fn named(name: &str) -> Option<Command>
         Some(Command::Explain)
     } else if name == "audit" {
         Some(Command::Audit)
+    } else if name == "endpoint" {
+        Some(Command::Endpoint)
     } else if name == "local" {
         Some(Command::Local)
     } else if name == "--help" {

@@ -1,10 +1,12 @@
 //! Laws of runs, each on a call that carries it.
-ghost use Rattle.std.specs.Prelude.{◌≡◌, ℕ, List, Bool, Option, Some, IsSome, IsTrue};
+ghost use Rattle.std.specs.Prelude.{◌≡◌, ℕ, List, All, Bool, Option, Some, IsSome, IsTrue};
 ghost use Rattle.percent_encoding.specs.AsciiSet.{should_percent_encode};
 ghost use Rattle.cfg_world.specs.Fits.{Pair};
 ghost use Rattle.cfg_world.specs.declared.script.DeviceLists.{DeviceLists as Lists};
 ghost use Rattle.cfg_chain.specs.Settings.{ChainSetting};
 ghost use Rattle.cfg_providers.specs.CustomSources.{NamedAnswer};
+ghost use Rattle.cfg_endpoint.specs.Calls.{IsEarly};
+ghost use Rattle.cfg_script.specs.declared.endpoint.EndpointScript.{EndpointScript as EndpointSaid};
 ghost use Rattle.cfg_script.specs.Script.{Plain, PlainAudit};
 ghost use Rattle.cfg_program.specs.declared.causes.Below.{Below};
 ghost use Rattle.cfg_program.specs.declared.status.Status.{Status as Ended};
@@ -17,6 +19,7 @@ ghost use Rattle.cfg_program.specs.Inputs.{most_bytes};
 ghost use Rattle.cfg_program.specs.Commands.{most_profiles};
 ghost use Rattle.cfg_program.specs.Escapes.{escaped_in_word};
 ghost use Rattle.cfg_program.specs.Calls.{AnswersOver, Answers};
+ghost use Rattle.cfg_program.specs.Endpoints.{made_endpoint_of, EndpointAnswers, ForgetsNothing, GiveServed};
 ghost use Rattle.cfg_program.specs.Generated.{GeneratedAnswers};
 ghost use Rattle.cfg_program.specs.Run.{Seen, EndsRun};
 ghost use Rattle.cfg_program.specs.Scripts.{reads_input};
@@ -60,6 +63,20 @@ pub fn one_script_has_one_region()
 pub fn one_script_has_one_token()
     ensures { (below : Below) (script : Plain) (is_token is_other : Bool) (line other : List ℕ) →
         TokenAnswers below script is_token line → TokenAnswers below script is_other other → (is_token ≡ is_other) × (line ≡ other) }
+{}
+
+/// The object of an endpoint has one list of lines, and one status.
+pub fn one_endpoint_has_one_list_of_lines()
+    ensures { (s : EndpointSaid) (is_credentials is_other : Bool) (lines other : List ℕ) →
+        EndpointAnswers s is_credentials lines → EndpointAnswers s is_other other → (is_credentials ≡ is_other) × (lines ≡ other) }
+{}
+
+/// The calls over an endpoint each give what it serves, where it forgets no token before the last of them, and the clock
+/// leaves room for the lifetime of a session token.
+pub fn calls_over_an_endpoint_give_what_is_served()
+    ensures { (bytes : List ℕ) (s : EndpointSaid) (is_credentials : Bool) (lines : List ℕ) →
+        made_endpoint_of bytes ≡ Some s → ForgetsNothing s → All IsEarly s.clock →
+        EndpointAnswers s is_credentials lines → GiveServed s is_credentials lines }
 {}
 
 /// A script has one list of lines that tell who asked each question of its call, and one status, where the caller's own

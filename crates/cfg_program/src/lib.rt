@@ -1,12 +1,13 @@
 //! The program without its process: `run` does what a command asks for, over any source, sink and
-//! world, and answers how it ended. It stands on cfg_chain, cfg_region, cfg_token_chain, cfg_explain, cfg_script and
-//! cfg_error_report.
+//! world, and answers how it ended. It stands on cfg_chain, cfg_region, cfg_token_chain, cfg_explain, cfg_endpoint,
+//! cfg_script and cfg_error_report.
 #![tactic(auto)]
 
 mod audit;
 mod causes;
 mod commands;
 mod configuration;
+mod endpoint;
 mod explain;
 mod generated;
 mod input;
@@ -23,6 +24,7 @@ mod token;
 
 pub use causes::Below;
 pub use commands::{Command, HELP, MOST_PROFILES, USAGE, VERSION, command_of};
+pub use endpoint::endpoint_for;
 pub use input::LIMIT;
 pub use lines::{ESCAPED, LineForm};
 pub use status::Status;

@@ -1,5 +1,5 @@
 //! The call over the variables and the world that are handed in.
-ghost use Rattle.std.specs.Prelude.{IfOk, OnErr, map};
+ghost use Rattle.std.specs.Prelude.{◌≡◌, IfOk, OnErr, map};
 ghost use Rattle.cfg_base.specs.TextMap.{named as variable};
 ghost use Rattle.cfg_chain.specs.Settings.{with_sources};
 ghost use Rattle.cfg_chain.specs.Views.{named_sources, chain_of};
@@ -30,10 +30,22 @@ pub fn call_locally<D: Devices>(
     ensures stopped { let over = with_sources (local_configuration (map variable variables.items)) (named_sources value custom.items) in
         OnErr result (StopsInCall ⟦<D as Devices>⟧ over world.old world.new) }
 {
+    let chain = chain_without_sections(alloc, variables, custom)?;
+    call(alloc, &chain, world)
+}
+
+/// The default chain of these variables and the caller's own sources, without sections and without a region. Nothing is
+/// asked. `OutOfMemory` where memory runs out.
+pub fn chain_without_sections(
+    alloc: Global,
+    variables: Vec<(String, EnvText)>,
+    custom: Vec<CustomSource>,
+) -> Result<DefaultCredentialsChain, OutOfMemory>
+    ensures { IfOk result (λ chain. chain_of value repeated chain ≡ with_sources (local_configuration (map variable variables.items)) (named_sources value custom.items)) }
+{
     let env = Env::new(alloc, variables)?;
     let config = ProviderConfig::without_region(alloc)?.with_env(env);
-    let chain = chain_over(alloc, config, None, custom)?;
-    call(alloc, &chain, world)
+    chain_over(alloc, config, None, custom)
 }
 
 // One call of the chain, and its line. The entries that the journal had before are not among its questions.

@@ -8,7 +8,7 @@ ghost use Rattle.cfg_chain.specs.Views.{named_sources, chain_of};
 ghost use Rattle.cfg_chain.specs.profile.Plans.{key_of};
 ghost use Rattle.cfg_script.specs.Script.{plain};
 ghost use Rattle.cfg_script.specs.Devices.{lists_of};
-ghost use Rattle.cfg_program.specs.Calls.{region_of, in_region, IsFresh, MakesCall, AnswersOver, Answers};
+ghost use Rattle.cfg_program.specs.Calls.{region_of, in_region, MakesCall, MakesCalls, AnswersOver, Answers};
 
 use crate::configuration::{configuration, region_named};
 use crate::lines::LineForm;
@@ -19,7 +19,7 @@ use cfg_profile::ProviderConfig;
 use cfg_providers::CustomSource;
 use cfg_script::Script;
 use cfg_types::{OutOfMemory, Outcome};
-use cfg_world::{DeviceLists, ScriptDevices, World};
+use cfg_world::{DeviceLists, Devices, ScriptDevices, World};
 use std::alloc::Global;
 
 /// Makes the calls that the script describes: over the chain with the script's configuration and the
@@ -81,40 +81,46 @@ pub fn answer_over(
 {
     let devices = ScriptDevices::new(alloc, lists)?;
     let mut world = World::new(alloc, devices);
-    calls(alloc, chain, count, form, &mut world)
+    let mut kept = chain.new_kept()?;
+    let mut lines = Vec::new(alloc);
+    let is_ok = calls(chain, count, form, &mut kept, &mut world, &mut lines)?;
+    Ok(Answered { is_ok, lines })
 }
 
-// So many calls of the chain, one after another, and their lines.
-fn calls(
-    alloc: Global,
+/// So many calls of the chain, one after another, on what is kept, and their lines in this form behind the others.
+/// It answers whether the last of them gave credentials; without one, that it did not. `OutOfMemory` where memory runs
+/// out.
+pub fn calls<D: Devices>(
     chain: &DefaultCredentialsChain,
     count: u64,
     form: LineForm,
-    world: &mut World<ScriptDevices>,
-) -> Result<Answered, OutOfMemory>
-    requires { IsFresh world.old }
-    ensures { IfOk result (λ a. AnswersOver (chain_of value repeated chain.now) world.old.devices.lists count form a.is_ok a.lines.items) }
+    kept: &mut Kept,
+    world: &mut World<D>,
+    lines: &mut Vec<u8>,
+) -> Result<bool, OutOfMemory>
+    requires { kept_key kept.old ≡ key_of chain.now.core }
+    ensures calls { IfOk result (λ is_ok. MakesCalls ⟦<D as Devices>⟧ (chain_of value repeated chain.now) form count (states_of kept.old) (states_of kept.new)
+        world.old.devices world.new.devices is_ok lines.old.items lines.new.items) }
+    ensures key { kept_key kept.new ≡ kept_key kept.old }
 {
-    let mut kept = chain.new_kept()?;
-    let mut lines = Vec::new(alloc);
     let mut is_ok = false;
     for _ in 0..count {
-        is_ok = call(chain, form, &mut kept, world, &mut lines)?;
+        is_ok = call(chain, form, kept, world, lines)?;
     }
-    Ok(Answered { is_ok, lines })
+    Ok(is_ok)
 }
 
 // One call more, and its line behind the others: whether it gave credentials. The journal of the call
 // before it is gone, and so are the records of the loads that it made.
-fn call(
+fn call<D: Devices>(
     chain: &DefaultCredentialsChain,
     form: LineForm,
     kept: &mut Kept,
-    world: &mut World<ScriptDevices>,
+    world: &mut World<D>,
     lines: &mut Vec<u8>,
 ) -> Result<bool, OutOfMemory>
     requires { kept_key kept.old ≡ key_of chain.now.core }
-    ensures call { IfOk result (λ is_ok. MakesCall (chain_of value repeated chain.now) form (states_of kept.old) (states_of kept.new)
+    ensures call { IfOk result (λ is_ok. MakesCall ⟦<D as Devices>⟧ (chain_of value repeated chain.now) form (states_of kept.old) (states_of kept.new)
         world.old.devices world.new.devices is_ok lines.old.items lines.new.items) }
     ensures key { kept_key kept.new ≡ kept_key kept.old }
     ensures records { IfSome (kept_token kept.new) HasNoRecords }

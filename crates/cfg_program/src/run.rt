@@ -1,8 +1,9 @@
 //! The top call.
-ghost use Rattle.std.specs.Prelude.{◌≡◌, ◌≤◌, IsTrue, None, false, IfOk, MatchResult, map, string_bytes};
+ghost use Rattle.std.specs.Prelude.{◌≡◌, ◌≤◌, ◌≤ℤ◌, pos, All, IsTrue, None, false, IfOk, MatchResult, map, string_bytes};
 ghost use Rattle.cfg_base.specs.TextMap.{named};
 ghost use Rattle.cfg_world.specs.Script.{AllFit};
 ghost use Rattle.cfg_chain.specs.Views.{named_sources};
+ghost use Rattle.cfg_endpoint.specs.Made.{IsMade};
 ghost use Rattle.cfg_script.specs.Script.{plain, plain_audit};
 ghost use Rattle.cfg_script.specs.Devices.{lists_of};
 ghost use Rattle.cfg_script.specs.Reading.{script_of, audit_of};
@@ -16,6 +17,7 @@ ghost use Rattle.cfg_program.specs.Explained.{ExplainAnswers};
 ghost use Rattle.cfg_program.specs.Audited.{AuditAnswers};
 ghost use Rattle.cfg_program.specs.Local.{LeavesWorld, WorldAfter};
 ghost use Rattle.cfg_program.specs.Streams.{source_seen, sink_seen};
+ghost use Rattle.cfg_program.specs.Endpoints.{endpoint_at_first, made_endpoint_of, EndpointAnswers};
 ghost use Rattle.cfg_program.specs.Run.{EndsRun, EndsReading, EndsUnread, EndsEarly, EndsLocal, WasRead, IsScript, world_seen};
 ghost use Rattle.cfg_program.specs.Exclusion.{comes};
 ghost use Rattle.cfg_program.specs.Generated.{GeneratedWritten};
@@ -23,6 +25,7 @@ ghost use Rattle.cfg_program.specs.Generated.{GeneratedWritten};
 use crate::audit::audit;
 use crate::causes::Below;
 use crate::commands::{Command, HELP, VERSION, command_of};
+use crate::endpoint::{answer_by, endpoint_by};
 use crate::explain::explain;
 use crate::generated::generate;
 use crate::input::{InputError, read_all};
@@ -34,20 +37,22 @@ use crate::region::find_region;
 use crate::resolve::resolve;
 use crate::status::Status;
 use crate::token::find_token;
+use cfg_endpoint::Endpoint;
 use cfg_providers::CustomSource;
-use cfg_script::{AuditScript, Script, ScriptError, read_audit, read_script};
+use cfg_script::{AuditScript, EndpointScript, Script, ScriptError, read_audit, read_script};
 use cfg_types::{EnvText, OutOfMemory};
 use cfg_world::{Devices, Sink, Source, StreamFault, World};
 use std::alloc::Global;
 
 /// Does what the program's arguments ask for: tells a text; or reads a script from the source and writes the lines of
 /// its calls, or of its default region or token chain, to the sink, or which member asked each question of its call, or
-/// whether its journal can be that of a call; or writes the line of the call over a set of profiles that comes from a
-/// number, or of the call over `env` and the world. It answers how that ended. The arguments are read first: where they
-/// are no command that reads a script the source stays as it was, and for an unknown command the sink too. Nothing is
-/// written before the script was read to its end. The commands `resolve`, `why`, `explain`, `audit` and `local` alone
-/// give their chain the sources in `custom`, which profiles find by `credential_source`. The command `local` alone asks
-/// the world, whose journal gains its questions; without it `env` is left aside, and the world stays as it was.
+/// whether its journal can be that of a call; or reads what a local endpoint serves and writes the lines of the calls
+/// over it; or writes the line of the call over a set of profiles that comes from a number, or of the call over `env`
+/// and the world. It answers how that ended. The arguments are read first: where they are no command that reads, the
+/// source stays as it was, and for an unknown command the sink too. Nothing is written before the input was read to its
+/// end. The commands `resolve`, `why`, `explain`, `audit` and `local` alone give their chain the sources in `custom`,
+/// which profiles find by `credential_source`. The command `local` alone asks the world, whose journal gains its
+/// questions; without it `env` is left aside, and the world stays as it was.
 pub fn run<S: Source, K: Sink, D: Devices>(
     alloc: Global,
     arguments: &[String],
@@ -82,6 +87,7 @@ pub fn run<S: Source, K: Sink, D: Devices>(
         Some(Command::Token(below)) => token_line(alloc, source, sink, below),
         Some(Command::Explain) => explain_lines(alloc, source, sink, custom),
         Some(Command::Audit) => audit_line(alloc, source, sink, custom),
+        Some(Command::Endpoint) => endpoint_lines(alloc, source, sink),
         Some(Command::Local) => local_line(alloc, sink, env, world, custom),
         Some(Command::Generate(n)) => generate_line(alloc, n, sink),
     }
@@ -187,6 +193,37 @@ fn audit_line<S: Source, K: Sink>(
             Err(OutOfMemory) => Status::OutOfMemory,
         },
         Err(ended) => ended,
+    }
+}
+
+// Reads the object of an endpoint, makes its calls, and writes their lines.
+fn endpoint_lines<S: Source, K: Sink>(alloc: Global, source: &mut S, sink: &mut K) -> Status
+    ensures { EndsReading (source_seen ⟦<S as Source>⟧ source.old source.new) (sink_seen ⟦<K as Sink>⟧ sink.old sink.new)
+        made_endpoint_of EndpointAnswers result }
+{
+    match endpoint_in(alloc, source) {
+        Ok((script, endpoint)) => match answer_by(alloc, script, endpoint) {
+            Ok(answered) => write_lines(sink, &answered),
+            Err(OutOfMemory) => Status::OutOfMemory,
+        },
+        Err(ended) => ended,
+    }
+}
+
+// The object of an endpoint that the source has, and the endpoint; or how a run ends that finds none.
+fn endpoint_in<S: Source>(
+    alloc: Global,
+    source: &mut S,
+) -> Result<(EndpointScript, Endpoint), Status>
+    ensures read { let seen = source_seen ⟦<S as Source>⟧ source.old source.new in
+        MatchResult result (λ found. IsScript seen made_endpoint_of found.0) (λ ended. EndsUnread seen made_endpoint_of ended) }
+    ensures clock { IfOk result (λ found. All (λ m. pos 0 ≤ℤ m.seconds) found.0.clock) }
+    ensures new { IfOk result (λ found. found.1 ≡ endpoint_at_first found.0) }
+    ensures made { IfOk result (λ found. IsMade found.1) }
+{
+    match bytes_in(alloc, source) {
+        Ok(bytes) => endpoint_by(alloc, bytes.as_slice()),
+        Err(ended) => Err(ended),
     }
 }
 

@@ -152,6 +152,21 @@ fn words(rt: HostRuntime) -> Result<(), Fail> {
             "NoScript ",
         ),
         (
+            &["endpoint"],
+            r#"{"mode":"metadata","role":"r","id":"I","secret":"S","token":"T","expires":5000,"calls":2,"forget_after":1}"#,
+            "Done credentials =I =IMDSv2 5000.000000000 now,imds-token,now,imds-get,now,imds-get,now\ncredentials =I =IMDSv2 5000.000000000 now,imds-get,imds-get,imds-get,imds-get\n",
+        ),
+        (
+            &["endpoint"],
+            r#"{"mode":"container","id":"I","secret":"S","token":"T","expires":5000}"#,
+            "Done credentials =I =EcsContainer 5000.000000000 http\n",
+        ),
+        (
+            &["endpoint"],
+            r#"{"mode":"metadata","role":"a\n","id":"I","secret":"S","token":"T","expires":5000}"#,
+            "NoScript ",
+        ),
+        (
             &["local"],
             "",
             "Done credentials =L =EnvironmentVariable none -\n",

@@ -8,6 +8,6 @@ use Rattle.cfg_program.proofs.resolve.call.Goals as goal
 pub returns-clause-call : goal.returns-clause-call
 returns-clause-call g c =
     let p = c.provide_credentials.ensures.provides c.in_ok-is_ok.ensures.memory in
-    one_call _ c.args.form _ _ _ _ c.args.world.now c.clear_journal.new.self c.provide_credentials.new.world p.part c.provide_credentials.result c.in_ok-is_ok.is_ok _ _
+    one_call g.D.Devices _ c.args.form _ _ _ _ c.args.world.now c.clear_journal.new.self c.provide_credentials.new.world p.part c.provide_credentials.result c.in_ok-is_ok.is_ok _ _
     c.clear_journal.ensures p.grows.journal p.grows.same p.grows.stands p.call c.trim.ensures.kept c.in_ok-is_ok.ensures.credentials
     (c.in_ok-is_ok.ensures.line ∙ ap (λ j. c.args.lines.now.items ++ shown_as c.args.form c.provide_credentials.result j) c.journal.ensures)
