@@ -219,6 +219,7 @@ pub mod shared {
         Gate, GateAnswer, GateError, GateFault, GatedCalls, GatedToken, Pass, gated_calls, new_gate,
     };
     pub use cfg_kept::{SharedKept, SharedPass};
+    pub use cfg_sharing::{Called, ShareFault, Shared, share_calls};
     pub use cfg_token::{Finding, SharedAnswer, SharedTokenState};
 }
 
