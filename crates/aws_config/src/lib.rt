@@ -5,8 +5,8 @@
 pub use cfg_profile::ProviderConfig;
 pub use cfg_types::{
     AccountId, BehaviorVersion, CallSettings, Class, Credentials, CredentialsBuilder,
-    CredentialsError, Env, EnvText, Instant, OutOfMemory, Region, RetryConfig, Seq, Text, Timeouts,
-    Token, TokenError, is_memory,
+    CredentialsError, Env, EnvText, Instant, OutOfMemory, Outcome, Region, RetryConfig, Seq, Text,
+    Timeouts, Token, TokenError, TryCopy, is_memory,
 };
 
 /// The default chains.
@@ -226,7 +226,7 @@ pub mod shared {
 /// Credentials that are held under names, for one caller or for several on threads.
 pub mod cache {
     pub use cfg_identity::{
-        CacheAnswer, CacheFault, CacheSettings, Held, IdentityCache, SharedIdentityCache,
+        CacheAnswer, CacheFault, CacheSettings, Held, IdentityCache, Loaded, SharedIdentityCache,
     };
 }
 
@@ -238,7 +238,10 @@ pub mod run {
 /// Whether a journal can be that of a call.
 pub mod explain {
     pub use cfg_explain::replaying::replay;
-    pub use cfg_explain::{Answering, Replay, Verdict, check, owners};
+    pub use cfg_explain::{
+        Answering, PassedOver, Reasons, Replay, Verdict, check, own_part, owners, reasons_of,
+        subject_of,
+    };
 }
 
 /// A local endpoint for tests.

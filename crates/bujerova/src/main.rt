@@ -1,7 +1,8 @@
 //! The program `bujerova`: it hands `cfg_program::run` its arguments, standard input and
-//! output, the variables that are set and one source of credentials of its own, and ends with the number
-//! of the status. Where the status says that the input was refused, standard error has a line that says
-//! why, unless memory ran out for it. For an unknown command it has the usage.
+//! output, the variables that are set and one source of credentials of its own, or where the command is done on
+//! several threads `run_shared` what that takes, and ends with the number of the status. Where the status says that
+//! the input was refused, standard error has a line that says why, unless memory ran out for it. For an unknown
+//! command it has the usage.
 #![tactic(auto)]
 
 mod fixed;
@@ -9,9 +10,12 @@ mod keeping;
 
 use cfg_endpoint::EndpointFault;
 use cfg_program::run::run;
-use cfg_program::{Command, LIMIT, Status, USAGE, command_of, endpoint_for};
+use cfg_program::run_shared::run_shared;
+use cfg_program::{Command, LIMIT, Status, USAGE, command_of, endpoint_for, shared_command_of};
 use cfg_providers::CustomSource;
-use cfg_script::{ScriptFault, find_audit_fault, find_endpoint_fault, find_fault, read_endpoint};
+use cfg_script::{
+    ScriptFault, find_audit_fault, find_endpoint_fault, find_fault, find_share_fault, read_endpoint,
+};
 use cfg_types::{EnvText, OutOfMemory, Text};
 use cfg_world::{Devices, LocalDevices, ReaderSource, Sink, Source, World, WriterSink};
 use fixed::Fixed;
@@ -21,18 +25,20 @@ use std::env;
 use std::env::VarError;
 use std::io::ErrorKind;
 use std::process::ExitCode;
+use std::sync::Wait;
+use std::thread::Threads;
 
 fn main(rt: HostRuntime) -> ExitCode {
     let alloc = rt.alloc();
     let mut source = KeepingSource::new(alloc, ReaderSource::new(rt.stdin()));
     let mut sink = WriterSink::new(rt.stdout());
     let mut world = World::new(alloc, LocalDevices::new(alloc, &rt));
-    let mut command = None;
+    let mut arguments = Vec::new(alloc);
     let status = match arguments_and_variables(&rt) {
-        Ok((arguments, variables)) => {
-            command = command_of(&arguments);
+        Ok((given, variables)) => {
+            arguments = given;
             let ended = run_with(
-                alloc,
+                &rt,
                 arguments.as_slice(),
                 &mut source,
                 &mut sink,
@@ -46,26 +52,30 @@ fn main(rt: HostRuntime) -> ExitCode {
     if status == Status::UnknownCommand {
         let _ = rt.eprintln(USAGE);
     }
-    if let Ok(Some(reason)) = reason_of(alloc, status, command, source.kept()) {
+    if let Ok(Some(reason)) = reason_of(alloc, status, arguments.as_slice(), source.kept()) {
         let _ = eprintln!(rt; "bujerova: {reason}");
     }
     ExitCode::from(status.number())
 }
 
 // How a run ends that has the program's own source of credentials.
-fn run_with<S: Source, K: Sink, D: Devices>(
-    alloc: Global,
+fn run_with<R: AllocGlobal + Threads + Wait + Sync, S: Source, K: Sink, D: Devices>(
+    rt: &R,
     arguments: &[String],
     source: &mut S,
     sink: &mut K,
     variables: Vec<(String, EnvText)>,
     world: &mut World<D>,
 ) -> Result<Status, OutOfMemory> {
+    let alloc = rt.alloc();
     let name = Text::of(alloc, fixed::NAME)?;
     let provider = Box::new(alloc, Fixed::new(alloc))?;
     let own = CustomSource { name, provider };
     let custom = vec![in alloc; own]?;
-    let ended = run(alloc, arguments, source, sink, variables, world, custom);
+    let ended = match shared_command_of(arguments) {
+        Some(_) => run_shared(rt, alloc, arguments, source, sink, custom),
+        None => run(alloc, arguments, source, sink, variables, world, custom),
+    };
     Ok(ended)
 }
 
@@ -89,16 +99,16 @@ fn arguments_and_variables(
 fn reason_of(
     alloc: Global,
     status: Status,
-    command: Option<Command>,
+    arguments: &[String],
     kept: Option<&[u8]>,
 ) -> Result<Option<String>, OutOfMemory> {
     let Some(bytes) = kept else {
         return Ok(None);
     };
     let reason = match status {
-        Status::NoScript => match fault_in(alloc, command, bytes)? {
+        Status::NoScript => match fault_in(alloc, arguments, bytes)? {
             Some(fault) => format!(in alloc; "{fault}")?,
-            None => unfit_for(alloc, command, bytes)?,
+            None => unfit_for(alloc, command_of(arguments), bytes)?,
         },
         Status::TooLong => format!(in alloc; "more than {LIMIT} bytes")?,
         _ => return Ok(None),
@@ -109,10 +119,13 @@ fn reason_of(
 // Why the bytes are no script of the command's kind, or none where they are one.
 fn fault_in(
     alloc: Global,
-    command: Option<Command>,
+    arguments: &[String],
     bytes: &[u8],
 ) -> Result<Option<ScriptFault>, OutOfMemory> {
-    match command {
+    if shared_command_of(arguments).is_some() {
+        return find_share_fault(alloc, bytes);
+    }
+    match command_of(arguments) {
         Some(Command::Audit) => find_audit_fault(alloc, bytes),
         Some(Command::Endpoint) => find_endpoint_fault(alloc, bytes),
         _ => find_fault(alloc, bytes),

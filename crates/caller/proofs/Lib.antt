@@ -2,3 +2,4 @@ pub mod Counting
 pub mod Configuring
 pub mod Reporting
 pub mod Polling
+pub mod Holding

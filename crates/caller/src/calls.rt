@@ -9,10 +9,10 @@ ghost use Rattle.caller.specs.Reports.{IsReport, TellsCall};
 use crate::configuration::{TOKEN, TOKEN_PATH, chain_for};
 use crate::devices::OneFile;
 use crate::lines::call_line;
-use cfg_chain::DefaultCredentialsChain;
-use cfg_kept::Kept;
-use cfg_types::{OutOfMemory, Outcome};
-use cfg_world::World;
+use aws_config::default_provider::credentials::DefaultCredentialsChain;
+use aws_config::devices::World;
+use aws_config::kept::Kept;
+use aws_config::{OutOfMemory, Outcome};
 use std::alloc::Global;
 
 /// The lines of three calls: two for the profile of a sign-in session, the second on what the first one left
@@ -61,7 +61,7 @@ fn call(
     let outcome = Outcome {
         answer: chain.provide_credentials(kept, world),
     };
-    if cfg_types::is_memory(&outcome.answer) {
+    if aws_config::is_memory(&outcome.answer) {
         return Err(OutOfMemory);
     }
     let line = call_line(alloc, &outcome.answer, world.journal())?;

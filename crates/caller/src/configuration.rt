@@ -5,9 +5,10 @@ ghost use Rattle.cfg_chain.specs.Settings.{alone};
 ghost use Rattle.cfg_chain.specs.Views.{chain_of};
 ghost use Rattle.caller.specs.Configured.{variables as given_variables, profiles as given_profiles, configured, unplaced};
 
-use cfg_chain::{ChainCore, DefaultCredentialsChain};
-use cfg_profile::{ProfileSet, ProfileSource, ProviderConfig, Section};
-use cfg_types::{Env, EnvText, OutOfMemory, Region, Text};
+use aws_config::default_provider::credentials::{ChainCore, DefaultCredentialsChain};
+use aws_config::profile::{ProfileSet, ProfileSource, Section};
+use aws_config::provider_config::ProviderConfig;
+use aws_config::{Env, EnvText, OutOfMemory, Region, Text};
 use std::alloc::Global;
 
 /// The file of the token of the session `reader`, which stands in the folder that a variable names. It is named by

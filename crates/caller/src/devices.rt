@@ -2,8 +2,8 @@
 ghost use Rattle.std.specs.Prelude.{◌≡◌, ◌≤◌, Err};
 ghost use Rattle.cfg_world.specs.Tallies.{one_more};
 
-use cfg_types::{Address, Bytes, FailKind, Fault, Finished, Instant, Reply, Request, Seq};
-use cfg_world::Devices;
+use aws_config::devices::{Address, Bytes, Devices, FailKind, Fault, Finished, Reply, Request};
+use aws_config::{Instant, Seq};
 use std::alloc::Global;
 
 /// A clock that stands at the epoch, a jitter that is 0, and one file, which cannot be written. All else fails,

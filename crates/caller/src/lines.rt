@@ -3,9 +3,9 @@ ghost use Rattle.std.specs.Prelude.{◌≡◌, ◌++◌, IfOk, OnOk, string_byte
 ghost use Rattle.std.specs.List.{flat_map};
 ghost use Rattle.caller.specs.Lines.{shown, shown_outcome, shown_entry, word_of, mark_of};
 
-use cfg_error_report::causes_of;
-use cfg_types::{Credentials, CredentialsError, OutOfMemory};
-use cfg_world::{Answer, Entry, Question};
+use aws_config::error_report::causes_of;
+use aws_config::journal::{Answer, Entry, Question};
+use aws_config::{Credentials, CredentialsError, OutOfMemory};
 use std::alloc::Global;
 use std::string::ToString;
 

@@ -6,10 +6,15 @@
 mod calls;
 mod configuration;
 mod devices;
+mod held;
+mod keys;
 mod lines;
 mod receipts;
+mod region;
+mod source;
 #[cfg(test)]
 mod tests;
+mod threads;
 
 use calls::report;
 use std::process::ExitCode;

@@ -5,11 +5,11 @@ ghost use Rattle.cfg_chain.specs.Provides.{ProvidesOn};
 ghost use Rattle.cfg_chain.specs.Views.{chain_of};
 ghost use Rattle.cfg_chain.specs.profile.Plans.{key_of};
 
-use cfg_chain::DefaultCredentialsChain;
-use cfg_kept::Kept;
-use cfg_run::{Run, Step};
-use cfg_types::{Credentials, CredentialsError, OutOfMemory, TryCopy};
-use cfg_world::{Devices, World};
+use aws_config::default_provider::credentials::DefaultCredentialsChain;
+use aws_config::devices::{Devices, World};
+use aws_config::kept::Kept;
+use aws_config::run::{Run, Step};
+use aws_config::{Credentials, CredentialsError, OutOfMemory, TryCopy};
 use std::alloc::Global;
 
 /// What a call answered, and what is kept then.

@@ -9,3 +9,5 @@ pub mod ReplaySteps
 pub mod OneReplay
 pub mod OwnerSteps
 pub mod OneOwner
+pub mod RefusedPlans
+pub mod ReasonsOfCalls

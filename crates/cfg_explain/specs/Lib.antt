@@ -5,3 +5,5 @@ pub mod Verdicts
 pub mod Answerings
 pub mod Replays
 pub mod Owners
+pub mod Reasons
+pub mod Subjects

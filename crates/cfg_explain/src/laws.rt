@@ -1,10 +1,13 @@
-//! Laws of verdicts, of replays and of owners, each on a call that carries it.
-ghost use Rattle.std.specs.Prelude.{◌≡◌, ◌↔◌, ℕ, List, Option, IsSome, IsTrue};
+//! Laws of verdicts, of replays, of owners and of reasons, each on a call that carries it.
+ghost use Rattle.std.specs.Prelude.{◌≡◌, ◌↔◌, ℕ, List, Option, IsSome, IsTrue, Ok};
+ghost use Rattle.cfg_types.specs.Keys.{Keys};
 ghost use Rattle.cfg_world.specs.Fits.{Pair};
 ghost use Rattle.cfg_kept.specs.Kinds.{Value, States};
 ghost use Rattle.cfg_providers.specs.CustomSources.{Answer};
+ghost use Rattle.cfg_chain.specs.Provides.{IsCall};
 ghost use Rattle.cfg_chain.specs.Settings.{ChainSetting};
 ghost use Rattle.cfg_explain.specs.Owners.{Owns, is_of_a_call};
+ghost use Rattle.cfg_explain.specs.Reasons.{reasons_of, AreReasonsOf};
 ghost use Rattle.cfg_explain.specs.Replays.{Tells, IsAnsweredCall};
 ghost use Rattle.cfg_explain.specs.Verdicts.{Judges, IsCallTo};
 ghost use Rattle.cfg_explain.specs.declared.answering.Answering.{Answering as Handed};
@@ -52,4 +55,11 @@ pub fn owners_are_told_exactly_of_calls()
 pub fn one_list_of_owners_is_true()
     ensures { (over : ChainSetting) (old new newer : States) (found more : List Value) (journal : List Pair) (names also : Option (List (List ℕ))) →
         Owns over old new found journal names → Owns over old newer more journal also → names ≡ also }
+{}
+
+/// Of a call that gave credentials the reasons are its own: the members that it passed over, each with its error, the one
+/// that gave the credentials, and what this one asked.
+pub fn reasons_are_those_of_the_call()
+    ensures { (over : ChainSetting) (old new : States) (found : List Value) (journal : List Pair) (keys : Keys) →
+        IsCall over old new found journal (Ok keys) → AreReasonsOf over found journal keys (reasons_of over) }
 {}

@@ -21,7 +21,7 @@ use Rattle.cfg_identity.specs.declared.fault.CacheFault.{CacheFault}
 use Rattle.cfg_identity.specs.declared.fault.CacheFault.TheVariants as fault
 use Rattle.cfg_identity.specs.declared.loaded.Loaded.{Loaded}
 use Rattle.cfg_identity.specs.declared.settings.CacheSettings.{CacheSettings}
-use Rattle.cfg_identity.specs.Cached.{IsHit, IsLoad, Caches, HasBegun, CacheBreaks, LoadsOn, LoadBreaksOn}
+use Rattle.cfg_identity.specs.Cached.{IsHit, IsLoad, Breaks, Caches, CachesAny, HasBegun, CacheBreaks, LoadsOn, LoadBreaksOn}
 use Rattle.cfg_identity.specs.Entries.{Entry, IsResolved, ResolvesOn}
 use Rattle.cfg_identity.specs.Faults.{IsTold, Tells}
 use Rattle.cfg_identity.specs.Lives.{lasting}
@@ -106,18 +106,14 @@ module _ {D : Type 0} (d : Ghosts D) where
       }
 
   -- a call over what stands under a name
-  pub resolves_from : (settings : CacheSettings) (over : ChainSetting) (old mid new : NameState) (found : List Value) (before later : World D) (outcome : Answer) (told : Result Keys CacheFault)
-      → new ≡ mid → IsTold outcome told
-      → Answered outcome (Caches d settings over old mid found before later) → RanOut outcome (CacheBreaks d over old mid found before later)
+  pub resolves_from : (settings : CacheSettings) (over : ChainSetting) (old new : NameState) (before later : World D)
+      → (outcome : Answer) (told : Result Keys CacheFault) → IsTold outcome told
+      → Answered outcome (CachesAny d settings over old new before later) → RanOut outcome (Breaks d over old new before later)
       → ResolvesOn d settings (record { over = over; state = old }) (record { over = over; state = new }) before later told
-  resolves_from settings over old mid new found before later outcome told same is caches breaks =
-      subst (λ s. ResolvesOn d settings (record { over = over; state = old }) (record { over = over; state = s }) before later told) (sym same) (record {
-        same_chain = refl;
-        call = tells_from outcome told
-            (λ answer. (f : List Value) × Caches d settings over old mid f before later answer)
-            ((f : List Value) × CacheBreaks d over old mid f before later)
-            is (λ none. (found, caches none)) (λ ran_out. (found, breaks ran_out));
-      })
+  resolves_from settings over old new before later outcome told is caches breaks = record {
+    same_chain = refl;
+    call = tells_from outcome told (CachesAny d settings over old new before later) (Breaks d over old new before later) is caches breaks;
+  }
 
   -- a name that is not there, and one that is
   pub resolved_nowhere : (settings : CacheSettings) (name : List ℕ) (old new : Option Entry) (before later : World D) (out : Result Keys CacheFault)

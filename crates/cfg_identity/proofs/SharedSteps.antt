@@ -19,11 +19,11 @@ use Rattle.cfg_identity.specs.declared.fault.CacheFault.TheVariants as fault
 use Rattle.cfg_identity.specs.declared.held.Held.{Held}
 use Rattle.cfg_identity.specs.declared.settings.CacheSettings.{CacheSettings}
 use Rattle.cfg_identity.specs.declared.shared.CacheAnswer.{CacheAnswer}
-use Rattle.cfg_identity.specs.Cached.{Caches, CacheBreaks, HasBegun}
+use Rattle.cfg_identity.specs.Cached.{Breaks, Caches, CacheBreaks, HasBegun}
 use Rattle.cfg_identity.specs.Faults.{IsTold, Tells}
 use Rattle.cfg_identity.specs.Names.{at_name}
 use Rattle.cfg_identity.specs.NameStates.{NameState}
-use Rattle.cfg_identity.specs.SharedCalls.{Breaks, FindsOn, IsFoundCall, IsPutBack, IsShared, IsUnknown}
+use Rattle.cfg_identity.specs.SharedCalls.{FindsOn, IsFoundCall, IsPutBack, IsShared, IsUnknown}
 use Rattle.cfg_identity.proofs.CallSteps.{tells_from, whole_breaks}
 
 fused : {X Y Z : Type 0} (f : X → Y) (k : Y → Z) (o : Option X) → option_map (λ x. k (f x)) o ≡ option_map k (option_map f o)

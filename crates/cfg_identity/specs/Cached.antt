@@ -64,6 +64,17 @@ pub record CacheBreaks {D : Type 0} (d : Ghosts D) (over : ChainSetting) (old ne
   pub stays : Stays d part before later
   pub begins : HasBegun over old.states new.states found part
 
+-- ---- whatever the chain found
+
+module _ {D : Type 0} (d : Ghosts D) where
+  -- the call, and what it found
+  abbrev pub CachesAny : CacheSettings → ChainSetting → NameState → NameState → World D → World D → Answer → Type 0
+  CachesAny settings over old new before later out = (found : List Value) × Caches d settings over old new found before later out
+
+  -- memory ran out in a call over what was kept and held
+  abbrev pub Breaks : ChainSetting → NameState → NameState → World D → World D → Type 0
+  Breaks over old new before later = (found : List Value) × CacheBreaks d over old new found before later
+
 -- ---- by what is kept
 
 abbrev pub CachesOn : {D : Type 0} → Ghosts D → CacheSettings → ChainSetting → Loaded → Loaded → World D → World D → Answer → Type 0

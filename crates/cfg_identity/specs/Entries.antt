@@ -4,15 +4,14 @@ use Rattle.cfg_base.specs.Text.{characters}
 use Rattle.cfg_types.specs.Keys.{Keys}
 use Rattle.cfg_world.specs.declared.devices.Devices.{Ghosts}
 use Rattle.cfg_world.specs.Held.{Held as World}
-use Rattle.cfg_kept.specs.Kinds.{Value, no_states}
 use Rattle.cfg_chain.specs.Settings.{ChainSetting}
 use Rattle.cfg_identity.specs.declared.fault.CacheFault.{CacheFault}
 use Rattle.cfg_identity.specs.declared.fault.CacheFault.TheVariants as fault
 use Rattle.cfg_identity.specs.declared.held.Held.{Held}
 use Rattle.cfg_identity.specs.declared.settings.CacheSettings.{CacheSettings}
-use Rattle.cfg_identity.specs.Cached.{Caches, CacheBreaks}
+use Rattle.cfg_identity.specs.Cached.{CachesAny, Breaks}
 use Rattle.cfg_identity.specs.Faults.{Tells}
-use Rattle.cfg_identity.specs.NameStates.{NameState}
+use Rattle.cfg_identity.specs.NameStates.{NameState, nothing_loaded}
 
 -- the setting of the name's chain, and what is kept of it
 pub record Entry : Type 0 where
@@ -21,7 +20,7 @@ pub record Entry : Type 0 where
 
 -- nothing is held and kept of a chain
 abbrev pub fresh : ChainSetting → Entry
-fresh over = record { over = over; state = record { held = None; states = no_states } }
+fresh over = record { over = over; state = nothing_loaded }
 
 abbrev pub chain_in : Entry → ChainSetting
 chain_in entry = entry.over
@@ -61,10 +60,7 @@ module _ {D : Type 0} (d : Ghosts D) (settings : CacheSettings) where
   -- A call under a name that is there, by its answer. The chain stays.
   pub record ResolvesOn (old new : Entry) (before later : World D) (out : Result Keys CacheFault) : Type 0 where
     pub same_chain : new.over ≡ old.over
-    pub call : Tells
-        (λ answer. (found : List Value) × Caches d settings old.over old.state new.state found before later answer)
-        ((found : List Value) × CacheBreaks d old.over old.state new.state found before later)
-        out
+    pub call : Tells (CachesAny d settings old.over old.state new.state before later) (Breaks d old.over old.state new.state before later) out
 
   -- A call under a name, by what stands there: a name that is not there is told, and nothing is asked.
   abbrev pub IsResolved : List ℕ → Option Entry → Option Entry → World D → World D → Result Keys CacheFault → Type 0

@@ -4,13 +4,12 @@ use Rattle.cfg_base.specs.Text.{characters}
 use Rattle.cfg_world.specs.declared.devices.Devices.{Ghosts}
 use Rattle.cfg_world.specs.Held.{Held as World}
 use Rattle.cfg_kept.specs.FoundValues.{bare}
-use Rattle.cfg_kept.specs.Kinds.{Value}
 use Rattle.cfg_chain.specs.Settings.{ChainSetting}
 use Rattle.cfg_identity.specs.declared.fault.CacheFault.TheVariants as fault
 use Rattle.cfg_identity.specs.declared.held.Held.{Held}
 use Rattle.cfg_identity.specs.declared.settings.CacheSettings.{CacheSettings}
 use Rattle.cfg_identity.specs.declared.shared.CacheAnswer.{CacheAnswer}
-use Rattle.cfg_identity.specs.Cached.{Caches, CacheBreaks}
+use Rattle.cfg_identity.specs.Cached.{Caches, Breaks}
 use Rattle.cfg_identity.specs.Faults.{Tells}
 use Rattle.cfg_identity.specs.NameStates.{NameState}
 
@@ -27,15 +26,11 @@ abbrev pub IsPutBack : Option Held → NameState → NameState → Type 0
 IsPutBack held old new = (new.held ≡ held) × (new.states ≡ old.states)
 
 module _ {D : Type 0} (d : Ghosts D) where
-  -- Memory ran out in a call over what was kept and held, whatever it found.
-  abbrev pub Breaks : ChainSetting → NameState → NameState → World D → World D → Type 0
-  Breaks over old new before later = (found : List Value) × CacheBreaks d over old new found before later
-
   -- A call over what was kept and held. Its answer tells what was held, and which kept values the chain found.
   abbrev pub FindsOn : CacheSettings → ChainSetting → NameState → NameState → World D → World D → CacheAnswer → Type 0
   FindsOn settings over old new before later answer = Tells
       (λ out. (answer.held ≡ old.held) × Caches d settings over old new (map bare answer.kept) before later out)
-      (Breaks over old new before later)
+      (Breaks d over old new before later)
       answer.outcome
 
   -- The same, wherever it is kept and held.

@@ -2,14 +2,14 @@
 ghost use Rattle.std.specs.Prelude.{◌≡◌, ◌+◌, length, None, option_map, if◌then◌else◌, is_ok, OnErr, OnOk};
 ghost use Rattle.std.specs.Option.{option_copied, option_and_then};
 ghost use Rattle.std.specs.FinMap.{get, len};
-ghost use Rattle.cfg_kept.specs.KeptStates.{kept_key};
 ghost use Rattle.cfg_chain.specs.Views.{chain_of};
 ghost use Rattle.cfg_chain.specs.profile.Plans.{key_of};
 ghost use Rattle.cfg_identity.specs.Entries.{IsAdded, IsPlaced, IsResolved, OthersStay, ResolvesOn, SameEntries, held_in, without_held};
+ghost use Rattle.cfg_identity.specs.NameStates.{loaded_key};
 
 use crate::fault::{CacheFault, told};
 use crate::held::Held;
-use crate::loaded::{Loaded, resolve_loaded};
+use crate::loaded::Loaded;
 use crate::names::Names;
 use crate::settings::CacheSettings;
 use cfg_chain::DefaultCredentialsChain;
@@ -22,7 +22,7 @@ use std::alloc::Global;
 pub(crate) struct Slot {
     pub(crate) chain: DefaultCredentialsChain,
     pub(crate) loaded: Loaded,
-    ghost fits: { kept_key loaded.kept ≡ key_of chain.core },
+    ghost fits: { loaded_key loaded ≡ key_of chain.core },
 }
 
 impl Slot {
@@ -37,9 +37,7 @@ impl Slot {
     ) -> Result<Credentials, CacheFault>
         ensures { ResolvesOn ⟦<D as Devices>⟧ settings (entry_of value repeated self.old) (entry_of value repeated self.new) world.old world.new result }
     {
-        let outcome = resolve_loaded(alloc, settings, &self.chain, &mut self.loaded, world);
-        self.loaded.trim();
-        told(outcome)
+        told(self.loaded.resolve(alloc, settings, &self.chain, world))
     }
 }
 
@@ -91,7 +89,7 @@ impl IdentityCache {
         let kept = chain.new_kept()?;
         let slot = Slot {
             chain,
-            loaded: Loaded { kept, held: None },
+            loaded: Loaded::new(kept),
         };
         self.place(name, slot)?;
         Ok(())
@@ -155,7 +153,7 @@ impl IdentityCache {
         ensures { option_copied result ≡ option_and_then held_in (entry_at value repeated self.now name.now) }
     {
         let place = self.names.find(name)?;
-        self.slots[place].loaded.held.as_ref()
+        self.slots[place].loaded.held()
     }
 
     /// Gives up what is held under a name, and answers it: the next call of the name asks its chain. Without it, and

@@ -19,5 +19,6 @@ pub use cfg_kept::Found;
 pub use cfg_types::{Credentials, CredentialsError, OutOfMemory};
 pub use fault::CacheFault;
 pub use held::Held;
+pub use loaded::Loaded;
 pub use settings::CacheSettings;
 pub use shared::{CacheAnswer, SharedIdentityCache};

@@ -5,10 +5,11 @@ ghost use Rattle.cfg_kept.specs.FoundValues.{bare};
 ghost use Rattle.cfg_kept.specs.KeptStates.{kept_holdings, kept_key};
 ghost use Rattle.cfg_chain.specs.Views.{chain_of};
 ghost use Rattle.cfg_chain.specs.profile.Plans.{key_of};
+ghost use Rattle.cfg_identity.specs.Cached.{Breaks};
 ghost use Rattle.cfg_identity.specs.Entries.{chain_in};
 ghost use Rattle.cfg_identity.specs.Faults.{IsTold};
 ghost use Rattle.cfg_identity.specs.NameStates.{state_of};
-ghost use Rattle.cfg_identity.specs.SharedCalls.{Breaks, FindsOn, IsFoundCall, IsPutBack, IsUnknown};
+ghost use Rattle.cfg_identity.specs.SharedCalls.{FindsOn, IsFoundCall, IsPutBack, IsUnknown};
 
 use crate::cache::{IdentityCache, Slot};
 use crate::fault::{CacheFault, told};

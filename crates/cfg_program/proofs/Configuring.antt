@@ -1,12 +1,16 @@
 -- What a script configures, one step after another.
-use Rattle.std.proofs.Common.{◌≡◌, ℕ, List, Bool, Option, Some, Result, true, IfOk, subst, refl}
+use Rattle.std.proofs.Common.{◌≡◌, ℕ, List, Bool, Option, Some, Result, true, IfOk, option_map, ap, ◌∙◌, subst, refl}
+use Rattle.cfg_base.specs.Text.{characters}
 use Rattle.cfg_base.specs.TextMap.{Named}
 use Rattle.cfg_base.specs.Entries.{each_set}
 use Rattle.cfg_types.specs.declared.environment.EnvText.{EnvText}
 use Rattle.cfg_base.specs.declared.memory.OutOfMemory.{OutOfMemory}
 use Rattle.cfg_profile.specs.declared.sections.ProfileSource.{ProfileSource}
 use Rattle.cfg_profile.specs.Configuration.{Configuration, nothing_configured}
-use Rattle.cfg_program.specs.Calls.{configured_by}
+use Rattle.cfg_providers.specs.CustomSources.{NamedAnswer}
+use Rattle.cfg_chain.specs.Settings.{ChainSetting, with_sources}
+use Rattle.cfg_script.specs.Script.{Plain}
+use Rattle.cfg_program.specs.Calls.{configuration_of, configured, configured_by, in_region}
 
 -- the name comes last
 pub named_last : (variables : List (List ℕ × EnvText)) (source : ProfileSource) (selected : Option (List ℕ)) (sleep : Bool) (env : Named EnvText)
@@ -17,3 +21,9 @@ pub named_last : (variables : List (List ℕ × EnvText)) (source : ProfileSourc
 named_last variables source selected sleep env empty_one with_env with_profiles with_sleep name named e o v p s n is =
     let all : record with_sleep { profile_name = Some name } ≡ configured_by variables source selected sleep = rw (s, p, v, o, e, n) refl in
     subst (λ x. IfOk named (λ c. c ≡ x)) all is
+
+-- the chain of what a script configures, with these sources
+pub script_chain : (over : ChainSetting) (config : Configuration) (p : Plain) (sources : List NamedAnswer)
+    → over ≡ with_sources (in_region config (option_map characters p.region)) sources → config ≡ configured p
+    → over ≡ with_sources (configuration_of p) sources
+script_chain over config p sources is same = is ∙ ap (λ (c : Configuration). with_sources (in_region c (option_map characters p.region)) sources) same

@@ -20,7 +20,8 @@ use Rattle.cfg_script.specs.declared.endpoint.EndpointScript.{EndpointScript}
 use Rattle.cfg_program.specs.declared.causes.Below.TheVariants.{Nothing}
 use Rattle.cfg_program.specs.declared.lines.LineForm.{LineForm}
 use Rattle.cfg_program.specs.declared.lines.LineForm.TheVariants.{Call}
-use Rattle.cfg_program.specs.Calls.{Made, InTurn, asked_by, lines_of, last_is_ok}
+use Rattle.cfg_program.specs.Why.{told_as}
+use Rattle.cfg_program.specs.Calls.{Made, IsMade as IsCalled, InTurn, asked_by, lines_of, last_is_ok}
 use Rattle.cfg_program.specs.declared.outcome.Answered.{Answered}
 use Rattle.cfg_program.specs.Endpoints.{StartsNew, AnswersOverEndpoint, EndpointAnswers, endpoint_at_first, variables_for, setting_for, calls_before}
 use Rattle.cfg_program.specs.Local.{local_configuration}
@@ -107,8 +108,8 @@ form = Call Nothing
 
 module _ (over : ChainSetting) (d : DevicesState) (new : StartsNew d) (count before : ℕ) (old : States) (nothing : old ≡ no_states) (none : List ℕ) (empty : none ≡ []) where
   -- all calls are first ones
-  pub all_first : count ≤ before → (now : DevicesState) (kept : States) (ok : Bool) (lines : List ℕ) (calls : List Made) → length calls ≡ count → InTurn over old calls kept →
-      Same (Allows d) (Allows now) → StandsOn (Stands d) (Stands now) (asked_by calls) → ok ≡ last_is_ok calls → lines ≡ none ++ lines_of form calls → AnswersOverEndpoint over d.endpoint d.clock count before ok lines
+  pub all_first : count ≤ before → (now : DevicesState) (kept : States) (ok : Bool) (lines : List ℕ) (calls : List Made) → length calls ≡ count → InTurn (IsCalled over) old calls kept →
+      Same (Allows d) (Allows now) → StandsOn (Stands d) (Stands now) (asked_by calls) → ok ≡ last_is_ok calls → lines ≡ none ++ lines_of (told_as over form) calls → AnswersOverEndpoint over d.endpoint d.clock count before ok lines
   all_first le now kept ok lines calls counted made same stands credentials shows =
       let short : length calls ≤ before = omega (arith, le, counted) in
       record {
@@ -116,14 +117,14 @@ module _ (over : ChainSetting) (d : DevicesState) (new : StartsNew d) (count bef
         calls = calls;
         kept = kept;
         counted = counted;
-        made = subst (λ k. InTurn over k calls kept) nothing made;
+        made = subst (λ k. InTurn (IsCalled over) k calls kept) nothing made;
         answers = record {
-          first = subst (λ l. Serves d.endpoint (asked_by l)) (sym (all_taken before calls short)) (serves_first d new now (asked_by calls) same stands);
-          others = subst (λ l. Serves (forgotten (after_questions d.endpoint (asked_by (take before calls)))) (asked_by l)) (sym (none_dropped before calls short)) tt;
+          first = subst (λ (l : List Made). Serves d.endpoint (asked_by l)) (sym (all_taken before calls short)) (serves_first d new now (asked_by calls) same stands);
+          others = subst (λ (l : List Made). Serves (forgotten (after_questions d.endpoint (asked_by (take before calls)))) (asked_by l)) (sym (none_dropped before calls short)) tt;
           keeps = keeps_first d new now (asked_by calls) same stands;
         };
         credentials = credentials;
-        shows = shows ∙ ap (λ l. l ++ lines_of form calls) empty;
+        shows = shows ∙ ap (λ l. l ++ lines_of (told_as over form) calls) empty;
       }
 
   last_with_more : (calls more : List Made) → 0 < length more → last_is_ok (calls ++ more) ≡ last_is_ok more
@@ -131,10 +132,10 @@ module _ (over : ChainSetting) (d : DevicesState) (new : StartsNew d) (count bef
   last_with_more calls (c ∷ more) h = last_of_both calls c more
 
   -- there are first calls and others
-  pub both_parts : before < count → (now later end : DevicesState) (between kept : States) (next : Bool) (lines whole : List ℕ) (rest : ℕ) (calls more : List Made) → length calls ≡ before → InTurn over old calls between →
-      Same (Allows d) (Allows now) → StandsOn (Stands d) (Stands now) (asked_by calls) → lines ≡ none ++ lines_of form calls →
-      later ≡ started_with now (forgotten now.endpoint) → IsMade later.endpoint → rest + before ≡ count → length more ≡ rest → InTurn over between more kept →
-      Same (Allows later) (Allows end) → StandsOn (Stands later) (Stands end) (asked_by more) → next ≡ last_is_ok more → whole ≡ lines ++ lines_of form more → AnswersOverEndpoint over d.endpoint d.clock count before next whole
+  pub both_parts : before < count → (now later end : DevicesState) (between kept : States) (next : Bool) (lines whole : List ℕ) (rest : ℕ) (calls more : List Made) → length calls ≡ before → InTurn (IsCalled over) old calls between →
+      Same (Allows d) (Allows now) → StandsOn (Stands d) (Stands now) (asked_by calls) → lines ≡ none ++ lines_of (told_as over form) calls →
+      later ≡ started_with now (forgotten now.endpoint) → IsMade later.endpoint → rest + before ≡ count → length more ≡ rest → InTurn (IsCalled over) between more kept →
+      Same (Allows later) (Allows end) → StandsOn (Stands later) (Stands end) (asked_by more) → next ≡ last_is_ok more → whole ≡ lines ++ lines_of (told_as over form) more → AnswersOverEndpoint over d.endpoint d.clock count before next whole
   both_parts lt now later end between kept next lines whole rest calls more counted made same stands shows forgets is_made parts also again same_later stands_later credentials tells =
       let asked : asked_by (calls ++ more) ≡ asked_by calls ++ asked_by more = asked_by_both calls more in
       let taken : take before (calls ++ more) ≡ calls = ap (λ n. take n (calls ++ more)) (sym counted) ∙ first_taken calls more in
@@ -144,20 +145,20 @@ module _ (over : ChainSetting) (d : DevicesState) (new : StartsNew d) (count bef
         calls = calls ++ more;
         kept = kept;
         counted = length-append calls more ∙ omega (arith, counted, also, parts);
-        made = in_turn_both over no_states between kept calls more (subst (λ k. InTurn over k calls between) nothing made) again;
+        made = in_turn_both (IsCalled over) no_states between kept calls more (subst (λ k. InTurn (IsCalled over) k calls between) nothing made) again;
         answers = record {
-          first = subst (λ l. Serves d.endpoint (asked_by l)) (sym taken) (serves_first d new now (asked_by calls) same stands);
+          first = subst (λ (l : List Made). Serves d.endpoint (asked_by l)) (sym taken) (serves_first d new now (asked_by calls) same stands);
           others =
-              subst (λ l. Serves (forgotten (after_questions d.endpoint (asked_by l))) (asked_by (drop before (calls ++ more)))) (sym taken)
-              (subst (λ l. Serves (forgotten (after_questions d.endpoint (asked_by calls))) (asked_by l)) (sym left)
+              subst (λ (l : List Made). Serves (forgotten (after_questions d.endpoint (asked_by l))) (asked_by (drop before (calls ++ more)))) (sym taken)
+              (subst (λ (l : List Made). Serves (forgotten (after_questions d.endpoint (asked_by calls))) (asked_by l)) (sym left)
               (serves_others d new now (asked_by calls) same stands later end forgets is_made (asked_by more) same_later stands_later));
-          keeps = subst (λ l. Keeps d.clock 0 l) (sym asked) (keeps_all d new now (asked_by calls) same stands later end forgets is_made (asked_by more) same_later stands_later);
+          keeps = subst (λ (l : List Pair). Keeps d.clock 0 l) (sym asked) (keeps_all d new now (asked_by calls) same stands later end forgets is_made (asked_by more) same_later stands_later);
         };
         credentials = credentials ∙ sym (last_with_more calls more (omega (arith, also, parts, lt)));
         shows =
             tells
-            ∙ ap (λ l. l ++ lines_of form more) (shows ∙ ap (λ l. l ++ lines_of form calls) empty)
-            ∙ sym (lines_of_both form calls more);
+            ∙ ap (λ l. l ++ lines_of (told_as over form) more) (shows ∙ ap (λ l. l ++ lines_of (told_as over form) calls) empty)
+            ∙ sym (lines_of_both (told_as over form) calls more);
       }
 
 -- ---- what an object says

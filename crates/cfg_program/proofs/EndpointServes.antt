@@ -100,7 +100,7 @@ module _ (e : EndpointState) (clock : List Moment) (place : ℕ) where
 module _ (over : ChainSetting) (s : Served) (clock : List Moment) where
   -- over the instance metadata service, with as many tokens left as the calls may get
   metadata_calls : HasNothing over → All IsEarly clock → (e : EndpointState) → e.served ≡ s → IsMade e → (place : ℕ) (old kept : States) (calls : List Made) → e.given + 2 * length calls ≤ full_count → Fresh e old →
-      InTurn over old calls kept → Serves e (asked_by calls) → Keeps clock place (asked_by calls) → EachGives (λ call. GivesMetadata s call.journal call.out) calls
+      InTurn (IsCalled over) old calls kept → Serves e (asked_by calls) → Keeps clock place (asked_by calls) → EachGives (λ call. GivesMetadata s call.journal call.out) calls
   metadata_calls nothing early e same made place old kept [] few fresh turn serves keeps = tt
   metadata_calls nothing early e same made place old kept (c ∷ calls) few fresh turn serves keeps =
       let f : EndpointState = after_questions e c.journal in
@@ -122,7 +122,7 @@ module _ (over : ChainSetting) (s : Served) (clock : List Moment) where
       refl (same_lists e clock place c.journal serves keeps) (stands_behind e clock place c.journal serves keeps) called).gives
 
   -- and all of them
-  container_calls : HasContainer over → All IsEarly clock → (e : EndpointState) → e.served ≡ s → IsMade e → (place : ℕ) (old kept : States) (calls : List Made) → InTurn over old calls kept → Serves e (asked_by calls) → Keeps clock place (asked_by calls) →
+  container_calls : HasContainer over → All IsEarly clock → (e : EndpointState) → e.served ≡ s → IsMade e → (place : ℕ) (old kept : States) (calls : List Made) → InTurn (IsCalled over) old calls kept → Serves e (asked_by calls) → Keeps clock place (asked_by calls) →
       EachGives (λ call. GivesContainer s call.out) calls
   container_calls has early e same made place old kept [] turn serves keeps = tt
   container_calls has early e same made place old kept (c ∷ calls) turn serves keeps =
@@ -148,15 +148,15 @@ gives_ok s (Metadata role) call g = ap is_ok g.gives
 
 module _ (s : EndpointScript) (forgets : ForgetsNothing s) (some : 1 ≤ s.calls) (few : s.calls ≤ 100) (early : All IsEarly s.clock) (b : Bool) (lines : List ℕ) (a : EndpointAnswers s b lines) where
   serves_all : Serves (endpoint_at_first s) (asked_by a.calls)
-  serves_all = subst (λ l. Serves (endpoint_at_first s) (asked_by l)) (all_taken (calls_before s) a.calls (omega (arith, forgets, a.counted))) a.answers.first
+  serves_all = subst (λ (l : List Made). Serves (endpoint_at_first s) (asked_by l)) (all_taken (calls_before s) a.calls (omega (arith, forgets, a.counted))) a.answers.first
 
   by_mode : (mode : EndpointMode) → s.mode ≡ mode → EachGives (GivesServed s mode) a.calls
   by_mode Container is =
       container_calls (setting_for Container) (served_of s) s.clock with_container early (endpoint_at_first s) refl a.endpoint 0 no_states a.kept a.calls
-      (subst (λ m. InTurn (setting_for m) no_states a.calls a.kept) is a.made) serves_all a.answers.keeps
+      (subst (λ m. InTurn (IsCalled (setting_for m)) no_states a.calls a.kept) is a.made) serves_all a.answers.keeps
   by_mode (Metadata role) is =
       metadata_calls (setting_for (Metadata role)) (served_of s) s.clock without_variables early (endpoint_at_first s) refl a.endpoint 0 no_states a.kept a.calls (omega (arith, few, a.counted)) tt
-      (subst (λ m. InTurn (setting_for m) no_states a.calls a.kept) is a.made) serves_all a.answers.keeps
+      (subst (λ m. InTurn (IsCalled (setting_for m)) no_states a.calls a.kept) is a.made) serves_all a.answers.keeps
 
   served_by_all : GiveServed s b lines
   served_by_all =

@@ -11,7 +11,7 @@ use Rattle.cfg_chain.specs.Settings.{alone, with_sources}
 use Rattle.cfg_program.specs.declared.status.Status.{Status}
 use Rattle.cfg_program.specs.declared.status.Status.TheVariants as status
 use Rattle.cfg_program.specs.declared.commands.Command.{Command}
-use Rattle.cfg_program.specs.declared.commands.Command.TheVariants.{Help, Version, Resolve, Region, Token, Explain, Audit, Endpoint, Local, Generate}
+use Rattle.cfg_program.specs.declared.commands.Command.TheVariants.{Help, Version, Resolve, Cached, Region, Token, Explain, Audit, Endpoint, Local, Generate}
 use Rattle.cfg_program.specs.declared.lines.LineForm.{LineForm}
 use Rattle.cfg_program.specs.declared.lines.LineForm.TheVariants as form
 use Rattle.cfg_program.specs.declared.commands.TheConstants.{HELP, VERSION}
@@ -22,6 +22,7 @@ use Rattle.cfg_program.specs.Regions.{RegionAnswers}
 use Rattle.cfg_program.specs.Tokens.{TokenAnswers}
 use Rattle.cfg_program.specs.Explained.{ExplainAnswers}
 use Rattle.cfg_program.specs.Audited.{AuditAnswers}
+use Rattle.cfg_program.specs.Cached.{CachedAnswers}
 use Rattle.cfg_program.specs.Calls.{Answers, configuration_of}
 use Rattle.cfg_program.specs.Local.{Handed, LocalAnswers, local_configuration}
 use Rattle.cfg_program.specs.Generated.{generated_configuration, generated_lists, GeneratedLineWritten, GeneratedWritten}
@@ -31,6 +32,7 @@ use Rattle.cfg_program.specs.Run.{WorldSeen, Seen, IsInput, WasRead, IsScript, W
 use Rattle.cfg_program.specs.Exclusion.{depends_on_input, BytesAreKnown, AppendTheSame, GainTheSame, ReadingCallsFor, CallsFor, comes}
 use Rattle.cfg_program.proofs.Pieces.{none_grown}
 use Rattle.cfg_program.proofs.OneList.{one_list}
+use Rattle.cfg_program.proofs.CachedOnce.{one_cached_list}
 use Rattle.cfg_program.proofs.OneLine.{one_line, one_part}
 use Rattle.cfg_program.proofs.OneRegion.{one_region}
 use Rattle.cfg_program.proofs.OneToken.{one_token}
@@ -49,15 +51,15 @@ BothAppend one other = (bytes : List ℕ) × Appends one.written one.written_aft
 known_is : (left : Option (List ℕ)) (bytes : List ℕ) (P : List ℕ → Type 0) → left ≡ Some bytes → IfSome left P → P bytes
 known_is left bytes P e known = subst (λ o. IfSome o P) e known
 
-known_of : (o : Option (List ℕ)) → IsSome o → (bytes : List ℕ) × (o ≡ Some bytes)
+pub known_of : (o : Option (List ℕ)) → IsSome o → (bytes : List ℕ) × (o ≡ Some bytes)
 known_of None h = cc
 known_of (Some bytes) h = (bytes, refl)
 
 -- what was read to the end is the input
-was_input : (source : SourceSeen) (bytes : List ℕ) → WasRead source bytes → IsInput source bytes
+pub was_input : (source : SourceSeen) (bytes : List ℕ) → WasRead source bytes → IsInput source bytes
 was_input source bytes was = record { all = was.all; short = was.short }
 
-is_long : (left left_after : Option (List ℕ)) → IsTooLong left left_after → IfSome left (λ b. most_bytes < length b)
+pub is_long : (left left_after : Option (List ℕ)) → IsTooLong left left_after → IfSome left (λ b. most_bytes < length b)
 is_long None after h = tt
 is_long (Some bytes) after h = h.0
 
@@ -71,7 +73,7 @@ both_nothing one other h k = ([], nothing_more one h, nothing_more other k)
 none_is_some : {s : Status} → ◌≡◌ {A = Option Status} None (Some s) → ⊥
 none_is_some h = cc
 
-one_some : (s t : Status) → ◌≡◌ {A = Option Status} (Some s) (Some t) → s ≡ t
+pub one_some : (s t : Status) → ◌≡◌ {A = Option Status} (Some s) (Some t) → s ≡ t
 one_some s t h = cc
 
 one_script : {P : Type 0} (p q : P) → ◌≡◌ {A = Option P} (Some p) (Some q) → p ≡ q
@@ -87,42 +89,42 @@ refusal s = Some s
 
 module _ {P : Type 0} (reads : List ℕ → Option P) where
   -- the refusal that bytes call for, if they call for one
-  abbrev refused_by : Option P → Option Status
+  abbrev pub refused_by : Option P → Option Status
   refused_by None = Some status.NoScript
   refused_by (Some p) = None
 
-  abbrev refused_for : List ℕ → Option Status
+  abbrev pub refused_for : List ℕ → Option Status
   refused_for bytes = cond (nat_lt most_bytes (length bytes)) (Some status.TooLong) (refused_by (reads bytes))
 
   -- the bytes of an input call for what their script calls for
-  read_is_refused : (source : SourceSeen) (all : List ℕ) → source.left ≡ Some all → (bytes : List ℕ) → IsInput source bytes → (r : Option P) → reads bytes ≡ r → refused_for all ≡ refused_by r
+  pub read_is_refused : (source : SourceSeen) (all : List ℕ) → source.left ≡ Some all → (bytes : List ℕ) → IsInput source bytes → (r : Option P) → reads bytes ≡ r → refused_for all ≡ refused_by r
   read_is_refused source all e bytes was r is =
       ap refused_for (known_is source.left all (λ b. b ≡ bytes) e was.all)
       ∙ ap (λ t. cond t (Some status.TooLong) (refused_by (reads bytes))) (le-ltb most_bytes (length bytes) was.short)
       ∙ ap refused_by is
 
-  script_is_not_refused : (source : SourceSeen) (all : List ℕ) → source.left ≡ Some all → (p : P) → IsScript source reads p → refused_for all ≡ None
+  pub script_is_not_refused : (source : SourceSeen) (all : List ℕ) → source.left ≡ Some all → (p : P) → IsScript source reads p → refused_for all ≡ None
   script_is_not_refused source all e p is = read_is_refused source all e is.bytes (was_input source is.bytes is.read) (Some p) is.script
 
-  long_is_refused : (source : SourceSeen) (all : List ℕ) → source.left ≡ Some all → IfSome source.left (λ b. most_bytes < length b) → refused_for all ≡ Some status.TooLong
+  pub long_is_refused : (source : SourceSeen) (all : List ℕ) → source.left ≡ Some all → IfSome source.left (λ b. most_bytes < length b) → refused_for all ≡ Some status.TooLong
   long_is_refused source all e long =
       ap (λ b. cond b (Some status.TooLong) (refused_by (reads all)))
       (lt-ltb most_bytes (length all) (known_is source.left all (λ b. most_bytes < length b) e long))
 
   -- a refusal that the input calls for
-  called_is_refused : (seen : Seen) (all : List ℕ) → seen.source.left ≡ Some all → (cause : Status) → ReadingCallsFor seen reads cause → refused_for all ≡ Some cause
-  called_is_refused seen all e status.Done h = absurd h
-  called_is_refused seen all e status.Refused h = absurd h
-  called_is_refused seen all e status.UnknownCommand h = absurd h
-  called_is_refused seen all e status.NoScript h = read_is_refused seen.source all e h.0 h.1 None h.2
-  called_is_refused seen all e status.SourceFault h = absurd h
-  called_is_refused seen all e status.SinkFault h = absurd h
-  called_is_refused seen all e status.OutOfMemory h = absurd h
-  called_is_refused seen all e status.TooLong h = long_is_refused seen.source all e h
-  called_is_refused seen all e status.HistoryDiffers h = absurd h
-  called_is_refused seen all e status.NotBuilt h = absurd h
+  pub called_is_refused : (source : SourceSeen) (all : List ℕ) → source.left ≡ Some all → (cause : Status) → ReadingCallsFor source reads cause → refused_for all ≡ Some cause
+  called_is_refused source all e status.Done h = absurd h
+  called_is_refused source all e status.Refused h = absurd h
+  called_is_refused source all e status.UnknownCommand h = absurd h
+  called_is_refused source all e status.NoScript h = read_is_refused source all e h.0 h.1 None h.2
+  called_is_refused source all e status.SourceFault h = absurd h
+  called_is_refused source all e status.SinkFault h = absurd h
+  called_is_refused source all e status.OutOfMemory h = absurd h
+  called_is_refused source all e status.TooLong h = long_is_refused source all e h
+  called_is_refused source all e status.HistoryDiffers h = absurd h
+  called_is_refused source all e status.NotBuilt h = absurd h
 
-  lines_or_refusal : (all : List ℕ) (ended : Status) → refused_for all ≡ None → refused_for all ≡ Some ended → ⊥
+  pub lines_or_refusal : (all : List ℕ) (ended : Status) → refused_for all ≡ None → refused_for all ≡ Some ended → ⊥
   lines_or_refusal all ended h k = none_is_some (sym h ∙ k)
 
   module _ (answers : P → Bool → List ℕ → Type 0) where
@@ -161,10 +163,11 @@ module _ {P : Type 0} (reads : List ℕ → Option P) where
     is_called source sink all cause ended h (inl x) = absurd (lines_or_refusal all cause x.called h)
     is_called source sink all cause ended h (inr x) = one_some ended cause (sym x.called ∙ h)
 
-    comes_where_called : (seen : Seen) (cause ended : Status) → BytesAreKnown seen → ReadingCallsFor seen reads cause → IsTrue (depends_on_input ended) → EndsReading seen.source seen.sink reads answers ended → ended ≡ cause
-    comes_where_called seen cause ended known h t ends =
-        let all = known_of seen.source.left known in
-        is_called seen.source seen.sink all.0 cause ended (called_is_refused seen all.0 all.1 cause h) (ends_as seen.source seen.sink all.0 all.1 ended t ends)
+    pub comes_where_called : (source : SourceSeen) (sink : SinkSeen) (cause ended : Status) → IsSome source.left → ReadingCallsFor source reads cause
+        → IsTrue (depends_on_input ended) → EndsReading source sink reads answers ended → ended ≡ cause
+    comes_where_called source sink cause ended known h t ends =
+        let all = known_of source.left known in
+        is_called source sink all.0 cause ended (called_is_refused source all.0 all.1 cause h) (ends_as source sink all.0 all.1 ended t ends)
 
     module _ (one_answer : (p : P) (a b : Bool) (lines other : List ℕ) → answers p a lines → answers p b other → (a ≡ b) × (lines ≡ other)) (x y : SourceSeen) (u v : SinkSeen) (all : List ℕ) (e : x.left ≡ Some all) (f : y.left ≡ Some all) where
       same_lines : (a b : Bool) → WritesLines x u reads answers a → WritesLines y v reads answers b → (a ≡ b) × BothAppend u v
@@ -300,6 +303,7 @@ module _ (handed : Handed) where
   alike one other (Some Help) s t known same gain u v a b = alike_telling one.sink other.sink HELP.now s t u v a b
   alike one other (Some Version) s t known same gain u v a b = alike_telling one.sink other.sink VERSION.now s t u v a b
   alike one other (Some (Resolve below)) s t known same gain u v a b = alike_reading script_of (Answers handed.sources (form.Call below)) (one_answer handed (form.Call below)) one other s t known same u v a b
+  alike one other (Some Cached) s t known same gain u v a b = alike_reading script_of (CachedAnswers handed.sources) (one_cached_list handed.sources) one other s t known same u v a b
   alike one other (Some Region) s t known same gain u v a b = alike_reading script_of_one_call RegionAnswers one_region one other s t known same u v a b
   alike one other (Some (Token below)) s t known same gain u v a b = alike_reading script_of_one_call (TokenAnswers below) (one_token below) one other s t known same u v a b
   alike one other (Some Explain) s t known same gain u v a b = alike_reading script_of_one_call (ExplainAnswers handed.sources) (one_explanation handed.sources) one other s t known same u v a b
@@ -313,6 +317,7 @@ module _ (handed : Handed) where
   exclude_one_another seen (Some Help) one other known t u a b = (alike_telling seen.sink seen.sink HELP.now one other t u a b).0
   exclude_one_another seen (Some Version) one other known t u a b = (alike_telling seen.sink seen.sink VERSION.now one other t u a b).0
   exclude_one_another seen (Some (Resolve below)) one other known t u a b = (alike_reading script_of (Answers handed.sources (form.Call below)) (one_answer handed (form.Call below)) seen seen one other known refl t u a b).0
+  exclude_one_another seen (Some Cached) one other known t u a b = (alike_reading script_of (CachedAnswers handed.sources) (one_cached_list handed.sources) seen seen one other known refl t u a b).0
   exclude_one_another seen (Some Region) one other known t u a b = (alike_reading script_of_one_call RegionAnswers one_region seen seen one other known refl t u a b).0
   exclude_one_another seen (Some (Token below)) one other known t u a b = (alike_reading script_of_one_call (TokenAnswers below) (one_token below) seen seen one other known refl t u a b).0
   exclude_one_another seen (Some Explain) one other known t u a b = (alike_reading script_of_one_call (ExplainAnswers handed.sources) (one_explanation handed.sources) seen seen one other known refl t u a b).0
@@ -326,18 +331,19 @@ module _ (handed : Handed) where
   pub comes_where_called_for : (seen : Seen) (command : Command) (cause ended : Status) → BytesAreKnown seen → IsTrue (reads_input command) → CallsFor seen command cause → IsTrue (depends_on_input ended) → EndsRun seen handed (Some command) ended → ended ≡ cause
   comes_where_called_for seen Help cause ended known r h t ends = cc
   comes_where_called_for seen Version cause ended known r h t ends = cc
-  comes_where_called_for seen (Resolve below) cause ended known r h t ends = comes_where_called script_of (Answers handed.sources (form.Call below)) seen cause ended known h t ends
-  comes_where_called_for seen Region cause ended known r h t ends = comes_where_called script_of_one_call RegionAnswers seen cause ended known h t ends
-  comes_where_called_for seen (Token below) cause ended known r h t ends = comes_where_called script_of_one_call (TokenAnswers below) seen cause ended known h t ends
-  comes_where_called_for seen Explain cause ended known r h t ends = comes_where_called script_of_one_call (ExplainAnswers handed.sources) seen cause ended known h t ends
-  comes_where_called_for seen Audit cause ended known r h t ends = comes_where_called audit_of (AuditAnswers handed.sources) seen cause ended known h t ends
-  comes_where_called_for seen Endpoint cause ended known r h t ends = comes_where_called made_endpoint_of EndpointAnswers seen cause ended known h t ends
+  comes_where_called_for seen (Resolve below) cause ended known r h t ends = comes_where_called script_of (Answers handed.sources (form.Call below)) seen.source seen.sink cause ended known h t ends
+  comes_where_called_for seen Cached cause ended known r h t ends = comes_where_called script_of (CachedAnswers handed.sources) seen.source seen.sink cause ended known h t ends
+  comes_where_called_for seen Region cause ended known r h t ends = comes_where_called script_of_one_call RegionAnswers seen.source seen.sink cause ended known h t ends
+  comes_where_called_for seen (Token below) cause ended known r h t ends = comes_where_called script_of_one_call (TokenAnswers below) seen.source seen.sink cause ended known h t ends
+  comes_where_called_for seen Explain cause ended known r h t ends = comes_where_called script_of_one_call (ExplainAnswers handed.sources) seen.source seen.sink cause ended known h t ends
+  comes_where_called_for seen Audit cause ended known r h t ends = comes_where_called audit_of (AuditAnswers handed.sources) seen.source seen.sink cause ended known h t ends
+  comes_where_called_for seen Endpoint cause ended known r h t ends = comes_where_called made_endpoint_of EndpointAnswers seen.source seen.sink cause ended known h t ends
   comes_where_called_for seen Local cause ended known r h t ends = cc
   comes_where_called_for seen (Generate n) cause ended known r h t ends = cc
 
 -- ---- statuses that never come
 
-reading_comes : {P : Type 0} (source : SourceSeen) (sink : SinkSeen) (reads : List ℕ → Option P) (answers : P → Bool → List ℕ → Type 0) (s : Status) → EndsReading source sink reads answers s → IsTrue (comes s)
+pub reading_comes : {P : Type 0} (source : SourceSeen) (sink : SinkSeen) (reads : List ℕ → Option P) (answers : P → Bool → List ℕ → Type 0) (s : Status) → EndsReading source sink reads answers s → IsTrue (comes s)
 reading_comes source sink reads answers status.Done ends = refl
 reading_comes source sink reads answers status.Refused ends = refl
 reading_comes source sink reads answers status.UnknownCommand ends = refl
@@ -393,6 +399,7 @@ run_comes seen handed None s ends = unknown_comes seen.sink s ends
 run_comes seen handed (Some Help) s ends = telling_comes seen.sink HELP.now s ends
 run_comes seen handed (Some Version) s ends = telling_comes seen.sink VERSION.now s ends
 run_comes seen handed (Some (Resolve below)) s ends = reading_comes seen.source seen.sink script_of (Answers handed.sources (form.Call below)) s ends
+run_comes seen handed (Some Cached) s ends = reading_comes seen.source seen.sink script_of (CachedAnswers handed.sources) s ends
 run_comes seen handed (Some Region) s ends = reading_comes seen.source seen.sink script_of_one_call RegionAnswers s ends
 run_comes seen handed (Some (Token below)) s ends = reading_comes seen.source seen.sink script_of_one_call (TokenAnswers below) s ends
 run_comes seen handed (Some Explain) s ends = reading_comes seen.source seen.sink script_of_one_call (ExplainAnswers handed.sources) s ends

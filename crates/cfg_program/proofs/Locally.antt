@@ -1,5 +1,5 @@
 -- The call over what is handed in: what it leaves of the world, and its line.
-use Rattle.std.proofs.Common.{◌≡◌, ℕ, List, [], ◌++◌, ◌-◌, length, length-append, take, drop, arith, Bool, true, false, None, Result, Ok, Err, OnErr, refl, sym, ap, subst, ◌∙◌, inl, inr}
+use Rattle.std.proofs.Common.{◌≡◌, ℕ, List, [], ◌++◌, ◌-◌, length, length-append, take, drop, arith, Bool, true, false, None, Result, Ok, Err, OnErr, refl, ap, subst, ◌∙◌, inr}
 use Rattle.std.specs.Prelude.{is_ok}
 use Rattle.std.proofs.Math.Seq.{drop-append_seam, take-length}
 use Rattle.cfg_base.specs.TextMap.{Named}

@@ -14,7 +14,8 @@ use Rattle.cfg_endpoint.proofs.Stretches.{serves_split, keeps_split}
 use Rattle.cfg_script.specs.declared.endpoint.EndpointScript.{EndpointScript}
 use Rattle.cfg_program.specs.declared.causes.Below.TheVariants.{Nothing}
 use Rattle.cfg_program.specs.declared.lines.LineForm.TheVariants.{Call}
-use Rattle.cfg_program.specs.Calls.{Made, InTurn, asked_by, lines_of, last_is_ok}
+use Rattle.cfg_program.specs.Why.{told_as}
+use Rattle.cfg_program.specs.Calls.{Made, IsMade, InTurn, asked_by, lines_of, last_is_ok}
 use Rattle.cfg_program.specs.Endpoints.{AnswersCalls, AnswersOverEndpoint, EndpointAnswers, setting_for, endpoint_at_first, calls_before}
 use Rattle.cfg_program.proofs.Calling.{asked_by_both}
 use Rattle.cfg_program.proofs.OneList.{same_calls}
@@ -38,12 +39,12 @@ as_many_others n (c ∷ one) [] e = absurd (omega (arith, e))
 as_many_others (suc n) (c ∷ one) (d ∷ other) e = as_many_others n one other (omega (arith, e))
 
 module _ (over : ChainSetting) where
-  in_turn_split : (before after : States) (calls more : List Made) → InTurn over before (calls ++ more) after → (between : States) × InTurn over before calls between × InTurn over between more after
+  in_turn_split : (before after : States) (calls more : List Made) → InTurn (IsMade over) before (calls ++ more) after → (between : States) × InTurn (IsMade over) before calls between × InTurn (IsMade over) between more after
   in_turn_split before after [] more made = (before, refl, made)
   in_turn_split before after (c ∷ calls) more made = let rest = in_turn_split c.kept after calls more made.1 in (rest.0, (made.0, rest.1), rest.2)
 
   -- calls leave one thing kept
-  one_end : (before after later : States) (calls : List Made) → InTurn over before calls after → InTurn over before calls later → after ≡ later
+  one_end : (before after later : States) (calls : List Made) → InTurn (IsMade over) before calls after → InTurn (IsMade over) before calls later → after ≡ later
   one_end before after later [] a b = a ∙ sym b
   one_end before after later (c ∷ calls) a b = one_end c.kept after later calls a.1 b.1
 
@@ -67,7 +68,7 @@ module _ (over : ChainSetting) where
     alike : (s : Spot) (one other : List Pair) → Gives s one → Gives s other → AnswerAlike one other
     alike s one other g h = served_alike s.0 clock s.1 one other g.0 g.1 h.0 h.1
 
-    same : (s : Spot) (before after later : States) (one other : List Made) → length one ≡ length other → InTurn over before one after → InTurn over before other later
+    same : (s : Spot) (before after later : States) (one other : List Made) → length one ≡ length other → InTurn (IsMade over) before one after → InTurn (IsMade over) before other later
         → Gives s (asked_by one) → Gives s (asked_by other) → one ≡ other
     same = same_calls over Gives left behind alike
 
@@ -76,22 +77,22 @@ module _ (over : ChainSetting) where
           Keeps clock 0 (asked_by (take n calls)) × Keeps clock (places_after clock 0 (asked_by (take n calls))) (asked_by (drop n calls))
       keeps_parts calls k =
           keeps_split clock 0 (asked_by (take n calls)) (asked_by (drop n calls))
-          (subst (Keeps clock 0) (ap asked_by (sym (take-append-drop n calls)) ∙ asked_by_both (take n calls) (drop n calls)) k)
+          (subst (Keeps clock 0) (ap (λ (l : List Made). asked_by l) (sym (take-append-drop n calls)) ∙ asked_by_both (take n calls) (drop n calls)) k)
 
-      same_answered : (e : EndpointState) (after later : States) (one other : List Made) → length one ≡ length other → InTurn over no_states one after → InTurn over no_states other later →
+      same_answered : (e : EndpointState) (after later : States) (one other : List Made) → length one ≡ length other → InTurn (IsMade over) no_states one after → InTurn (IsMade over) no_states other later →
           AnswersCalls e clock n one → AnswersCalls e clock n other → one ≡ other
       same_answered e after later one other many made also a b =
-          let p = in_turn_split no_states after (take n one) (drop n one) (subst (λ l. InTurn over no_states l after) (sym (take-append-drop n one)) made) in
-          let q = in_turn_split no_states later (take n other) (drop n other) (subst (λ l. InTurn over no_states l later) (sym (take-append-drop n other)) also) in
+          let p = in_turn_split no_states after (take n one) (drop n one) (subst (λ l. InTurn (IsMade over) no_states l after) (sym (take-append-drop n one)) made) in
+          let q = in_turn_split no_states later (take n other) (drop n other) (subst (λ l. InTurn (IsMade over) no_states l later) (sym (take-append-drop n other)) also) in
           let keeps = keeps_parts one a.keeps in
           let keep = keeps_parts other b.keeps in
           let first : take n one ≡ take n other = same (e, 0) no_states p.0 q.0 (take n one) (take n other) (as_many_first n one other many) p.1 q.1 (a.first, keeps.0) (b.first, keep.0) in
-          let between : p.0 ≡ q.0 = one_end no_states p.0 q.0 (take n one) p.1 (subst (λ l. InTurn over no_states l q.0) (sym first) q.1) in
+          let between : p.0 ≡ q.0 = one_end no_states p.0 q.0 (take n one) p.1 (subst (λ l. InTurn (IsMade over) no_states l q.0) (sym first) q.1) in
           let others : drop n one ≡ drop n other =
           same (forgotten (after_questions e (asked_by (take n one))), places_after clock 0 (asked_by (take n one))) p.0 after later (drop n one) (drop n other) (as_many_others n one other many)
-          p.2 (subst (λ k. InTurn over k (drop n other) later) (sym between) q.2) (a.others, keeps.1) (
-            subst (λ l. Serves (forgotten (after_questions e (asked_by l))) (asked_by (drop n other))) (sym first) b.others,
-            subst (λ l. Keeps clock (places_after clock 0 (asked_by l)) (asked_by (drop n other))) (sym first) keep.1,
+          p.2 (subst (λ k. InTurn (IsMade over) k (drop n other) later) (sym between) q.2) (a.others, keeps.1) (
+            subst (λ (l : List Made). Serves (forgotten (after_questions e (asked_by l))) (asked_by (drop n other))) (sym first) b.others,
+            subst (λ (l : List Made). Keeps clock (places_after clock 0 (asked_by l)) (asked_by (drop n other))) (sym first) keep.1,
           ) in
           sym (take-append-drop n one) ∙ ap (λ l. l ++ drop n one) first ∙ ap (λ l. take n other ++ l) others ∙ take-append-drop n other
 
@@ -99,7 +100,7 @@ one_over : (over : ChainSetting) (e : EndpointState) (clock : List Moment) (coun
     AnswersOverEndpoint over e clock count before a lines → AnswersOverEndpoint over e clock count before b other → (a ≡ b) × (lines ≡ other)
 one_over over e clock count before a b lines other x y =
     let same = same_answered over clock before e x.kept y.kept x.calls y.calls (x.counted ∙ sym y.counted) x.made y.made x.answers y.answers in
-    (x.credentials ∙ ap last_is_ok same ∙ sym y.credentials, x.shows ∙ ap (lines_of (Call Nothing)) same ∙ sym y.shows)
+    (x.credentials ∙ ap (λ (c : List Made). last_is_ok c) same ∙ sym y.credentials, x.shows ∙ ap (λ (c : List Made). lines_of (told_as over (Call Nothing)) c) same ∙ sym y.shows)
 
 pub one_endpoint : (s : EndpointScript) (a b : Bool) (lines other : List ℕ) → EndpointAnswers s a lines → EndpointAnswers s b other → (a ≡ b) × (lines ≡ other)
 one_endpoint s a b lines other x y = one_over (setting_for s.mode) (endpoint_at_first s) s.clock s.calls (calls_before s) a b lines other x y

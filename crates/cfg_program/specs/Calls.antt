@@ -24,7 +24,7 @@ use Rattle.cfg_chain.specs.Provides.{IsCall}
 use Rattle.cfg_script.specs.Script.{Plain, PlainProfiles, Sections, RefusedSections, Section}
 use Rattle.cfg_script.specs.Devices.{lists_of}
 use Rattle.cfg_program.specs.declared.lines.LineForm.{LineForm}
-use Rattle.cfg_program.specs.Lines.{shown_as}
+use Rattle.cfg_program.specs.Why.{told_as}
 
 -- the bytes of a text that may be left out
 abbrev pub bytes_of : Option (String Global) → Option (List ℕ)
@@ -81,70 +81,84 @@ pub record IsFresh (w : Held devices.Script) : Type 0 where
 
 -- A call that was made: the kept values that it found, its questions with their answers, what it came to,
 -- and what it left kept.
-pub record Made : Type 0 where
+pub record MadeOn (S : Type 0) : Type 0 where
   pub found : List Value
   pub journal : List Pair
   pub out : Answer
-  pub kept : States
+  pub kept : S
+
+-- a call of a default chain, which leaves kept states
+abbrev pub Made : Type 0
+Made = MadeOn States
 
 -- This call of a default chain of this setting was made on what was kept before it.
 abbrev pub IsMade : ChainSetting → States → Made → Type 0
 IsMade over before call = IsCall over before call.kept call.found call.journal call.out
 
--- These calls were made one after another: the first one over what was kept before, each later one over
--- what the call before it left, and this is kept behind the last.
-abbrev pub InTurn : ChainSetting → States → List Made → States → Type 0
-InTurn over before [] after = after ≡ before
-InTurn over before (call ∷ later) after = IsMade over before call × InTurn over call.kept later after
-
 -- the questions of all calls with their answers, in order
-abbrev pub asked_by : List Made → List Pair
+abbrev pub asked_by : {S : Type 0} → List (MadeOn S) → List Pair
 asked_by calls = flat_map (λ call. call.journal) calls
 
--- the lines of all calls in this form, in order
-abbrev pub lines_of : LineForm → List Made → List ℕ
-lines_of form calls = flat_map (λ call. shown_as form call.out call.journal) calls
+-- what is written for a call, by its answer and its journal
+abbrev pub Telling : Type 0
+Telling = Answer → List Pair → List ℕ
+
+-- what is written for all calls, in order
+abbrev pub lines_of : {S : Type 0} → Telling → List (MadeOn S) → List ℕ
+lines_of tells calls = flat_map (λ call. tells call.out call.journal) calls
 
 -- whether the last call gave credentials
-abbrev pub last_is_ok : List Made → Bool
+abbrev pub last_is_ok : {S : Type 0} → List (MadeOn S) → Bool
 last_is_ok [] = false
 last_is_ok (call ∷ []) = is_ok call.out
 last_is_ok (call ∷ next ∷ later) = last_is_ok (next ∷ later)
 
--- There are so many calls of a default chain of this setting, one after another, and nothing is kept before the
--- first. The answers to all of them, taken together,
--- are those that the lists give. The last one has this outcome, and the calls have these lines, in this
--- form.
-pub record AnswersOver (over : ChainSetting) (lists : DeviceLists) (count : ℕ) (form : LineForm) (is_credentials : Bool) (lines : List ℕ) : Type 0 where
-  pub calls : List Made
-  pub kept : States
-  pub counted : length calls ≡ count
-  pub made : InTurn over no_states calls kept
-  pub agrees : Given lists start (asked_by calls)
-  pub credentials : is_credentials ≡ last_is_ok calls
-  pub shows : lines ≡ lines_of form calls
+-- calls of one kind, by what each is on what was kept before it
+module _ {S : Type 0} (IsOne : S → MadeOn S → Type 0) where
+  -- These calls were made one after another: the first one over what was kept before, each later one over
+  -- what the call before it left, and this is kept behind the last.
+  abbrev pub InTurn : S → List (MadeOn S) → S → Type 0
+  InTurn before [] after = after ≡ before
+  InTurn before (call ∷ later) after = IsOne before call × InTurn call.kept later after
 
--- One call more was made over these devices, on what was kept before it. Its journal is its own alone; its
--- line stands behind the lines before it.
-pub record MakesCall {D : Type 0} (d : Ghosts D) (over : ChainSetting) (form : LineForm) (old new : States) (before later : D) (is_credentials : Bool) (lines lines_after : List ℕ) : Type 0 where
-  pub call : Made
-  pub made : IsMade over old call
-  pub left : call.kept ≡ new
-  pub same : Same (d.allows before) (d.allows later)
-  pub stands : StandsOn (d.stands before) (d.stands later) call.journal
-  pub credentials : is_credentials ≡ is_ok call.out
-  pub shows : lines_after ≡ lines ++ shown_as form call.out call.journal
+  -- There are so many calls, one after another, and this is kept before the first. The answers to all of them,
+  -- taken together, are those that the lists give. The last one has this outcome, and these lines are
+  -- written for the calls.
+  pub record AnswersFrom (first : S) (lists : DeviceLists) (count : ℕ) (tells : Telling) (is_credentials : Bool) (lines : List ℕ) : Type 0 where
+    pub calls : List (MadeOn S)
+    pub kept : S
+    pub counted : length calls ≡ count
+    pub made : InTurn first calls kept
+    pub agrees : Given lists start (asked_by calls)
+    pub credentials : is_credentials ≡ last_is_ok calls
+    pub shows : lines ≡ lines_of tells calls
 
--- So many calls were made over these devices, one after another, on what was kept before them. Their lines stand
--- behind the lines before them.
-pub record MakesCalls {D : Type 0} (d : Ghosts D) (over : ChainSetting) (form : LineForm) (count : ℕ) (old new : States) (before later : D) (is_credentials : Bool) (lines lines_after : List ℕ) : Type 0 where
-  pub calls : List Made
-  pub counted : length calls ≡ count
-  pub made : InTurn over old calls new
-  pub same : Same (d.allows before) (d.allows later)
-  pub stands : StandsOn (d.stands before) (d.stands later) (asked_by calls)
-  pub credentials : is_credentials ≡ last_is_ok calls
-  pub shows : lines_after ≡ lines ++ lines_of form calls
+  module _ {D : Type 0} (d : Ghosts D) where
+    -- One call more was made over these devices, on what was kept before it. Its journal is its own alone; its
+    -- line stands behind the lines before it.
+    pub record MakesCall (tells : Telling) (old new : S) (before later : D) (is_credentials : Bool) (lines lines_after : List ℕ) : Type 0 where
+      pub call : MadeOn S
+      pub made : IsOne old call
+      pub left : call.kept ≡ new
+      pub same : Same (d.allows before) (d.allows later)
+      pub stands : StandsOn (d.stands before) (d.stands later) call.journal
+      pub credentials : is_credentials ≡ is_ok call.out
+      pub shows : lines_after ≡ lines ++ tells call.out call.journal
+
+    -- So many calls were made over these devices, one after another, on what was kept before them. Their lines stand
+    -- behind the lines before them.
+    pub record MakesCalls (tells : Telling) (count : ℕ) (old new : S) (before later : D) (is_credentials : Bool) (lines lines_after : List ℕ) : Type 0 where
+      pub calls : List (MadeOn S)
+      pub counted : length calls ≡ count
+      pub made : InTurn old calls new
+      pub same : Same (d.allows before) (d.allows later)
+      pub stands : StandsOn (d.stands before) (d.stands later) (asked_by calls)
+      pub credentials : is_credentials ≡ last_is_ok calls
+      pub shows : lines_after ≡ lines ++ lines_of tells calls
+
+-- the calls of a default chain of this setting, where nothing is kept before the first
+abbrev pub AnswersOver : ChainSetting → DeviceLists → ℕ → LineForm → Bool → List ℕ → Type 0
+AnswersOver over lists count form is_credentials lines = AnswersFrom (IsMade over) no_states lists count (told_as over form) is_credentials lines
 
 -- the calls of a script, with these sources of the caller's own and lines in this form
 abbrev pub Answers : List NamedAnswer → LineForm → Plain → Bool → List ℕ → Type 0

@@ -3,7 +3,7 @@ use Rattle.std.specs.Prelude.{ℕ, ◌+◌, ◌-◌, ◌*◌, nat_lt, List, [], 
 use Rattle.std.specs.Str.{all_ascii_digits}
 use Rattle.cfg_program.specs.Lines.{digit_zero}
 use Rattle.cfg_program.specs.declared.commands.Command.{Command}
-use Rattle.cfg_program.specs.declared.commands.Command.TheVariants.{Help, Version, Resolve, Region, Token, Explain, Audit, Endpoint, Local, Generate}
+use Rattle.cfg_program.specs.declared.commands.Command.TheVariants.{Help, Version, Resolve, Cached, Region, Token, Explain, Audit, Endpoint, Local, Generate}
 use Rattle.cfg_program.specs.declared.causes.Below.TheVariants as below
 
 -- the number that decimal digits write behind those of n
@@ -34,6 +34,7 @@ command_named [] = None
 command_named (name ∷ []) =
     if bytes_eq name (codes "resolve") then Some (Resolve below.Nothing)
     else (if bytes_eq name (codes "why") then Some (Resolve below.Causes)
+    else (if bytes_eq name (codes "cached") then Some Cached
     else (if bytes_eq name (codes "region") then Some Region
     else (if bytes_eq name (codes "token") then Some (Token below.Nothing)
     else (if bytes_eq name (codes "why-token") then Some (Token below.Causes)
@@ -42,7 +43,7 @@ command_named (name ∷ []) =
     else (if bytes_eq name (codes "endpoint") then Some Endpoint
     else (if bytes_eq name (codes "local") then Some Local
     else (if bytes_eq name (codes "--help") then Some Help
-    else (if bytes_eq name (codes "--version") then Some Version else None))))))))))
+    else (if bytes_eq name (codes "--version") then Some Version else None)))))))))))
 command_named (name ∷ number ∷ []) = if bytes_eq name (codes "generate") then option_map Generate (count_of number) else None
 command_named (name ∷ number ∷ other ∷ more) = None
 

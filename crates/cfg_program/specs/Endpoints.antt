@@ -22,7 +22,8 @@ use Rattle.cfg_program.specs.declared.causes.Below.TheVariants.{Nothing}
 use Rattle.cfg_program.specs.declared.lines.LineForm.TheVariants.{Call}
 use Rattle.cfg_program.specs.declared.status.Status.{Status}
 use Rattle.cfg_program.specs.declared.status.Status.TheVariants as status
-use Rattle.cfg_program.specs.Calls.{Made, InTurn, asked_by, lines_of, last_is_ok}
+use Rattle.cfg_program.specs.Why.{told_as}
+use Rattle.cfg_program.specs.Calls.{Made, IsMade as IsCalled, InTurn, asked_by, lines_of, last_is_ok}
 use Rattle.cfg_program.specs.Local.{local_configuration}
 
 -- ---- the endpoint
@@ -99,10 +100,10 @@ pub record AnswersOverEndpoint (over : ChainSetting) (e : EndpointState) (clock 
   pub calls : List Made
   pub kept : States
   pub counted : length calls ≡ count
-  pub made : InTurn over no_states calls kept
+  pub made : InTurn (IsCalled over) no_states calls kept
   pub answers : AnswersCalls e clock before calls
   pub credentials : is_credentials ≡ last_is_ok calls
-  pub shows : lines ≡ lines_of (Call Nothing) calls
+  pub shows : lines ≡ lines_of (told_as over (Call Nothing)) calls
 
 -- the calls over the endpoint that an object says
 abbrev pub EndpointAnswers : EndpointScript → Bool → List ℕ → Type 0
@@ -130,4 +131,4 @@ pub record GiveServed (s : EndpointScript) (is_credentials : Bool) (lines : List
   pub counted : length calls ≡ s.calls
   pub give : EachGives (GivesServed s s.mode) calls
   pub credentials : is_credentials ≡ true
-  pub shows : lines ≡ lines_of (Call Nothing) calls
+  pub shows : lines ≡ lines_of (told_as (setting_for s.mode) (Call Nothing)) calls

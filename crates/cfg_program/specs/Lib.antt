@@ -6,7 +6,9 @@ pub mod Inputs
 pub mod Escapes
 pub mod CauseLines
 pub mod Lines
+pub mod Why
 pub mod Calls
+pub mod Cached
 pub mod Written
 pub mod Local
 pub mod Endpoints
@@ -17,3 +19,8 @@ pub mod Audited
 pub mod Generated
 pub mod Run
 pub mod Exclusion
+pub mod SharedCommands
+pub mod Shares
+pub mod Sharing
+pub mod Gated
+pub mod SharedRun

@@ -7,12 +7,13 @@ use Rattle.cfg_script.specs.Reading.{script_of, audit_of}
 use Rattle.cfg_program.specs.declared.status.Status.{Status}
 use Rattle.cfg_program.specs.declared.status.Status.TheVariants as status
 use Rattle.cfg_program.specs.declared.commands.Command.{Command}
-use Rattle.cfg_program.specs.declared.commands.Command.TheVariants.{Help, Version, Resolve, Region, Token, Explain, Audit, Endpoint, Local, Generate}
+use Rattle.cfg_program.specs.declared.commands.Command.TheVariants.{Help, Version, Resolve, Cached, Region, Token, Explain, Audit, Endpoint, Local, Generate}
 use Rattle.cfg_program.specs.declared.lines.LineForm.TheVariants as form
 use Rattle.cfg_program.specs.declared.commands.TheConstants.{HELP, VERSION}
 use Rattle.cfg_program.specs.Streams.{GrowsByPrefix, SourceSeen, SinkSeen}
 use Rattle.cfg_program.specs.Inputs.{IsTooLong, most_bytes}
 use Rattle.cfg_program.specs.Calls.{Answers}
+use Rattle.cfg_program.specs.Cached.{CachedAnswers}
 use Rattle.cfg_program.specs.Scripts.{script_of_one_call}
 use Rattle.cfg_program.specs.Regions.{RegionAnswers}
 use Rattle.cfg_program.specs.Tokens.{TokenAnswers}
@@ -136,6 +137,7 @@ EndsRun seen handed None ended = EndsUnknown seen.sink ended
 EndsRun seen handed (Some Help) ended = TextWritten seen.sink HELP.now ended
 EndsRun seen handed (Some Version) ended = TextWritten seen.sink VERSION.now ended
 EndsRun seen handed (Some (Resolve below)) ended = EndsReading seen.source seen.sink script_of (Answers handed.sources (form.Call below)) ended
+EndsRun seen handed (Some Cached) ended = EndsReading seen.source seen.sink script_of (CachedAnswers handed.sources) ended
 EndsRun seen handed (Some Region) ended = EndsReading seen.source seen.sink script_of_one_call RegionAnswers ended
 EndsRun seen handed (Some (Token below)) ended = EndsReading seen.source seen.sink script_of_one_call (TokenAnswers below) ended
 EndsRun seen handed (Some Explain) ended = EndsReading seen.source seen.sink script_of_one_call (ExplainAnswers handed.sources) ended

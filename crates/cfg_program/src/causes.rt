@@ -1,7 +1,6 @@
-//! What stands below the line of an error.
+//! What stands below the line of a call, and the causes of an error.
 ghost use Rattle.std.specs.Prelude.{◌≡◌, ◌++◌, OnOk};
 ghost use Rattle.std.specs.List.{flat_map};
-ghost use Rattle.cfg_error_report.specs.Lines.{Line};
 ghost use Rattle.cfg_error_report.specs.CredentialsCauses.{causes_of as causes_of_error};
 ghost use Rattle.cfg_error_report.specs.TokenCauses.{token_causes_of as causes_of_token_error};
 ghost use Rattle.cfg_program.specs.CauseLines.{indent, lead as lead_of, shown_cause, shown_causes};
@@ -13,12 +12,12 @@ use cfg_types::{CredentialsError, OutOfMemory, TokenError};
 use percent_encoding::percent_encode_byte;
 use std::alloc::AllocError;
 
-/// What stands below the line of an error.
+/// What stands below the line of a call.
 #[derive(Clone, Copy, Debug, PartialEq, Eq)]
 pub enum Below {
     /// Nothing.
     Nothing,
-    /// What the error comes of.
+    /// What an error comes of, and why a call of a chain of credentials gave its credentials.
     Causes,
 }
 
@@ -84,7 +83,7 @@ fn write_indent(lines: &mut Vec<u8>, depth: usize) -> Result<(), AllocError>
 
 // A text has a line to itself, so that only a control character ends it, and names stay readable. Characters that
 // turn the direction of a text would show its line, or a later one, as another.
-fn write_escaped(lines: &mut Vec<u8>, text: &str) -> Result<(), AllocError>
+pub(crate) fn write_escaped(lines: &mut Vec<u8>, text: &str) -> Result<(), AllocError>
     ensures { OnOk result (lines.new.items ≡ lines.old.items ++ line_text text.now) }
 {
     for character in text.chars() {

@@ -13,6 +13,8 @@ pub enum Command {
     Version,
     /// The calls that a script describes, with this below the line of an error.
     Resolve(Below),
+    /// The calls that a script describes, under one name of a cache.
+    Cached,
     /// The region that a script's default region chain gives.
     Region,
     /// The bearer token that a script's default token chain gives, with this below the line of an error.
@@ -40,12 +42,15 @@ pub const HELP: &str = "\
 bujerova: AWS credentials by a script, as the SDK's default chain finds them
 
 usage: bujerova resolve < SCRIPT     a line for each call that the script describes
-       bujerova why < SCRIPT         the same, and below an error what it comes of
+       bujerova why < SCRIPT         the same, and below each line why
+       bujerova cached < SCRIPT      a line for each call under one name of a cache
        bujerova region < SCRIPT      a line for the region of the script's default region chain
        bujerova token < SCRIPT       a line for the token of the script's default token chain
        bujerova why-token < SCRIPT   the same, and below an error what it comes of
        bujerova explain < SCRIPT     a line for each question of the script's call: who asked it
        bujerova audit < SCRIPT       whether the script's journal can be that of a call
+       bujerova share < SCRIPT       a line for each of the script's callers, on a thread each
+       bujerova gated < SCRIPT       the same of sections of their token, at a gate
        bujerova endpoint < ENDPOINT  a line for each call over a local endpoint for tests
        bujerova local                one line for a call over the variables and files here
        bujerova generate N           one line for a call over N profiles, 1 to 1000
@@ -59,11 +64,14 @@ their members, and the statuses that the program ends with.
 pub const USAGE: &str = "\
 usage: bujerova resolve < SCRIPT
        bujerova why < SCRIPT
+       bujerova cached < SCRIPT
        bujerova region < SCRIPT
        bujerova token < SCRIPT
        bujerova why-token < SCRIPT
        bujerova explain < SCRIPT
        bujerova audit < SCRIPT
+       bujerova share < SCRIPT
+       bujerova gated < SCRIPT
        bujerova endpoint < ENDPOINT
        bujerova local
        bujerova generate N
@@ -90,6 +98,8 @@ fn named(name: &str) -> Option<Command>
         Some(Command::Resolve(Below::Nothing))
     } else if name == "why" {
         Some(Command::Resolve(Below::Causes))
+    } else if name == "cached" {
+        Some(Command::Cached)
     } else if name == "region" {
         Some(Command::Region)
     } else if name == "token" {

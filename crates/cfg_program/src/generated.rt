@@ -9,7 +9,7 @@ use crate::lines::LineForm;
 use crate::outcome::Answered;
 use crate::resolve::{answer_over, chain_over};
 use cfg_profile::{ProfileSource, generated_set};
-use cfg_types::{FailKind, Instant, OutOfMemory, Reply, Seq, StsCredentials, StsReply, Text};
+use cfg_types::{Instant, OutOfMemory, Reply, Seq, StsCredentials, StsReply, Text};
 use cfg_world::DeviceLists;
 use std::alloc::Global;
 

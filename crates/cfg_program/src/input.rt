@@ -1,8 +1,11 @@
 //! All bytes of a source.
-ghost use Rattle.std.specs.Prelude.{◌≡◌, ◌≤◌, [], IfOk, IfSome, Err, length};
+ghost use Rattle.std.specs.Prelude.{◌≡◌, ◌≤◌, [], IfOk, IfSome, MatchResult, Err, length};
 ghost use Rattle.cfg_world.specs.Faults.{Rose};
 ghost use Rattle.cfg_program.specs.Inputs.{IsTooLong, most_bytes};
+ghost use Rattle.cfg_program.specs.Run.{WasRead, EndsEarly};
+ghost use Rattle.cfg_program.specs.Streams.{source_seen};
 
+use crate::status::Status;
 use cfg_world::{Source, StreamFault};
 use std::alloc::{AllocError, Global};
 
@@ -71,4 +74,17 @@ pub fn read_all<S: Source>(alloc: Global, source: &mut S) -> Result<Vec<u8>, Inp
         out.extend_from_slice(&piece[..n])?;
     }
     Err(InputError::TooLong)
+}
+
+/// All bytes of the source, or how a run ends that has not got them.
+pub fn bytes_in<S: Source>(alloc: Global, source: &mut S) -> Result<Vec<u8>, Status>
+    ensures { let seen = source_seen ⟦<S as Source>⟧ source.old source.new in
+        MatchResult result (λ bytes. WasRead seen bytes.items) (λ ended. EndsEarly seen ended) }
+{
+    match read_all(alloc, source) {
+        Ok(bytes) => Ok(bytes),
+        Err(InputError::Fault) => Err(Status::SourceFault),
+        Err(InputError::OutOfMemory) => Err(Status::OutOfMemory),
+        Err(InputError::TooLong) => Err(Status::TooLong),
+    }
 }

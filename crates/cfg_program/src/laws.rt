@@ -11,6 +11,7 @@ ghost use Rattle.cfg_script.specs.Script.{Plain, PlainAudit};
 ghost use Rattle.cfg_program.specs.declared.causes.Below.{Below};
 ghost use Rattle.cfg_program.specs.declared.status.Status.{Status as Ended};
 ghost use Rattle.cfg_program.specs.declared.commands.Command.{Command};
+ghost use Rattle.cfg_program.specs.declared.shared_commands.SharedCommand.TheVariants.{Share, Gated};
 ghost use Rattle.cfg_program.specs.declared.lines.LineForm.{LineForm as Form};
 ghost use Rattle.cfg_program.specs.declared.input.TheConstants.{LIMIT};
 ghost use Rattle.cfg_program.specs.declared.lines.TheConstants.{ESCAPED};
@@ -19,16 +20,19 @@ ghost use Rattle.cfg_program.specs.Inputs.{most_bytes};
 ghost use Rattle.cfg_program.specs.Commands.{most_profiles};
 ghost use Rattle.cfg_program.specs.Escapes.{escaped_in_word};
 ghost use Rattle.cfg_program.specs.Calls.{AnswersOver, Answers};
+ghost use Rattle.cfg_program.specs.Cached.{CachedAnswers};
 ghost use Rattle.cfg_program.specs.Endpoints.{made_endpoint_of, EndpointAnswers, ForgetsNothing, GiveServed};
 ghost use Rattle.cfg_program.specs.Generated.{GeneratedAnswers};
 ghost use Rattle.cfg_program.specs.Run.{Seen, EndsRun};
-ghost use Rattle.cfg_program.specs.Scripts.{reads_input};
+ghost use Rattle.cfg_program.specs.Scripts.{reads_input, share_of_one_call};
+ghost use Rattle.cfg_program.specs.Streams.{SourceSeen, SinkSeen};
+ghost use Rattle.cfg_program.specs.SharedRun.{EndsShared};
 ghost use Rattle.cfg_program.specs.Regions.{RegionAnswers};
 ghost use Rattle.cfg_program.specs.Tokens.{TokenAnswers};
 ghost use Rattle.cfg_program.specs.Explained.{ExplainAnswers};
 ghost use Rattle.cfg_program.specs.Audited.{AuditAnswers};
 ghost use Rattle.cfg_program.specs.Local.{Handed, LocalAnswers};
-ghost use Rattle.cfg_program.specs.Exclusion.{BytesAreKnown, AppendTheSame, GainTheSame, CallsFor, depends_on_input, comes};
+ghost use Rattle.cfg_program.specs.Exclusion.{BytesAreKnown, AppendTheSame, GainTheSame, ReadingCallsFor, CallsFor, depends_on_input, comes};
 
 /// The public numbers are those that the statements of runs name, and the public set has, of the bytes of ASCII,
 /// those that the lines escape in a text.
@@ -51,6 +55,13 @@ pub fn calls_have_one_list_of_lines()
 pub fn one_script_has_one_list_of_lines()
     ensures { (sources : List NamedAnswer) (form : Form) (script : Plain) (is_credentials is_other : Bool) (lines other : List ℕ) →
         Answers sources form script is_credentials lines → Answers sources form script is_other other → (is_credentials ≡ is_other) × (lines ≡ other) }
+{}
+
+/// A script has one list of lines of its calls under one name of a cache, and one status, where the caller's own sources
+/// are the same.
+pub fn one_script_has_one_list_of_cached_lines()
+    ensures { (sources : List NamedAnswer) (script : Plain) (is_credentials is_other : Bool) (lines other : List ℕ) →
+        CachedAnswers sources script is_credentials lines → CachedAnswers sources script is_other other → (is_credentials ≡ is_other) × (lines ≡ other) }
 {}
 
 /// A script has one line of its default region chain, and one status.
@@ -130,7 +141,21 @@ pub fn a_refusal_comes_where_the_input_calls_for_it()
         → EndsRun seen handed (Some command) ended → ended ≡ cause }
 {}
 
-/// No run ends as one over a history that differs, or as one that needs what is not built.
+/// Where the bytes of the input call for a refusal of callers (no script of several callers, each of which makes one
+/// call, or too long), a run over callers ends with it, or with a fault, or memory runs out.
+pub fn a_refused_share_comes_where_the_input_calls_for_it()
+    ensures share { (source : SourceSeen) (sink : SinkSeen) (sources : List NamedAnswer) (cause ended : Ended)
+        → IsSome source.left → ReadingCallsFor source share_of_one_call cause → IsTrue (depends_on_input ended)
+        → EndsShared source sink sources (Some Share) ended → ended ≡ cause }
+    ensures gated { (source : SourceSeen) (sink : SinkSeen) (sources : List NamedAnswer) (cause ended : Ended)
+        → IsSome source.left → ReadingCallsFor source share_of_one_call cause → IsTrue (depends_on_input ended)
+        → EndsShared source sink sources (Some Gated) ended → ended ≡ cause }
+{}
+
+/// No run of [`run`](crate::run::run), and none of the command `gated`, ends as one over a history that differs, or as
+/// one that needs what is not built.
 pub fn two_statuses_never_come()
-    ensures { (seen : Seen) (handed : Handed) (command : Option Command) (ended : Ended) → EndsRun seen handed command ended → IsTrue (comes ended) }
+    ensures run { (seen : Seen) (handed : Handed) (command : Option Command) (ended : Ended) → EndsRun seen handed command ended → IsTrue (comes ended) }
+    ensures gated { (source : SourceSeen) (sink : SinkSeen) (sources : List NamedAnswer) (ended : Ended)
+        → EndsShared source sink sources (Some Gated) ended → IsTrue (comes ended) }
 {}

@@ -1,5 +1,5 @@
 //! The lines of calls.
-ghost use Rattle.std.specs.Prelude.{◌≡◌, ◌<◌, ◌++◌, OnOk};
+ghost use Rattle.std.specs.Prelude.{◌≡◌, ◌<◌, ◌++◌, OnOk, codes};
 ghost use Rattle.std.specs.List.{flat_map};
 ghost use Rattle.std.specs.Fmt.{decimal, signed_decimal};
 ghost use Rattle.cfg_error_report.specs.CredentialsCauses.{causes_of};
@@ -20,7 +20,7 @@ pub const ESCAPED: AsciiSet = ascii_set!(CONTROLS.add(b' ').add(b'%'));
 /// The form of a call's line.
 #[derive(Clone, Copy, Debug, PartialEq, Eq)]
 pub enum LineForm {
-    /// What the call came to, and the questions that it asked, with this below the line of an error.
+    /// What the call came to, and the questions that it asked, with this below the line.
     Call(Below),
     /// This number of profiles, how many roles were asked for, and the id of the last key. An error has the
     /// line of `Call`, and nothing below it.
@@ -165,6 +165,17 @@ pub fn write_kinds(line: &mut Vec<u8>, journal: &[Entry]) -> Result<(), AllocErr
     Ok(())
 }
 
+/// Writes the kinds of the questions behind what a call came to, and ends the line. `AllocError` where memory runs out.
+#[tactic(auto, using(std::proofs::lemmas::Grind::common_steps))]
+pub fn write_questions(line: &mut Vec<u8>, journal: &[Entry]) -> Result<(), AllocError>
+    ensures { OnOk result (line.new.items ≡ line.old.items ++ (codes " " ++ (kinds_of journal.now ++ codes "\n"))) }
+{
+    line.push(b' ')?;
+    write_kinds(line, journal)?;
+    line.push(b'\n')?;
+    Ok(())
+}
+
 fn write_later_kinds(line: &mut Vec<u8>, journal: &[Entry]) -> Result<(), AllocError>
     ensures { OnOk result (line.new.items ≡ line.old.items ++ flat_map later_kind journal.now) }
 {
@@ -175,7 +186,7 @@ fn write_later_kinds(line: &mut Vec<u8>, journal: &[Entry]) -> Result<(), AllocE
     Ok(())
 }
 
-fn write_kind(line: &mut Vec<u8>, entry: &Entry) -> Result<(), AllocError>
+pub(crate) fn write_kind(line: &mut Vec<u8>, entry: &Entry) -> Result<(), AllocError>
     ensures { OnOk result (line.new.items ≡ line.old.items ++ kind_shown entry.now) }
 {
     write_word(line, kind_of(entry.question()).as_bytes())?;

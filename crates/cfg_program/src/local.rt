@@ -41,7 +41,8 @@ pub fn chain_without_sections(
     variables: Vec<(String, EnvText)>,
     custom: Vec<CustomSource>,
 ) -> Result<DefaultCredentialsChain, OutOfMemory>
-    ensures { IfOk result (λ chain. chain_of value repeated chain ≡ with_sources (local_configuration (map variable variables.items)) (named_sources value custom.items)) }
+    ensures { let over = with_sources (local_configuration (map variable variables.items)) (named_sources value custom.items) in
+        IfOk result (λ chain. chain_of value repeated chain ≡ over) }
 {
     let env = Env::new(alloc, variables)?;
     let config = ProviderConfig::without_region(alloc)?.with_env(env);

@@ -8,11 +8,13 @@ ghost use Rattle.cfg_chain.specs.Views.{named_sources, chain_of};
 ghost use Rattle.cfg_chain.specs.profile.Plans.{key_of};
 ghost use Rattle.cfg_script.specs.Script.{plain};
 ghost use Rattle.cfg_script.specs.Devices.{lists_of};
-ghost use Rattle.cfg_program.specs.Calls.{region_of, in_region, MakesCall, MakesCalls, AnswersOver, Answers};
+ghost use Rattle.cfg_program.specs.Why.{told_as};
+ghost use Rattle.cfg_program.specs.Calls.{region_of, in_region, IsMade, MakesCall, MakesCalls, AnswersOver, Answers};
 
 use crate::configuration::{configuration, region_named};
 use crate::lines::LineForm;
-use crate::outcome::{Answered, tell};
+use crate::outcome::Answered;
+use crate::why::tell_call;
 use cfg_chain::{ChainCore, DefaultCredentialsChain};
 use cfg_kept::Kept;
 use cfg_profile::ProviderConfig;
@@ -99,8 +101,8 @@ pub fn calls<D: Devices>(
     lines: &mut Vec<u8>,
 ) -> Result<bool, OutOfMemory>
     requires { kept_key kept.old ≡ key_of chain.now.core }
-    ensures calls { IfOk result (λ is_ok. MakesCalls ⟦<D as Devices>⟧ (chain_of value repeated chain.now) form count (states_of kept.old) (states_of kept.new)
-        world.old.devices world.new.devices is_ok lines.old.items lines.new.items) }
+    ensures calls { IfOk result (λ is_ok. MakesCalls (IsMade (chain_of value repeated chain.now)) ⟦<D as Devices>⟧
+        (told_as (chain_of value repeated chain.now) form) count (states_of kept.old) (states_of kept.new) world.old.devices world.new.devices is_ok lines.old.items lines.new.items) }
     ensures key { kept_key kept.new ≡ kept_key kept.old }
 {
     let mut is_ok = false;
@@ -120,8 +122,8 @@ fn call<D: Devices>(
     lines: &mut Vec<u8>,
 ) -> Result<bool, OutOfMemory>
     requires { kept_key kept.old ≡ key_of chain.now.core }
-    ensures call { IfOk result (λ is_ok. MakesCall ⟦<D as Devices>⟧ (chain_of value repeated chain.now) form (states_of kept.old) (states_of kept.new)
-        world.old.devices world.new.devices is_ok lines.old.items lines.new.items) }
+    ensures call { IfOk result (λ is_ok. MakesCall (IsMade (chain_of value repeated chain.now)) ⟦<D as Devices>⟧
+        (told_as (chain_of value repeated chain.now) form) (states_of kept.old) (states_of kept.new) world.old.devices world.new.devices is_ok lines.old.items lines.new.items) }
     ensures key { kept_key kept.new ≡ kept_key kept.old }
     ensures records { IfSome (kept_token kept.new) HasNoRecords }
 {
@@ -131,6 +133,6 @@ fn call<D: Devices>(
         answer: chain.provide_credentials(kept, world),
     };
     kept.trim();
-    let is_ok = tell(lines, form, &outcome.answer, world.journal())?;
+    let is_ok = tell_call(lines, chain, form, &outcome.answer, world.journal())?;
     Ok(is_ok)
 }

@@ -11,6 +11,7 @@ ghost use Rattle.cfg_program.specs.Commands.{command_named, is_command, most_pro
 ghost use Rattle.cfg_program.specs.Scripts.{reads_input, script_of_one_call};
 ghost use Rattle.cfg_program.specs.Written.{TextWritten, LinesWritten};
 ghost use Rattle.cfg_program.specs.Calls.{Answers};
+ghost use Rattle.cfg_program.specs.Cached.{CachedAnswers};
 ghost use Rattle.cfg_program.specs.Regions.{RegionAnswers};
 ghost use Rattle.cfg_program.specs.Tokens.{TokenAnswers};
 ghost use Rattle.cfg_program.specs.Explained.{ExplainAnswers};
@@ -18,17 +19,18 @@ ghost use Rattle.cfg_program.specs.Audited.{AuditAnswers};
 ghost use Rattle.cfg_program.specs.Local.{LeavesWorld, WorldAfter};
 ghost use Rattle.cfg_program.specs.Streams.{source_seen, sink_seen};
 ghost use Rattle.cfg_program.specs.Endpoints.{endpoint_at_first, made_endpoint_of, EndpointAnswers};
-ghost use Rattle.cfg_program.specs.Run.{EndsRun, EndsReading, EndsUnread, EndsEarly, EndsLocal, WasRead, IsScript, world_seen};
+ghost use Rattle.cfg_program.specs.Run.{EndsRun, EndsReading, EndsUnread, EndsLocal, IsScript, world_seen};
 ghost use Rattle.cfg_program.specs.Exclusion.{comes};
 ghost use Rattle.cfg_program.specs.Generated.{GeneratedWritten};
 
 use crate::audit::audit;
+use crate::cached::cached;
 use crate::causes::Below;
 use crate::commands::{Command, HELP, VERSION, command_of};
 use crate::endpoint::{answer_by, endpoint_by};
 use crate::explain::explain;
 use crate::generated::generate;
-use crate::input::{InputError, read_all};
+use crate::input::bytes_in;
 use crate::lines::LineForm;
 use crate::local::call_locally;
 use crate::outcome::Answered;
@@ -45,14 +47,15 @@ use cfg_world::{Devices, Sink, Source, StreamFault, World};
 use std::alloc::Global;
 
 /// Does what the program's arguments ask for: tells a text; or reads a script from the source and writes the lines of
-/// its calls, or of its default region or token chain, to the sink, or which member asked each question of its call, or
-/// whether its journal can be that of a call; or reads what a local endpoint serves and writes the lines of the calls
-/// over it; or writes the line of the call over a set of profiles that comes from a number, or of the call over `env`
-/// and the world. It answers how that ended. The arguments are read first: where they are no command that reads, the
-/// source stays as it was, and for an unknown command the sink too. Nothing is written before the input was read to its
-/// end. The commands `resolve`, `why`, `explain`, `audit` and `local` alone give their chain the sources in `custom`,
-/// which profiles find by `credential_source`. The command `local` alone asks the world, whose journal gains its
-/// questions; without it `env` is left aside, and the world stays as it was.
+/// its calls, or of these under one name of a cache, or of its default region or token chain, to the sink, or which
+/// member asked each question of its call, or whether its journal can be that of a call; or reads what a local endpoint
+/// serves and writes the lines of the calls over it; or writes the line of the call over a set of profiles that comes
+/// from a number, or of the call over `env` and the world. It answers how that ended. The arguments are read first:
+/// where they are no command that reads, the source stays as it was, and for an unknown command the sink too. Nothing
+/// is written before the input was read to its end. The commands `resolve`, `why`, `cached`, `explain`, `audit` and
+/// `local` alone give their chain the sources in `custom`, which profiles find by `credential_source`. The command
+/// `local` alone asks the world, whose journal gains its questions; without it `env` is left aside, and the world stays
+/// as it was.
 pub fn run<S: Source, K: Sink, D: Devices>(
     alloc: Global,
     arguments: &[String],
@@ -83,6 +86,7 @@ pub fn run<S: Source, K: Sink, D: Devices>(
         Some(Command::Resolve(below)) => {
             resolve_script(alloc, source, sink, custom, LineForm::Call(below))
         }
+        Some(Command::Cached) => cached_lines(alloc, source, sink, custom),
         Some(Command::Region) => region_line(alloc, source, sink),
         Some(Command::Token(below)) => token_line(alloc, source, sink, below),
         Some(Command::Explain) => explain_lines(alloc, source, sink, custom),
@@ -117,6 +121,25 @@ fn resolve_script<S: Source, K: Sink>(
 {
     match script_in(alloc, source) {
         Ok(script) => match resolve(alloc, script, custom, form) {
+            Ok(answered) => write_lines(sink, &answered),
+            Err(OutOfMemory) => Status::OutOfMemory,
+        },
+        Err(ended) => ended,
+    }
+}
+
+// Reads a script, makes its calls under one name of a cache, and writes their lines.
+fn cached_lines<S: Source, K: Sink>(
+    alloc: Global,
+    source: &mut S,
+    sink: &mut K,
+    custom: Vec<CustomSource>,
+) -> Status
+    ensures { EndsReading (source_seen ⟦<S as Source>⟧ source.old source.new) (sink_seen ⟦<K as Sink>⟧ sink.old sink.new)
+        script_of (CachedAnswers (named_sources value custom.items)) result }
+{
+    match script_in(alloc, source) {
+        Ok(script) => match cached(alloc, script, custom) {
             Ok(answered) => write_lines(sink, &answered),
             Err(OutOfMemory) => Status::OutOfMemory,
         },
@@ -275,19 +298,6 @@ fn audit_in<S: Source>(alloc: Global, source: &mut S) -> Result<AuditScript, Sta
     }
 }
 
-// All bytes of the source, or how a run ends that has not got them.
-fn bytes_in<S: Source>(alloc: Global, source: &mut S) -> Result<Vec<u8>, Status>
-    ensures { let seen = source_seen ⟦<S as Source>⟧ source.old source.new in
-        MatchResult result (λ bytes. WasRead seen bytes.items) (λ ended. EndsEarly seen ended) }
-{
-    match read_all(alloc, source) {
-        Ok(bytes) => Ok(bytes),
-        Err(InputError::Fault) => Err(Status::SourceFault),
-        Err(InputError::OutOfMemory) => Err(Status::OutOfMemory),
-        Err(InputError::TooLong) => Err(Status::TooLong),
-    }
-}
-
 // Makes the call over what is handed in, and writes its line.
 fn local_line<K: Sink, D: Devices>(
     alloc: Global,
@@ -318,8 +328,8 @@ fn generate_line<K: Sink>(alloc: Global, n: u64, sink: &mut K) -> Status
     }
 }
 
-// Writes the lines of calls.
-fn write_lines<K: Sink>(sink: &mut K, answered: &Answered) -> Status
+/// Writes the lines of calls, and tells how that ended.
+pub(crate) fn write_lines<K: Sink>(sink: &mut K, answered: &Answered) -> Status
     ensures { LinesWritten (sink_seen ⟦<K as Sink>⟧ sink.old sink.new) answered.now.is_ok answered.now.lines.items result }
 {
     match write_all(sink, answered.lines.as_slice()) {

@@ -21,7 +21,8 @@ pub enum Status {
     OutOfMemory,
     /// The input is longer than a script may be: more than [`crate::LIMIT`] bytes.
     TooLong,
-    /// The questions differ from a given history. Nothing has a history yet, so no run ends so.
+    /// What callers' journals tell, what they found and what they left kept tell of more than one history. Only what
+    /// is done on several threads ends so.
     HistoryDiffers,
     /// What is asked for is not built. Everything is, so no run ends so.
     NotBuilt,

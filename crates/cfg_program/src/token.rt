@@ -1,22 +1,24 @@
 //! The call of the default token chain.
-ghost use Rattle.std.specs.Prelude.{◌≡◌, ◌++◌, [], false, is_ok, IfOk, OnOk};
+ghost use Rattle.std.specs.Prelude.{◌≡◌, ◌++◌, [], false, is_ok, IfOk, OnOk, codes};
+ghost use Rattle.cfg_types.specs.TokenClasses.{token_class_name};
 ghost use Rattle.cfg_world.specs.Grows.{Grows};
 ghost use Rattle.cfg_world.specs.Script.{AllFit};
 ghost use Rattle.cfg_script.specs.Script.{plain};
 ghost use Rattle.cfg_script.specs.Devices.{lists_of};
 ghost use Rattle.cfg_sso.specs.BearerTokens.{is_memory};
 ghost use Rattle.cfg_program.specs.Calls.{in_region, IsFresh};
+ghost use Rattle.cfg_program.specs.Lines.{shown_expiry};
 ghost use Rattle.cfg_program.specs.Tokens.{shown_bearer, shown_token, shown_token_as, TellsToken, TokenAnswers};
 
 use crate::causes::{Below, write_token_causes};
 use crate::configuration::{configuration, region_named};
-use crate::lines::{write_expiry, write_kinds, write_word};
+use crate::lines::{write_expiry, write_questions, write_word};
 use crate::outcome::Answered;
 use cfg_profile::ProviderConfig;
 use cfg_region::RegionSource;
 use cfg_script::Script;
 use cfg_token_chain::DefaultTokenChain;
-use cfg_types::{OutOfMemory, Outcome, Region, Token, TokenError};
+use cfg_types::{Instant, OutOfMemory, Outcome, Region, Token, TokenClass, TokenError};
 use cfg_world::{Devices, Entry, ScriptDevices, World};
 use std::alloc::{AllocError, Global};
 
@@ -44,8 +46,9 @@ pub fn find_token(alloc: Global, script: Script, below: Below) -> Result<Answere
     ask_token(alloc, &chain, below, &mut world)
 }
 
-// The default chain with this region, or none, in place of the configuration's. Nothing is asked.
-fn token_chain<D: Devices>(
+/// The default chain with this region, or none, in place of the configuration's. Nothing is asked. `OutOfMemory` where
+/// memory runs out.
+pub fn token_chain<D: Devices>(
     alloc: Global,
     config: ProviderConfig,
     region: Option<Region>,
@@ -112,9 +115,9 @@ fn write_with_below(
     }
 }
 
-// What the call came to, and the kinds of the questions.
+/// Writes what the call came to, and the kinds of the questions. `AllocError` where memory runs out.
 #[tactic(auto, using(std::proofs::lemmas::Grind::common_steps), unfolding(crate::specs::Tokens::shown_token))]
-fn write_token(
+pub fn write_token(
     line: &mut Vec<u8>,
     outcome: &Result<Token, TokenError>,
     journal: &[Entry],
@@ -122,25 +125,32 @@ fn write_token(
     ensures { OnOk result (line.new.items ≡ line.old.items ++ shown_token outcome.now journal.now) }
 {
     write_bearer(line, outcome)?;
-    line.push(b' ')?;
-    write_kinds(line, journal)?;
-    line.push(b'\n')?;
-    Ok(())
+    write_questions(line, journal)
 }
 
-// `token` and the expiry, or `error` and the class.
 fn write_bearer(line: &mut Vec<u8>, outcome: &Result<Token, TokenError>) -> Result<(), AllocError>
     ensures { OnOk result (line.new.items ≡ line.old.items ++ shown_bearer outcome.now) }
 {
     match outcome {
-        Ok(token) => {
-            write_word(line, b"token ")?;
-            write_expiry(line, token.expiry())?;
-        }
-        Err(error) => {
-            write_word(line, b"error ")?;
-            write_word(line, error.class().name().as_bytes())?;
-        }
+        Ok(token) => write_ending(line, token.expiry()),
+        Err(error) => write_class(line, error.class()),
     }
-    Ok(())
+}
+
+/// Writes `token` and when it expires. `AllocError` where memory runs out.
+#[tactic(auto, using(std::proofs::lemmas::Grind::common_steps))]
+pub fn write_ending(line: &mut Vec<u8>, expiry: Option<Instant>) -> Result<(), AllocError>
+    ensures { OnOk result (line.new.items ≡ line.old.items ++ (codes "token " ++ shown_expiry expiry)) }
+{
+    write_word(line, b"token ")?;
+    write_expiry(line, expiry)
+}
+
+/// Writes `error` and the class. `AllocError` where memory runs out.
+#[tactic(auto, using(std::proofs::lemmas::Grind::common_steps))]
+pub fn write_class(line: &mut Vec<u8>, class: TokenClass) -> Result<(), AllocError>
+    ensures { OnOk result (line.new.items ≡ line.old.items ++ (codes "error " ++ token_class_name class)) }
+{
+    write_word(line, b"error ")?;
+    write_word(line, class.name().as_bytes())
 }

@@ -1,3 +1,4 @@
 //! The tests of cfg_program, over public calls: what no clause says.
 mod own;
 mod runs;
+mod shared_runs;

@@ -1,9 +1,7 @@
 -- What is recorded of the token that is kept.
 use Rattle.std.proofs.Common.{◌≡◌, List, [], map, Option, Some, None, refl, sym, ap, ◌∙◌}
-use Rattle.std.specs.Prelude.{Result}
 use Rattle.std.specs.List.{flat_map}
 use Rattle.std.proofs.lemmas.List.Folds.{flat_map-map}
-use Rattle.cfg_base.specs.Moment.{Moment}
 use Rattle.cfg_types.specs.declared.errors.login.LoginTokenError.{LoginTokenError}
 use Rattle.cfg_types.specs.declared.errors.sso.SsoTokenProviderError.{SsoTokenProviderError}
 use Rattle.cfg_token.specs.declared.state.TokenState.{TokenState}

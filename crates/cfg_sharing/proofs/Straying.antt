@@ -1,6 +1,6 @@
 -- Strays among receipts that come one behind the other, and entries that stand in a journal.
 use Rattle.std.proofs.Common.{◌≡◌, ℕ, ◌+◌, ◌<◌, ◌≤◌, List, [], ◌∷◌, ◌++◌, inl, inr, refl, sym, ap, ◌∙◌, arith, length, get_or, take, drop, subst, append-nil}
-use Rattle.std.specs.Prelude.{◌⊎◌, min, Contains, All}
+use Rattle.std.specs.Prelude.{min, Contains, All}
 use Rattle.std.specs.List.{flat_map, AllByRecursion}
 use Rattle.std.proofs.lemmas.Grind.{flat_map-append}
 use Rattle.std.proofs.lemmas.List.{take_more, take_all, take-append-drop}

@@ -1,13 +1,13 @@
 -- Whether the histories agree, by what the tests of them said.
-use Rattle.std.proofs.Common.{◌≡◌, ℕ, ◌<◌, List, Bool, true, false, Option, Some, None, refl, sym, subst, length, get_or, inl, inr, ◌∙◌}
-use Rattle.std.specs.Prelude.{◌↔◌, ◌⊎◌, IsTrue, IsSome, IfSome, MatchBool, All, Contains}
-use Rattle.std.specs.Fork.{GivesJobs, GivesJob}
+use Rattle.std.proofs.Common.{◌≡◌, ℕ, suc, ◌<◌, List, [], ◌∷◌, Bool, true, false, Option, Some, None, refl, sym, subst, length, get_or, inl, inr, arith}
+use Rattle.std.specs.Prelude.{◌↔◌, ◌⊎◌, IsTrue, IsSome, IfSome, MatchBool}
+use Rattle.std.specs.Fork.{GivesJobs}
+use Rattle.std.specs.List.{AllZip}
 use Rattle.std.specs.Fn.{FnReturns}
 use denote.Param.Members.{Shared as Callable}
 use Rattle.cfg_base.specs.Moment.{Moment}
 use Rattle.cfg_kept.specs.KeptStates.{kept_key}
 use Rattle.cfg_sharing.specs.declared.shared.Shared.{Shared}
-use Rattle.cfg_sharing.specs.Pairwise.{Pairwise}
 use Rattle.cfg_sharing.specs.Readings.{AreSorted}
 use Rattle.cfg_sharing.specs.Strays.{IsStrayCount}
 use Rattle.cfg_sharing.specs.Histories.{entries_in, receipts_in, handed_in, recorded_in}
@@ -43,13 +43,20 @@ pub if_same : {X : Type 0} (P : X → Type 0) (o : Option X) (x : X) → IfSome 
 if_same P None x is p = tt
 if_same P (Some y) x is p = subst P (sym is) p
 
+-- a relation that holds at each place
+zip_each : {J X : Type 0} (R : J → X → Type 0) (js : List J) (rs : List X) → length rs ≡ length js →
+    ((i : ℕ) (x : X) → i < length js → (j : J) × ((e : J) → get_or js i e ≡ j) × R j (get_or rs i x)) → AllZip R js rs
+zip_each R [] [] e h = tt
+zip_each R [] (r ∷ rs) e h = absurd (let x : suc (length rs) ≡ 0 = e in omega arith)
+zip_each R (j ∷ js) [] e h = absurd (let x : 0 ≡ suc (length js) = e in omega arith)
+zip_each R (j ∷ js) (r ∷ rs) e h = (
+  (let p = h 0 r (omega arith) in subst (λ x. R x r) (sym (p.1 j)) p.2),
+  zip_each R js rs (omega arith) (λ i d lt. h (suc i) d (omega arith)),
+)
+
 -- what each call of a closure gives of its job
 pub of_jobs : {F J X : Type 0} (g : Callable F (J × Unit {0}) X) (f : F) (R : J → X → Type 0) (jobs : List J) (given : List X)
-    → length given ≡ length jobs → GivesJobs g f jobs given → ((job : J) (x : X) → FnReturns g f (job, tt) x → R job x) → Pairwise R jobs given
-of_jobs g f R jobs given count gives each = record {
-  count = count;
-  each = λ i job x lt is at.
-      let one = (gives i x lt).1 in
-      let same : one.job ≡ job = sym (one.job_is job) ∙ sym is in
-      subst (λ y. R job y) (sym at) (subst (λ j. R j (get_or given i x)) same (each one.job (get_or given i x) one.call));
-}
+    → length given ≡ length jobs → GivesJobs g f jobs given → ((job : J) (x : X) → FnReturns g f (job, tt) x → R job x) → AllZip R jobs given
+of_jobs g f R jobs given count gives each = zip_each R jobs given count (λ i x lt.
+    let one = (gives i x lt).1 in
+    (one.job, one.job_is, each one.job (get_or given i x) one.call))

@@ -1,5 +1,5 @@
 //! Receipts of entries that stand in no caller's journal.
-ghost use Rattle.std.specs.Prelude.{◌≡◌, ◌↔◌, [], ◌∷◌, IsTrue, Contains};
+ghost use Rattle.std.specs.Prelude.{◌↔◌, [], ◌∷◌, IsTrue, Contains};
 ghost use Rattle.std.specs.List.{flat_map};
 ghost use Rattle.cfg_sharing.specs.Receipts.{receipts_of};
 ghost use Rattle.cfg_sharing.specs.Strays.{AddsStrays};

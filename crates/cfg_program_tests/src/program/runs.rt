@@ -108,8 +108,14 @@ fn words(rt: HostRuntime) -> Result<(), Fail> {
         (
             &["why"],
             r#"{"calls":2,"profiles":[["default",[["credential_process","x"]]]],"commands":[[3,"","a\nb\u009b\u202e%é"],[0,"{\"Version\":1,\"AccessKeyId\":\"P\",\"SecretAccessKey\":\"S\"}",""]]}"#,
-            "Done error ProviderError run\n  provider error\n    the base gave no credentials\n  provider error\n  the command ended with status 3: a%0Ab%C2%9B%E2%80%AE%25é\ncredentials =P =CredentialProcess none run\n",
+            "Done error ProviderError run\n  provider error\n    the base gave no credentials\n  provider error\n  the command ended with status 3: a%0Ab%C2%9B%E2%80%AE%25é\ncredentials =P =CredentialProcess none run\n  Environment passed over: not loaded: environment variable not set (`AWS_ACCESS_KEY_ID` is not set, or blank)\n  Profile answered\n    run x\n",
         ),
+        (
+            &["cached"],
+            r#"{"calls":4,"profiles":[["default",[["role_arn","r"],["role_session_name","s"],["credential_source","OWN"]]]],"clock":[5,1989,1990,1991],"replies":{"assume-role":[{"id":"KA","secret":"SA","token":"TA","expires":2000},"dispatch",{"id":"KB","secret":"SB","token":"TB","expires":5000}]}}"#,
+            "Done credentials =KA =AssumeRoleProvider 2000.000000000 now,assume-role\ncredentials =KA =AssumeRoleProvider 2000.000000000 now\nerror ProviderError now,assume-role!\ncredentials =KB =AssumeRoleProvider 5000.000000000 now,assume-role\n",
+        ),
+        (&["cached"], r#"{"calls":0}"#, "NoScript "),
         (
             &["region"],
             r#"{"variables":[["AWS_REGION","a b"]]}"#,

@@ -1,5 +1,4 @@
 -- A place that is told is one of the answers, and the line is what is told.
-use Rattle.cfg_kept.specs.KeptStates.{states_of, kept_holdings}
 use Rattle.cfg_chain.specs.Settings.{ChainSetting}
 use Rattle.cfg_chain.specs.Views.{chain_of}
 use Rattle.cfg_program.proofs.Auditing.{is_place, audited}

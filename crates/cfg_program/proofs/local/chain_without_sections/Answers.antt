@@ -1,5 +1,5 @@
 -- The configuration is an empty one with these variables.
-use Rattle.std.proofs.Common.{◌≡◌, IfOk, map}
+use Rattle.std.proofs.Common.{map}
 use Rattle.cfg_base.specs.TextMap.{named}
 use Rattle.cfg_program.proofs.AloneChains.{if_local}
 use Rattle.cfg_program.proofs.local.chain_without_sections.Goals as goal

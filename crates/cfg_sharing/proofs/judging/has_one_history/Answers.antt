@@ -1,5 +1,5 @@
 -- Without a token there is nothing to compare; else both lists are compared.
-use Rattle.std.proofs.Common.{ap, ◌∙◌, sym, rules}
+use Rattle.std.proofs.Common.{rules}
 use Rattle.cfg_sharing.proofs.Verdicts.{no_key, compared}
 use Rattle.cfg_sharing.proofs.judging.has_one_history.Goals as goal
 

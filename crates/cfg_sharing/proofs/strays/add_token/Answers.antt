@@ -1,5 +1,5 @@
 -- That of the reply, and then that of the reading.
-use Rattle.std.proofs.Common.{List, [], ◌∷◌, subst}
+use Rattle.std.proofs.Common.{[], ◌∷◌, subst}
 use Rattle.cfg_world.specs.Fits.{Pair}
 use Rattle.cfg_sharing.specs.Histories.{entries_in}
 use Rattle.cfg_sharing.specs.Strays.{AddsStrays}

@@ -1,5 +1,5 @@
 -- An entry stands in one of the journals, or in none of them.
-use Rattle.std.proofs.Common.{◌≡◌, List, true, refl, sym, ◌∙◌, subst}
+use Rattle.std.proofs.Common.{List, true, refl, sym, subst}
 use Rattle.std.specs.Prelude.{Contains}
 use Rattle.std.proofs.lemmas.List.{take_all}
 use Rattle.cfg_world.specs.Fits.{Pair}
