@@ -1,6 +1,7 @@
 //! The program `bujerova`: it hands `cfg_program::run` its arguments, standard input and
 //! output, the variables that are set and one source of credentials of its own, or where the command is done on
-//! several threads `run_shared` what that takes, and ends with the number of the status. Where the status says that
+//! several threads `run_shared` what that takes, and ends with the number of the status. For a call over a
+//! conversation of lines it hands standard input and output to `cfg_drive::drive`. Where the status says that
 //! the input was refused, standard error has a line that says why, unless memory ran out for it. For an unknown
 //! command it has the usage.
 #![tactic(auto)]
@@ -8,6 +9,7 @@
 mod fixed;
 mod keeping;
 
+use cfg_drive::{Driven, drive};
 use cfg_endpoint::EndpointFault;
 use cfg_program::run::run;
 use cfg_program::run_shared::run_shared;
@@ -30,6 +32,21 @@ use std::thread::Threads;
 
 fn main(rt: HostRuntime) -> ExitCode {
     let alloc = rt.alloc();
+    if is_drive(&rt) {
+        let mut source = ReaderSource::new(rt.stdin());
+        let mut sink = WriterSink::new(rt.stdout());
+        let driven = drive(alloc, &mut source, &mut sink);
+        match &driven {
+            Driven::Broken(broken) => {
+                let _ = eprintln!(rt; "bujerova: {broken}");
+            }
+            Driven::Unwritten => {
+                let _ = rt.eprintln("bujerova: the output failed");
+            }
+            _ => {}
+        }
+        return ExitCode::from(driven.number());
+    }
     let mut source = KeepingSource::new(alloc, ReaderSource::new(rt.stdin()));
     let mut sink = WriterSink::new(rt.stdout());
     let mut world = World::new(alloc, LocalDevices::new(alloc, &rt));
@@ -56,6 +73,17 @@ fn main(rt: HostRuntime) -> ExitCode {
         let _ = eprintln!(rt; "bujerova: {reason}");
     }
     ExitCode::from(status.number())
+}
+
+// Whether the arguments ask for a call over a conversation of lines.
+fn is_drive(rt: &(impl std::rt::Env + AllocGlobal)) -> bool {
+    match arguments_of(rt) {
+        Ok(arguments) => match arguments.as_slice() {
+            [name] => name.as_str() == "drive",
+            _ => false,
+        },
+        Err(_) => false,
+    }
 }
 
 // How a run ends that has the program's own source of credentials.

@@ -52,6 +52,7 @@ usage: bujerova resolve < SCRIPT     a line for each call that the script descri
        bujerova share < SCRIPT       a line for each of the script's callers, on a thread each
        bujerova gated < SCRIPT       the same of sections of their token, at a gate
        bujerova endpoint < ENDPOINT  a line for each call over a local endpoint for tests
+       bujerova drive                one call, its questions and their answers as lines
        bujerova local                one line for a call over the variables and files here
        bujerova generate N           one line for a call over N profiles, 1 to 1000
        bujerova --help | --version
@@ -73,6 +74,7 @@ usage: bujerova resolve < SCRIPT
        bujerova share < SCRIPT
        bujerova gated < SCRIPT
        bujerova endpoint < ENDPOINT
+       bujerova drive
        bujerova local
        bujerova generate N
        bujerova --help | --version";

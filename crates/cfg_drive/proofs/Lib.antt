@@ -1,0 +1,4 @@
+pub mod Endings
+pub mod Exchanging
+pub mod Telling
+pub mod Shallow

@@ -1,0 +1,10 @@
+pub mod LineErrors
+pub mod Lines
+pub mod Configured
+pub mod Conversations
+pub mod Statuses
+pub mod BrokenTexts
+pub mod Breaks
+pub mod Objects
+pub mod Outcomes
+pub mod Driven

@@ -1,0 +1,9 @@
+pub mod Texts
+pub mod Members
+pub mod Readers
+pub mod Told
+pub mod Depths
+pub mod OneLine
+pub mod Contents
+pub mod Asking
+pub mod Alone
