@@ -7,7 +7,8 @@ ghost use Rattle.cfg_types.specs.Classes.{is_memory};
 ghost use Rattle.cfg_providers.specs.ContainerSetups.{container_setup, settings_in, asks_container, ProvidesContainer, InterruptedContainer};
 
 use cfg_exchange::steps::{
-    ContainerSettings, ContainerUri, container_credentials, container_uri, follow_container,
+    ContainerSettings, ContainerUri, DEFAULT_CONNECT_TIMEOUT, DEFAULT_READ_TIMEOUT,
+    container_credentials, container_uri, follow_container,
 };
 use cfg_profile::ProviderConfig;
 use cfg_types::{Credentials, CredentialsError, OutOfMemory, TryCopy};
@@ -148,8 +149,8 @@ impl EcsCredentialsProvider {
             alloc,
             config: ProviderConfig::without_region(alloc)?,
             dns: true,
-            connect_ms: 2000,
-            read_ms: 5000,
+            connect_ms: DEFAULT_CONNECT_TIMEOUT,
+            read_ms: DEFAULT_READ_TIMEOUT,
         })
     }
 

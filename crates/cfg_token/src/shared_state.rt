@@ -197,7 +197,8 @@ impl<T: FileToken> SharedTokenState<T> {
     ) -> Result<Sectioned<T, T::Error>, Stop>
         requires kind { T.rules.is_kind self.now.key ≡ true }
         requires clock { first.0 ≡ Question.Now }
-        ensures { FindsMadeAfter T.rules ⟦<A as Asking>⟧ self.now.key env.now settings.now first asking.old asking.new finding.new.load finding.new.last result }
+        ensures { FindsMadeAfter T.rules ⟦<A as Asking>⟧ self.now.key env.now settings.now first asking.old asking.new
+            finding.new.load finding.new.last result }
     {
         match self.published_at(rt, first.moment())? {
             Some(handed) => {
@@ -231,7 +232,8 @@ impl<T: FileToken> SharedTokenState<T> {
     ) -> Result<Sectioned<T, T::Error>, Stop>
         requires kind { T.rules.is_kind self.now.key ≡ true }
         requires clock { first.0 ≡ Question.Now }
-        ensures { FindsMadeAfter T.rules ⟦<A as Asking>⟧ self.now.key env.now settings.now first asking.old asking.new finding.new.load finding.new.last result }
+        ensures { FindsMadeAfter T.rules ⟦<A as Asking>⟧ self.now.key env.now settings.now first asking.old asking.new
+            finding.new.load finding.new.last result }
     {
         let mut loads = self.loads.lock(rt);
         self.make_on(rt, &mut loads, first, env, settings, finding, asking)
@@ -252,7 +254,8 @@ impl<T: FileToken> SharedTokenState<T> {
         requires kind { T.rules.is_kind self.now.key ≡ true }
         requires clock { first.0 ≡ Question.Now }
         ensures section { SectionFollowsAfter T.rules ⟦<A as Asking>⟧ self.now.key env.now settings.now first asking.old loads.old asking.new loads.new result }
-        ensures found { FindsMadeAfter T.rules ⟦<A as Asking>⟧ self.now.key env.now settings.now first asking.old asking.new finding.new.load finding.new.last result }
+        ensures found { FindsMadeAfter T.rules ⟦<A as Asking>⟧ self.now.key env.now settings.now first asking.old asking.new
+            finding.new.load finding.new.last result }
     {
         *finding = finding_in(loads)?;
         let made = loads.make_after(&self.key, first, env, settings, asking)?;
