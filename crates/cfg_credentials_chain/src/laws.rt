@@ -35,7 +35,8 @@ pub fn members_have_causes()
 pub fn the_first_answer_is_the_chains()
     ensures { (members : List NamedAsked) (olds news : List Keeping) (part : List Pair) (out : Answer) →
         AreMemberParts credentials_rules name_in IsNamedTree members olds news part out ↔
-        (IsFirstAnswer credentials_rules name_in IsNamedTree members olds news part out ⊎ IsNoneLoaded credentials_rules name_in IsNamedTree members olds news part out) }
+        (IsFirstAnswer credentials_rules name_in IsNamedTree members olds news part out
+        ⊎ IsNoneLoaded credentials_rules name_in IsNamedTree members olds news part out) }
 {}
 
 /// From what is kept of the members there is one journal: two calls whose answers agree as far as both ask the

@@ -47,7 +47,14 @@ impl Model for EndpointDevices {
 
     ghost Value = { DevicesState };
 
-    ghost view = { λ d. record { endpoint = d.endpoint; clock = d.clock; place = d.place; faults = d.others.faults; first_given = d.first_given; first_place = d.first_place } };
+    ghost view = { λ d. record {
+      endpoint = d.endpoint;
+      clock = d.clock;
+      place = d.place;
+      faults = d.others.faults;
+      first_given = d.first_given;
+      first_place = d.first_place;
+    } };
 
     ghost invariant = { λ d. IsReadyDevices d.clock d.others };
 }

@@ -29,7 +29,8 @@ pub fn a_written_document_is_read_back()
 /// the endpoint. The call gets two tokens at most, and so many can still be given. Then this holds after the call
 /// again, so that a loop carries it on.
 pub fn a_call_gives_what_is_served()
-    ensures { (over : ChainSetting) (old new : States) (found : List Value) (d : DevicesState) (journal : List Pair) (before later : Held DevicesState) (out : Answer) →
+    ensures { (over : ChainSetting) (old new : States) (found : List Value) (d : DevicesState) (journal : List Pair)
+        (before later : Held DevicesState) (out : Answer) →
         HasNothing over → IsReadyFor d → HasGone d before.devices journal → HasTokens (endpoint_after d journal) → Fresh (endpoint_after d journal) old →
         Provides ⟦<EndpointDevices as Devices>⟧ over old new found before later out → GoesOn d journal new before later out }
 {}
@@ -51,7 +52,8 @@ pub fn calls_give_what_is_served()
 /// The same of a chain that has one variable, which names a container's endpoint: it gives what is served, with its
 /// own expiry, however many tokens were given.
 pub fn a_call_of_a_container_gives_what_is_served()
-    ensures { (over : ChainSetting) (old new : States) (found : List Value) (d : DevicesState) (journal : List Pair) (before later : Held DevicesState) (out : Answer) →
+    ensures { (over : ChainSetting) (old new : States) (found : List Value) (d : DevicesState) (journal : List Pair)
+        (before later : Held DevicesState) (out : Answer) →
         HasContainer over → IsReadyFor d → HasGone d before.devices journal →
         Provides ⟦<EndpointDevices as Devices>⟧ over old new found before later out → GoesOnByContainer d journal old new before later out }
 {}

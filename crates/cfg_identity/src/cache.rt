@@ -78,7 +78,8 @@ impl IdentityCache {
     /// - `Taken` where the name is there.
     /// - `OutOfMemory` where memory runs out.
     pub fn add(&mut self, name: &str, chain: DefaultCredentialsChain) -> Result<(), CacheFault>
-        ensures adds { IsAdded (chain_of value repeated chain) name.now (entry_at value repeated self.old name.now) (entry_at value repeated self.new name.now) result }
+        ensures adds { IsAdded (chain_of value repeated chain) name.now
+            (entry_at value repeated self.old name.now) (entry_at value repeated self.new name.now) result }
         ensures others { OthersStay name.now (entry_at value repeated self.old) (entry_at value repeated self.new) }
         ensures settings { self.new.settings ≡ self.old.settings }
         ensures len { len self.new.names.numbers ≡ (if is_ok result then len self.old.names.numbers + 1 else len self.old.names.numbers) }

@@ -17,7 +17,8 @@ use cfg_world::Devices;
 /// last call of that name left there. No call of another name changes it.
 pub fn each_name_has_its_own_calls<D: Devices>()
     ensures { (settings : Settings) (old : Entries) (calls : List (CacheCall D)) (new : Entries) →
-        AreCallsOf ⟦<D as Devices>⟧ settings old calls new → (name : List ℕ) → AreOwnCalls ⟦<D as Devices>⟧ settings (old name) (own_calls name calls) (new name) }
+        AreCallsOf ⟦<D as Devices>⟧ settings old calls new →
+        (name : List ℕ) → AreOwnCalls ⟦<D as Devices>⟧ settings (old name) (own_calls name calls) (new name) }
 {}
 
 /// Credentials that have an expiry are held until then, whatever calls came before, where what is held at first is.

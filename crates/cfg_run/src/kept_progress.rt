@@ -49,7 +49,15 @@ impl Model for KeptProgress {
 impl KeptProgress {
     /// Nothing was asked, and no question is shown. The values that were found before are given up. Takes no memory.
     pub(crate) fn new(alloc: Global, kept: Kept) -> KeptProgress
-        ensures { result ≡ record { key = kept_key kept; base = states_of kept; kept = states_of kept; found = []; asked = []; question = None; member = None } }
+        ensures { result ≡ record {
+          key = kept_key kept;
+          base = states_of kept;
+          kept = states_of kept;
+          found = [];
+          asked = [];
+          question = None;
+          member = None;
+        } }
     {
         let mut base = kept;
         base.clear_found();

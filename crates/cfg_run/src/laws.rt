@@ -48,6 +48,7 @@ pub fn a_call_changes_by_receipts_alone()
 
 /// One member asks the question that is next: behind one journal there is no other.
 pub fn one_member_asks()
-    ensures { (over : ChainSetting) (old new newer : States) (found more : List Value) (asked : List Pair) (question other : Asked) (member second : Option Member) →
+    ensures { (over : ChainSetting) (old new newer : States) (found more : List Value) (asked : List Pair) (question other : Asked)
+        (member second : Option Member) →
         call.IsWaitingCall over old new found asked question member → call.IsWaitingCall over old newer more asked other second → member ≡ second }
 {}

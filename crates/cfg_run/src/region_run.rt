@@ -68,7 +68,8 @@ impl<'a> RegionRun<'a> {
     ///
     /// `OutOfMemory` where memory runs out. The run is then as it was, and the receipt is given up.
     pub fn poll(&mut self, receipt: Option<Receipt>) -> Result<RegionStep, OutOfMemory>
-        requires under_way { IsUnderWay (chain_tree (region_sources told_region repeated self.old.chain.now)) self.old.progress.asked self.old.progress.question }
+        requires under_way { IsUnderWay (chain_tree (region_sources told_region repeated self.old.chain.now))
+            self.old.progress.asked self.old.progress.question }
         requires fits { IfSome receipt (λ e. self.old.progress.question ≡ Some e.0) }
         ensures chain { self.new.chain.now ≡ self.old.chain.now }
         ensures asked { OnOk result (self.new.progress.asked ≡ self.old.progress.asked ++ option_to_list receipt) }
