@@ -6,9 +6,11 @@ use Rattle.cfg_types.specs.declared.errors.imds.FailedToLoadToken.{FailedToLoadT
 use Rattle.cfg_types.specs.declared.errors.imds.UnexpectedCause.{UnexpectedCause}
 use Rattle.cfg_world.specs.declared.asking.Asking.{Ghosts}
 use Rattle.cfg_world.specs.declared.asking.Stop.{Stop}
+use Rattle.cfg_world.specs.declared.asking.Stop.TheVariants.{OutOfMemory, Open}
+use Rattle.cfg_world.specs.Beginnings.{IsPrefix}
 use Rattle.cfg_world.specs.Fits.{Pair}
 use Rattle.cfg_world.specs.Follows.{Ends, Follows}
-use Rattle.cfg_world.specs.Inquiry.{Reads}
+use Rattle.cfg_world.specs.Inquiry.{Inquiry, Reads}
 use Rattle.cfg_world.specs.Leaves.{moment_of}
 use Rattle.cfg_imds.specs.declared.endpoint.Endpoint.{Endpoint}
 use Rattle.cfg_imds.specs.Calls.{is_memory, or_memory}
@@ -55,17 +57,21 @@ pub settle_stays : {W : Type 0} (w : Ghosts W) (old new : W) (client : ClientRul
 settle_stays w old new client kept left (Ok out) P h s m = absurd (clash (sym (no_memory client kept h.part (out, left) h.reads) ∙ m))
 settle_stays w old new client kept left (Err stop) P h s m = s
 
-pub left_alone : {W : Type 0} (w : Ghosts W) (old : W) (client : ClientRules) (was is : Option ReceiptedToken) → is ≡ was → LeftBy w client old was is
+pub left_alone : {W : Type 0} (w : Ghosts W) (old new : W) (client : ClientRules) (was is : Option ReceiptedToken) → is ≡ was → LeftBy w client old new was is
 unfolding LeftBy
-left_alone w old client was is e = inl e
+left_alone w old new client was is e = inl e
 
-pub left_settled : {W : Type 0} (w : Ghosts W) (old mid : W) (client : ClientRules) (was is : Option ReceiptedToken) (token : List ℕ) →
-    Ends w (settle client (option_map bare_token was)) old mid (Ok token, option_map bare_token is) → LeftBy w client old was is
+-- what was in the journal before a call stands at its beginning after it
+goes_on : {W R : Type 0} (w : Ghosts W) (inquiry : Inquiry R) (old new : W) (r : Result R Stop) → Follows w inquiry old new r → IsPrefix (w.journal old) (w.journal new)
+goes_on w inquiry old new (Ok out) h = (h.part, h.grows)
+goes_on w inquiry old new (Err Open) h = (h.part, h.grows)
+goes_on w inquiry old new (Err OutOfMemory) h = (h.part, h.grows)
+
+pub left_settled : {W R : Type 0} (w : Ghosts W) (old mid new : W) (client : ClientRules) (was is : Option ReceiptedToken) (token : List ℕ) (rest : Inquiry R) (r : Result R Stop) →
+    Ends w (settle client (option_map bare_token was)) old mid (Ok token, option_map bare_token is) → Follows w rest mid new r → LeftBy w client old new was is
 unfolding LeftBy
-left_settled w old mid client was is token h = inr (mid, token, h)
+left_settled w old mid new client was is token rest r h then = inr (record { settled = mid; token = token; ends = h; begins = goes_on w rest mid new r then })
 
 pub on_err : {T E : Type 0} (r : Result T E) (P : Type 0) → P → OnErr r P
 on_err (Ok x) P p = tt
 on_err (Err e) P p = p
-
-pub ruleset left_steps = (left_alone, left_settled)

@@ -17,7 +17,7 @@ pub ends_located : {W : Type 0} {w : Ghosts W} {old : W} (got : Given) (kept : O
 unfolding located
 ends_located {w = w} {old = old} got kept region e = subst (λ r. Ends w (Done (pair (region_in got) kept)) old old (pair r kept)) e ends_done
 
-pub left_stopped : {W : Type 0} (w : Ghosts W) (old new : W) (client : ClientRules) (was is : Option ReceiptedToken) → LeftBy w client old was is → RegionLeftBy w client old new was is
+pub left_stopped : {W : Type 0} (w : Ghosts W) (old new : W) (client : ClientRules) (was is : Option ReceiptedToken) → LeftBy w client old new was is → RegionLeftBy w client old new was is
 unfolding RegionLeftBy
 left_stopped w old new client was is h = inl h
 

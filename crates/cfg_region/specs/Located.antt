@@ -39,4 +39,4 @@ LocateBreaks d m kept old new = CallBreaks d (located_by m (bare_kept kept)) old
 -- What is kept then: what was kept before; or what a settle that came to its end left; or what a get that
 -- came to its end left.
 abbrev pub LocateLeaves : {D : Type 0} → Ghosts D → Askers (Held D) → MetadataRegion → Option ReceiptedToken → Option ReceiptedToken → Held D → Held D → Type 0
-LocateLeaves d a m kept left old new = LeftBy a m.client old kept left ⊎ ((got : Given) × Gets d m.client region_path kept old new got left)
+LocateLeaves d a m kept left old new = LeftBy a m.client old new kept left ⊎ ((got : Given) × Gets d m.client region_path kept old new got left)

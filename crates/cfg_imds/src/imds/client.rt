@@ -174,7 +174,7 @@ fn fetch_text<A: Asking>(
 
 /// The body of [`Client::get`], over anything that can be asked. After a stop what is kept is as it
 /// was, or as the settle left it, where that had come to its end.
-#[tactic(auto, using(crate::proofs::SaidSteps::said_steps, crate::proofs::LeftKept::left_steps), unfolding(crate::specs::Clients::get))]
+#[tactic(auto, using(crate::proofs::SaidSteps::said_steps, crate::proofs::LeftKept::left_alone), unfolding(crate::specs::Clients::get))]
 pub fn follow_get<A: Asking>(
     client: &Client,
     kept: &mut Option<MetadataToken>,
@@ -184,7 +184,7 @@ pub fn follow_get<A: Asking>(
     ensures follows { FollowsKept ⟦<A as Asking>⟧
         (get (rules_of repeated client.now) (bare_kept kept.old) path.now)
         asking.old asking.new (bare_kept kept.new) result }
-    ensures left { OnErr result (LeftBy ⟦<A as Asking>⟧ (rules_of repeated client.now) asking.old kept.old kept.new) }
+    ensures left { OnErr result (LeftBy ⟦<A as Asking>⟧ (rules_of repeated client.now) asking.old asking.new kept.old kept.new) }
 {
     if let Some(cause) = fault(client.alloc, &client.endpoint, path)? {
         return Ok(Err(ImdsError::Unexpected(cause)));
@@ -331,7 +331,7 @@ impl Client {
     ) -> Result<SensitiveString, ImdsError>
         ensures gets { is_memory result ≡ false → Gets ⟦<D as Devices>⟧ (rules_of repeated self.now) path.now state.old world.old world.new result state.new }
         ensures memory { is_memory result ≡ true → GetBreaks ⟦<D as Devices>⟧ (rules_of repeated self.now) path.now state.old world.old world.new }
-        ensures left { is_memory result ≡ true → LeftBy ⟦<World<D> as Asking>⟧ (rules_of repeated self.now) world.old state.old state.new }
+        ensures left { is_memory result ≡ true → LeftBy ⟦<World<D> as Asking>⟧ (rules_of repeated self.now) world.old world.new state.old state.new }
     {
         let outcome = follow_get(self, &mut state.kept, path, world);
         or_memory(outcome)

@@ -7,4 +7,4 @@ pub returns-in_err-outcome-clause-left : goal.returns-in_err-outcome-clause-left
 returns-in_err-outcome-clause-left g c =
     let settled = rw c.in-Ok.is at c.in_ok-token.ensures.follows in
     on_err c.from_residual-in_err-outcome.result _
-    (left_settled _ _ _ (rules_of (λ b. (goal.ClassifyRetry-dyn g (b.vtable, b.value)).repeated b.value) c.args.client.now) c.args.kept.now c.follow_settle.new.kept c.in-Ok.token settled)
+    (left_settled _ _ _ _ (rules_of (λ b. (goal.ClassifyRetry-dyn g (b.vtable, b.value)).repeated b.value) c.args.client.now) c.args.kept.now c.follow_settle.new.kept c.in-Ok.token _ _ settled c.in_err-outcome.ensures)

@@ -8,4 +8,4 @@ pub returns-in_err-endpoint-in-Own-clause-breaks : goal.returns-in_err-endpoint-
 returns-in_err-endpoint-in-Own-clause-breaks g c = on_err c.from_residual.result _ (nothing_asked _ _)
 
 pub returns-in_err-endpoint-in-Own-clause-left : goal.returns-in_err-endpoint-in-Own-clause-left
-returns-in_err-endpoint-in-Own-clause-left g c = on_err c.from_residual.result _ (inl (left_alone _ _ _ _ _ refl))
+returns-in_err-endpoint-in-Own-clause-left g c = on_err c.from_residual.result _ (inl (left_alone _ _ _ _ _ _ refl))
