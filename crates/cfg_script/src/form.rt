@@ -43,13 +43,29 @@ pub(crate) fn read_item<F: Form>(
     }
 }
 
-fn read_items<F: Form>(alloc: Global, items: Vec<Value>) -> Result<Vec<F::Read>, FormError>
+// Memory for fewer items than these is not given back while others follow.
+const FEW: usize = 1024;
+
+// Gives back the memory of items that were taken, once it is a quarter of what a long list has.
+fn give_back(items: &mut Vec<Value>)
+    ensures { items.new.items ≡ items.old.items }
+{
+    let spare = items.capacity() - items.len();
+    if FEW <= spare && items.capacity() / 4 <= spare {
+        items.shrink_to_fit();
+    }
+}
+
+// An item's memory is given back while those behind it are read, so that a long list is not held twice.
+fn read_items<F: Form>(alloc: Global, mut items: Vec<Value>) -> Result<Vec<F::Read>, FormError>
     ensures { Reads (λ v. map F.seen v.items) result (each F.form 0 (items_view items.items)) }
 {
     let mut read = Vec::with_capacity(alloc, items.len())?;
-    for value in items {
+    items.reverse();
+    while let Some(value) = items.pop() {
         let place = read.len();
         read.push(read_item::<F>(alloc, place, value)?)?;
+        give_back(&mut items);
     }
     Ok(read)
 }
