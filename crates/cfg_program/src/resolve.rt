@@ -102,7 +102,8 @@ pub fn calls<D: Devices>(
 ) -> Result<bool, OutOfMemory>
     requires { kept_key kept.old ≡ key_of chain.now.core }
     ensures calls { IfOk result (λ is_ok. MakesCalls (IsMade (chain_of value repeated chain.now)) ⟦<D as Devices>⟧
-        (told_as (chain_of value repeated chain.now) form) count (states_of kept.old) (states_of kept.new) world.old.devices world.new.devices is_ok lines.old.items lines.new.items) }
+        (told_as (chain_of value repeated chain.now) form) count (states_of kept.old) (states_of kept.new)
+        world.old.devices world.new.devices is_ok lines.old.items lines.new.items) }
     ensures key { kept_key kept.new ≡ kept_key kept.old }
 {
     let mut is_ok = false;
@@ -123,7 +124,8 @@ fn call<D: Devices>(
 ) -> Result<bool, OutOfMemory>
     requires { kept_key kept.old ≡ key_of chain.now.core }
     ensures call { IfOk result (λ is_ok. MakesCall (IsMade (chain_of value repeated chain.now)) ⟦<D as Devices>⟧
-        (told_as (chain_of value repeated chain.now) form) (states_of kept.old) (states_of kept.new) world.old.devices world.new.devices is_ok lines.old.items lines.new.items) }
+        (told_as (chain_of value repeated chain.now) form) (states_of kept.old) (states_of kept.new)
+        world.old.devices world.new.devices is_ok lines.old.items lines.new.items) }
     ensures key { kept_key kept.new ≡ kept_key kept.old }
     ensures records { IfSome (kept_token kept.new) HasNoRecords }
 {
