@@ -15,6 +15,7 @@ use Rattle.cfg_script.specs.Devices.{lists_of}
 use Rattle.cfg_program.specs.declared.causes.Below.{Below}
 use Rattle.cfg_program.specs.CauseLines.{with_below}
 use Rattle.cfg_program.specs.Lines.{shown_expiry, kinds}
+use Rattle.cfg_program.specs.Why.{asked_below}
 use Rattle.cfg_program.specs.Calls.{configuration_of}
 
 -- the first part of the line: when the token expires, or an error's class
@@ -26,9 +27,9 @@ shown_bearer (Err e) = codes "error " ++ token_class_name (token_class e)
 unfoldable pub shown_token : Bearer → List Pair → List ℕ
 shown_token out journal = shown_bearer out ++ (codes " " ++ (kinds journal ++ codes "\n"))
 
--- The line of a call, with what stands below it.
+-- The line of a call, and below that of an error what it comes of, and what was asked, where these are asked for.
 abbrev pub shown_token_as : Below → Bearer → List Pair → List ℕ
-shown_token_as below out journal = with_below token_causes_of below out (shown_token out journal)
+shown_token_as below out journal = with_below token_causes_of below out (shown_token out journal) ++ asked_below below out journal
 
 -- One call of the default token chain over this configuration. Nothing is kept before it, and the answers
 -- are those that the lists give. It has this line, with what stands below it.

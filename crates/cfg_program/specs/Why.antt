@@ -1,4 +1,4 @@
--- What stands below the line of credentials.
+-- What stands below the line of a call.
 use Rattle.std.specs.Prelude.{ℕ, List, [], ◌∷◌, ◌++◌, Result, Ok, Err, codes}
 use Rattle.std.specs.List.{flat_map}
 use Rattle.std.specs.Str.{encode_utf8_all}
@@ -39,6 +39,17 @@ subject_behind (b ∷ text) = codes " " ++ line_text (b ∷ text)
 abbrev pub asked_line : Pair → List ℕ
 asked_line e = codes "    " ++ (kind e ++ (subject_behind (subject_of e.0) ++ codes "\n"))
 
+-- a line for each question, below a heading, and nothing where nothing was asked
+abbrev pub asked_lines : List Pair → List ℕ
+asked_lines [] = []
+asked_lines (e ∷ journal) = codes "  asked\n" ++ flat_map asked_line (e ∷ journal)
+
+-- what was asked before an error, where it is asked for
+abbrev pub asked_below : {A E : Type 0} → Below → Result A E → List Pair → List ℕ
+asked_below Nothing out journal = []
+asked_below Causes (Ok gave) journal = []
+asked_below Causes (Err e) journal = asked_lines journal
+
 -- the reasons of a call of this journal: a line for each member that was passed over, one for the member that answered,
 -- and one for each question that this one asked
 abbrev pub lines_by : Variables → Reasons → List Pair → List ℕ
@@ -47,11 +58,11 @@ lines_by env r journal = flat_map passed_over_line r.passed_over ++ (answered_li
 abbrev pub reason_lines : ChainSetting → List Pair → List ℕ
 reason_lines over journal = lines_by over.configuration.environment (reasons_of over) journal
 
--- what stands below the line of credentials, where it is asked for
+-- what stands below the line of credentials, and of an error behind its causes, where it is asked for
 abbrev pub below_credentials : ChainSetting → Below → Result Keys CredentialsError → List Pair → List ℕ
 below_credentials over Nothing out journal = []
 below_credentials over Causes (Ok keys) journal = reason_lines over journal
-below_credentials over Causes (Err e) journal = []
+below_credentials over Causes (Err e) journal = asked_lines journal
 
 abbrev pub below_call : ChainSetting → LineForm → Result Keys CredentialsError → List Pair → List ℕ
 below_call over (Call below) out journal = below_credentials over below out journal

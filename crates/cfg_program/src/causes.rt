@@ -17,7 +17,8 @@ use std::alloc::AllocError;
 pub enum Below {
     /// Nothing.
     Nothing,
-    /// What an error comes of, and why a call of a chain of credentials gave its credentials.
+    /// What an error comes of and what was asked before it, and why a call of a chain of credentials gave its
+    /// credentials.
     Causes,
 }
 

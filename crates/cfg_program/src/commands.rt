@@ -11,7 +11,7 @@ pub enum Command {
     Help,
     /// The text [`VERSION`].
     Version,
-    /// The calls that a script describes, with this below the line of an error.
+    /// The calls that a script describes, with this below the line of each.
     Resolve(Below),
     /// The calls that a script describes, under one name of a cache.
     Cached,
@@ -46,7 +46,7 @@ usage: bujerova resolve < SCRIPT     a line for each call that the script descri
        bujerova cached < SCRIPT      a line for each call under one name of a cache
        bujerova region < SCRIPT      a line for the region of the script's default region chain
        bujerova token < SCRIPT       a line for the token of the script's default token chain
-       bujerova why-token < SCRIPT   the same, and below an error what it comes of
+       bujerova why-token < SCRIPT   the same, and below an error why
        bujerova explain < SCRIPT     a line for each question of the script's call: who asked it
        bujerova audit < SCRIPT       whether the script's journal can be that of a call
        bujerova share < SCRIPT       a line for each of the script's callers, on a thread each

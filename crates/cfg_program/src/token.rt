@@ -14,6 +14,7 @@ use crate::causes::{Below, write_token_causes};
 use crate::configuration::{configuration, region_named};
 use crate::lines::{write_expiry, write_questions, write_word};
 use crate::outcome::Answered;
+use crate::why::write_journal;
 use cfg_profile::ProviderConfig;
 use cfg_region::RegionSource;
 use cfg_script::Script;
@@ -100,6 +101,7 @@ fn tell(
 }
 
 // The line, and what stands below it.
+#[tactic(auto, using(std::proofs::lemmas::Grind::common_steps))]
 fn write_with_below(
     line: &mut Vec<u8>,
     below: Below,
@@ -110,7 +112,10 @@ fn write_with_below(
 {
     write_token(line, outcome, journal)?;
     match (below, outcome) {
-        (Below::Causes, Err(error)) => write_token_causes(line, error),
+        (Below::Causes, Err(error)) => {
+            write_token_causes(line, error)?;
+            write_journal(line, journal)
+        }
         _ => Ok(()),
     }
 }

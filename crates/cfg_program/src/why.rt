@@ -1,12 +1,12 @@
-//! What stands below the line of credentials: which members of the chain were passed over, and why; which one gave them,
-//! and what it asked.
+//! What stands below the line of a call: of credentials which members of the chain were passed over, and why; which one
+//! gave them, and what it asked; of an error, behind its causes, what was asked.
 ghost use Rattle.std.specs.Prelude.{◌≡◌, ◌++◌, false, is_ok, IfOk, OnOk};
 ghost use Rattle.std.specs.List.{flat_map};
 ghost use Rattle.std.specs.Str.{encode_utf8_all};
 ghost use Rattle.cfg_types.specs.Classes.{is_memory};
 ghost use Rattle.cfg_chain.specs.Members.{name_of};
 ghost use Rattle.cfg_chain.specs.Views.{chain_of};
-ghost use Rattle.cfg_program.specs.Why.{passed_over_line, answered_line, subject_behind, asked_line, reason_lines, below_credentials, below_call, told_as};
+ghost use Rattle.cfg_program.specs.Why.{passed_over_line, answered_line, subject_behind, asked_line, asked_lines, reason_lines, below_credentials, below_call, told_as};
 
 use crate::causes::{Below, write_escaped};
 use crate::lines::{LineForm, write_kind, write_word};
@@ -56,7 +56,7 @@ fn write_below_call(
     }
 }
 
-// What stands below the line of credentials, where it is asked for.
+// What stands below the line of credentials, and of an error behind its causes, where it is asked for.
 fn write_below(
     lines: &mut Vec<u8>,
     chain: &DefaultCredentialsChain,
@@ -69,6 +69,7 @@ fn write_below(
 {
     match (below, outcome) {
         (Below::Causes, Ok(_)) => write_reasons(lines, chain, journal),
+        (Below::Causes, Err(_)) => write_journal(lines, journal),
         _ => Ok(()),
     }
 }
@@ -131,6 +132,19 @@ fn write_name(lines: &mut Vec<u8>, member: Member) -> Result<(), OutOfMemory>
     let name = Text::of(*lines.allocator(), member.name())?;
     write_word(lines, name.as_str().as_bytes())?;
     Ok(())
+}
+
+/// Writes a line for each question of a call, below a heading: its kind, with `!` where it failed, and what it was about.
+/// Nothing is written where nothing was asked. `OutOfMemory` where memory runs out.
+#[tactic(auto, using(std::proofs::lemmas::Grind::common_steps))]
+pub fn write_journal(lines: &mut Vec<u8>, journal: &[Entry]) -> Result<(), OutOfMemory>
+    ensures { OnOk result (lines.new.items ≡ lines.old.items ++ asked_lines journal.now) }
+{
+    if journal.is_empty() {
+        return Ok(());
+    }
+    write_word(lines, b"  asked\n")?;
+    write_part(lines, journal)
 }
 
 // A line for each entry.

@@ -108,7 +108,7 @@ fn words(rt: HostRuntime) -> Result<(), Fail> {
         (
             &["why"],
             r#"{"calls":2,"profiles":[["default",[["credential_process","x"]]]],"commands":[[3,"","a\nb\u009b\u202e%é"],[0,"{\"Version\":1,\"AccessKeyId\":\"P\",\"SecretAccessKey\":\"S\"}",""]]}"#,
-            "Done error ProviderError run\n  provider error\n    the base gave no credentials\n  provider error\n  the command ended with status 3: a%0Ab%C2%9B%E2%80%AE%25é\ncredentials =P =CredentialProcess none run\n  Environment passed over: not loaded: environment variable not set (`AWS_ACCESS_KEY_ID` is not set, or blank)\n  Profile answered\n    run x\n",
+            "Done error ProviderError run\n  provider error\n    the base gave no credentials\n  provider error\n  the command ended with status 3: a%0Ab%C2%9B%E2%80%AE%25é\n  asked\n    run x\ncredentials =P =CredentialProcess none run\n  Environment passed over: not loaded: environment variable not set (`AWS_ACCESS_KEY_ID` is not set, or blank)\n  Profile answered\n    run x\n",
         ),
         (
             &["cached"],
