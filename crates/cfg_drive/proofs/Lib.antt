@@ -2,3 +2,4 @@ pub mod Endings
 pub mod Exchanging
 pub mod Telling
 pub mod Shallow
+pub mod Replaying

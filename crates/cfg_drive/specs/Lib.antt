@@ -8,3 +8,4 @@ pub mod Breaks
 pub mod Objects
 pub mod Outcomes
 pub mod Driven
+pub mod Replays

@@ -7,6 +7,7 @@ mod configured;
 mod conversation;
 mod driven;
 mod exchanges;
+pub mod laws;
 mod line_reader;
 mod object;
 mod outcome;
