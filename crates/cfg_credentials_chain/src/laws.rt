@@ -1,5 +1,5 @@
 //! Laws of chains of credentials providers, each on a call that carries it.
-ghost use Rattle.std.specs.Prelude.{◌≡◌, ◌⊎◌, ◌↔◌, List, map};
+ghost use Rattle.std.specs.Prelude.{◌≡◌, ◌⊎◌, ◌↔◌, ◌++◌, List, map};
 ghost use Rattle.cfg_world.specs.Agreeing.{AnswerAlike};
 ghost use Rattle.cfg_world.specs.Beginnings.{IsPrefix};
 ghost use Rattle.cfg_world.specs.Fits.{Pair};
@@ -10,6 +10,7 @@ ghost use Rattle.cfg_world.specs.Gains.{Gains};
 ghost use Rattle.cfg_kept.specs.declared.kept.Kept.{Kept};
 ghost use Rattle.cfg_meta.specs.FirstAnswers.{IsFirstAnswer, IsNoneLoaded};
 ghost use Rattle.cfg_meta.specs.MemberParts.{Keeping, keeping_of, IsMemberPart, AreMemberParts, AreBegunParts, IsMemberBeginning};
+ghost use Rattle.cfg_meta.specs.NextQuestions.{HasEnded, AsksOne};
 ghost use Rattle.cfg_providers.specs.CustomSources.{Answer};
 ghost use Rattle.cfg_credentials_chain.specs.Causes.{HasCause};
 ghost use Rattle.cfg_meta.specs.CredentialsAnswers.{credentials_rules};
@@ -55,6 +56,13 @@ pub fn a_beginning_is_a_prefix()
         AreBegunParts credentials_rules name_in IsNamedTree members olds news one →
         AreMemberParts credentials_rules name_in IsNamedTree members olds newer other x →
         AnswerAlike one other → IsPrefix one other }
+{}
+
+/// A prefix of a call's journal is that of a whole call, or exactly one question is next behind it, and never both.
+pub fn one_question_is_next()
+    ensures { (members : List NamedAsked) (olds news : List Keeping) (one rest : List Pair) (out : Answer) →
+        AreMemberParts credentials_rules name_in IsNamedTree members olds news (one ++ rest) out →
+        HasEnded credentials_rules name_in IsNamedTree members olds one ⊎ AsksOne credentials_rules name_in IsNamedTree members olds one }
 {}
 
 /// Over the same members, what is kept of them and one script of devices, from one

@@ -1,16 +1,17 @@
 //! Laws of bearer tokens, each on a call that carries it.
-ghost use Rattle.std.specs.Prelude.{◌≡◌, ◌⊎◌, ◌↔◌, ℕ, List, Some, Result, IfOk};
+ghost use Rattle.std.specs.Prelude.{◌≡◌, ◌⊎◌, ◌↔◌, ◌++◌, ℕ, List, Some, Result, IfOk};
 ghost use Rattle.cfg_types.specs.declared.errors.ProfileFileError.{ProfileFileError as ProfileError};
 ghost use Rattle.cfg_world.specs.Agreeing.{AnswerAlike};
 ghost use Rattle.cfg_world.specs.Fits.{Pair};
 ghost use Rattle.cfg_world.specs.Held.{Held};
 ghost use Rattle.cfg_world.specs.declared.script.DeviceLists.{DeviceLists as Lists};
 ghost use Rattle.cfg_world.specs.Script.{Place, Given};
-ghost use Rattle.cfg_kept.specs.Beginnings.{GoesOn};
+ghost use Rattle.cfg_kept.specs.Beginnings.{GoesOn, IsWhole, AsksOne};
 ghost use Rattle.cfg_kept.specs.Kinds.{Value, States};
 ghost use Rattle.cfg_kept.specs.KeptInquiry.{Reads, Begins};
 ghost use Rattle.cfg_meta.specs.FirstAnswers.{IsFirstAnswer, IsNoneLoaded};
 ghost use Rattle.cfg_meta.specs.MemberParts.{Keeping, AreMemberParts};
+ghost use Rattle.cfg_meta.specs.NextQuestions.{HasEnded, AsksOne as AsksOneOf};
 ghost use Rattle.cfg_profile.specs.Configuration.{Configuration};
 ghost use Rattle.cfg_profile.specs.declared.chain.ProfileChain.{ProfileChain as Chain};
 ghost use Rattle.cfg_profile.specs.Plans.{IsChain};
@@ -88,6 +89,20 @@ pub fn a_beginning_is_a_prefix()
     ensures profile { (conf : Configuration) (old new newer : States) (found more : List Value) (one other : List Pair) (x : Bearer) →
         Begins (profile_token conf) (Some old) found one (Some new) → IsTokenCall (profile_token conf) (ProfileTokenCause conf) old newer more other x →
         AnswerAlike one other → GoesOn found one more other }
+{}
+
+/// A call that has begun came to its end, or asks exactly one question next, and never both. So it is of a prefix of
+/// the journal of a chain over given members.
+pub fn one_question_is_next()
+    ensures default { (conf : Configuration) (old new : States) (found : List Value) (part : List Pair) →
+        Begins (default_token conf) (Some old) found part (Some new) →
+        IsWhole (default_token conf) (Some old) part ⊎ AsksOne (default_token conf) (Some old) part }
+    ensures profile { (conf : Configuration) (old new : States) (found : List Value) (part : List Pair) →
+        Begins (profile_token conf) (Some old) found part (Some new) →
+        IsWhole (profile_token conf) (Some old) part ⊎ AsksOne (profile_token conf) (Some old) part }
+    ensures members { (members : List NamedAsked) (olds news : List Keeping) (one rest : List Pair) (out : Bearer) →
+        AreMemberParts token_rules name_in IsTokenTree members olds news (one ++ rest) out →
+        HasEnded token_rules name_in IsTokenTree members olds one ⊎ AsksOneOf token_rules name_in IsTokenTree members olds one }
 {}
 
 /// Over the same members, what is kept of them and one script of devices, from one place, a chain has one
