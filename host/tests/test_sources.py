@@ -22,7 +22,7 @@ def crates() -> list[str]:
     """The sources of the crates that the program stands on: those of tests, measures and callers are none."""
     with open(os.path.join(REPOSITORY, "crates.txt"), encoding="utf-8") as file:
         names = re.findall(r"^([a-z_]+):", file.read(), re.MULTILINE)
-    own = [name for name in names if not name.endswith(("_tests", "_bench")) and name != "caller"]
+    own = [name for name in names if not name.endswith(("_tests", "_bench")) and name not in ("first", "caller")]
     return [path for name in own for path in glob.glob(os.path.join(REPOSITORY, "crates", name, "src", "**", "*.rt"), recursive=True)]
 
 
