@@ -19,7 +19,7 @@ use cfg_script::{
     ScriptFault, find_audit_fault, find_endpoint_fault, find_fault, find_share_fault, read_endpoint,
 };
 use cfg_types::{EnvText, OutOfMemory, Text};
-use cfg_world::{Devices, LocalDevices, ReaderSource, Sink, Source, World, WriterSink};
+use cfg_world::{LocalDevices, ReaderSource, Sink, Source, World, WriterSink};
 use fixed::Fixed;
 use keeping::KeepingSource;
 use std::alloc::Global;
@@ -27,99 +27,105 @@ use std::env;
 use std::env::VarError;
 use std::io::ErrorKind;
 use std::process::ExitCode;
+use std::rt::{Clock, Env, Files};
 use std::sync::Wait;
 use std::thread::Threads;
 
 fn main(rt: HostRuntime) -> ExitCode {
-    let alloc = rt.alloc();
-    if is_drive(&rt) {
-        let mut source = ReaderSource::new(rt.stdin());
-        let mut sink = WriterSink::new(rt.stdout());
-        let driven = drive(alloc, &mut source, &mut sink);
-        match &driven {
-            Driven::Broken(broken) => {
-                let _ = eprintln!(rt; "bujerova: {broken}");
-            }
-            Driven::Unwritten => {
-                let _ = rt.eprintln("bujerova: the output failed");
-            }
-            _ => {}
-        }
-        return ExitCode::from(driven.number());
-    }
-    let mut source = KeepingSource::new(alloc, ReaderSource::new(rt.stdin()));
-    let mut sink = WriterSink::new(rt.stdout());
-    let mut world = World::new(alloc, LocalDevices::new(alloc, &rt));
-    let mut arguments = Vec::new(alloc);
-    let status = match arguments_and_variables(&rt) {
-        Ok((given, variables)) => {
-            arguments = given;
-            let ended = run_with(
-                &rt,
-                arguments.as_slice(),
-                &mut source,
-                &mut sink,
-                variables,
-                &mut world,
-            );
-            ended.unwrap_or(Status::OutOfMemory)
-        }
-        Err(status) => status,
+    let arguments = match arguments_of(&rt) {
+        Ok(arguments) => arguments,
+        Err(status) => return ended(&rt, status),
     };
+    let mut sink = WriterSink::new(rt.stdout());
+    let input = ReaderSource::new(rt.stdin());
+    match arguments.as_slice() {
+        [name] if name.as_str() == "drive" => converse(&rt, input, &mut sink),
+        arguments => answer(&rt, arguments, input, &mut sink),
+    }
+}
+
+// A call over a conversation of lines.
+fn converse<R: AllocGlobal + Eprint, S: Source + Drop, K: Sink>(
+    rt: &R,
+    mut source: S,
+    sink: &mut K,
+) -> ExitCode {
+    let driven = drive(rt.alloc(), &mut source, sink);
+    match &driven {
+        Driven::Broken(broken) => {
+            let _ = eprintln!(rt; "bujerova: {broken}");
+        }
+        Driven::Unwritten => {
+            let _ = rt.eprintln("bujerova: the output failed");
+        }
+        _ => {}
+    }
+    ExitCode::from(driven.number())
+}
+
+// Any other command. The bytes of the input are kept, from which it is told why they are refused.
+fn answer<R, S: Source + Drop, K: Sink>(
+    rt: &R,
+    arguments: &[String],
+    input: S,
+    sink: &mut K,
+) -> ExitCode
+where
+    R: AllocGlobal + Eprint + Env + Files + Clock + Threads + Wait + Sync,
+{
+    let alloc = rt.alloc();
+    let mut source = KeepingSource::new(alloc, input);
+    let status = match variables_for(rt, arguments) {
+        Ok(variables) => run_with(rt, arguments, &mut source, sink, variables),
+        Err(OutOfMemory) => Err(OutOfMemory),
+    };
+    let status = status.unwrap_or(Status::OutOfMemory);
+    if let Ok(Some(reason)) = reason_of(alloc, status, arguments, source.kept()) {
+        let _ = eprintln!(rt; "bujerova: {reason}");
+    }
+    ended(rt, status)
+}
+
+// The number of the status, with the usage behind it for an unknown command.
+fn ended<R: Eprint>(rt: &R, status: Status) -> ExitCode {
     if status == Status::UnknownCommand {
         let _ = rt.eprintln(USAGE);
-    }
-    if let Ok(Some(reason)) = reason_of(alloc, status, arguments.as_slice(), source.kept()) {
-        let _ = eprintln!(rt; "bujerova: {reason}");
     }
     ExitCode::from(status.number())
 }
 
-// Whether the arguments ask for a call over a conversation of lines.
-fn is_drive(rt: &(impl std::rt::Env + AllocGlobal)) -> bool {
-    match arguments_of(rt) {
-        Ok(arguments) => match arguments.as_slice() {
-            [name] => name.as_str() == "drive",
-            _ => false,
-        },
-        Err(_) => false,
-    }
-}
-
 // How a run ends that has the program's own source of credentials.
-fn run_with<R: AllocGlobal + Threads + Wait + Sync, S: Source, K: Sink, D: Devices>(
+fn run_with<R: AllocGlobal + Threads + Wait + Sync + Files + Clock, S: Source, K: Sink>(
     rt: &R,
     arguments: &[String],
     source: &mut S,
     sink: &mut K,
     variables: Vec<(String, EnvText)>,
-    world: &mut World<D>,
 ) -> Result<Status, OutOfMemory> {
     let alloc = rt.alloc();
     let name = Text::of(alloc, fixed::NAME)?;
     let provider = Box::new(alloc, Fixed::new(alloc))?;
     let own = CustomSource { name, provider };
     let custom = vec![in alloc; own]?;
+    let mut world = World::new(alloc, LocalDevices::new(alloc, rt));
     let ended = match shared_command_of(arguments) {
         Some(_) => run_shared(rt, alloc, arguments, source, sink, custom),
-        None => run(alloc, arguments, source, sink, variables, world, custom),
+        None => run(
+            alloc, arguments, source, sink, variables, &mut world, custom,
+        ),
     };
     Ok(ended)
 }
 
-// The program's arguments, and the variables that are set where the command reads them. Asking the process
-// for them costs more than a whole call over a small script.
-fn arguments_and_variables(
-    rt: &(impl std::rt::Env + AllocGlobal),
-) -> Result<(Vec<String>, Vec<(String, EnvText)>), Status> {
-    let arguments = arguments_of(rt)?;
-    let variables = match command_of(&arguments) {
+// The variables that are set, where the command reads them. Asking the process for them costs more than a whole call
+// over a small script.
+fn variables_for<R: Env + AllocGlobal>(
+    rt: &R,
+    arguments: &[String],
+) -> Result<Vec<(String, EnvText)>, OutOfMemory> {
+    match command_of(arguments) {
         Some(Command::Local) => variables_of(rt),
         _ => Ok(Vec::new(rt.alloc())),
-    };
-    match variables {
-        Ok(variables) => Ok((arguments, variables)),
-        Err(OutOfMemory) => Err(Status::OutOfMemory),
     }
 }
 
@@ -187,7 +193,7 @@ fn unmade(alloc: Global, bytes: &[u8]) -> Result<String, OutOfMemory> {
 }
 
 // The program's arguments. Those that are no texts are no known command.
-fn arguments_of(rt: &(impl std::rt::Env + AllocGlobal)) -> Result<Vec<String>, Status> {
+fn arguments_of(rt: &(impl Env + AllocGlobal)) -> Result<Vec<String>, Status> {
     let given = match env::args(rt) {
         Ok(given) => given,
         Err(error) => return Err(status_of(error.kind())),
@@ -230,9 +236,7 @@ const ASKED: [&str; 16] = [
 ];
 
 // The variables that are set, of those that providers ask for where there are no sections.
-fn variables_of(
-    rt: &(impl std::rt::Env + AllocGlobal),
-) -> Result<Vec<(String, EnvText)>, OutOfMemory> {
+fn variables_of(rt: &(impl Env + AllocGlobal)) -> Result<Vec<(String, EnvText)>, OutOfMemory> {
     let mut vars = Vec::new(rt.alloc());
     for name in ASKED {
         let value = match env::var(rt, name) {
