@@ -45,6 +45,7 @@ fn set_up_by(alloc: Global, script: Script) -> Result<Setup, OutOfMemory>
         selected,
         region: _,
         sleep,
+        service: _,
         calls: _,
         devices,
     } = script;

@@ -74,10 +74,11 @@ fn converse_with<S: Source, K: Sink>(
         selected,
         region,
         sleep,
+        service,
         calls: _,
         devices: _,
     } = script;
-    let config = configuration(alloc, variables, profiles, selected, sleep)?;
+    let config = configuration(alloc, variables, profiles, selected, sleep, service)?;
     let chain = chain_over(alloc, config, region, Vec::new(alloc))?;
     let called = call_over(alloc, &chain, reader, source, sink)?;
     tell_outcome(alloc, sink, &chain, &called)

@@ -9,6 +9,7 @@ use Rattle.cfg_world.specs.declared.script.DeviceLists.{DeviceLists}
 use Rattle.cfg_world.specs.Script.{is_unwritable}
 use Rattle.cfg_script.specs.Devices.{lists_of}
 use Rattle.cfg_script.specs.Script.{Plain, PlainProfiles, Sections, RefusedSections}
+use Rattle.cfg_script.specs.declared.service.ServiceConfig.{ServiceConfig}
 use Rattle.cfg_lines.specs.declared.items.Counts.{Counts}
 
 -- no items
@@ -72,10 +73,20 @@ abbrev pub has_no_sections : PlainProfiles → Bool
 has_no_sections (Sections profiles sessions) = (length profiles == 0) && (length sessions == 0)
 has_no_sections (RefusedSections message) = false
 
--- a script that configures nothing: no variables, no sections nor their refusal, no selected profile, no region, and
--- what holds of `sleep` and `calls` where a script leaves them out
+-- nothing is said of how calls are sent
+abbrev pub sets_nothing : ServiceConfig → Bool
+sets_nothing service = is_none service.use_fips && is_none service.use_dual_stack && is_none service.max_attempts && is_none service.timeouts
+
+-- a script that configures nothing: no variables, no sections nor their refusal, no selected profile, no region, no
+-- settings of how calls are sent, and what holds of `sleep` and `calls` where a script leaves them out
 unfoldable pub configures_nothing : Plain → Bool
-configures_nothing p = (length p.variables == 0) && has_no_sections p.profiles && is_none p.selected && is_none p.region && p.sleep && (p.calls == 1)
+configures_nothing p = (length p.variables == 0)
+    && has_no_sections p.profiles
+    && is_none p.selected
+    && is_none p.region
+    && p.sleep
+    && sets_nothing p.service
+    && (p.calls == 1)
 
 -- the script answers this question, and says nothing else
 abbrev pub answers : Question → Plain → Bool

@@ -1,10 +1,10 @@
 //! Whether a script has one item of what was asked, and nothing else.
 ghost use Rattle.std.specs.Prelude.{◌≡◌};
 ghost use Rattle.cfg_script.specs.Script.{plain, plain_profiles};
-ghost use Rattle.cfg_lines.specs.Items.{none, has_counts as has_counts_of, has_reply_counts as has_reply_counts_of, one_reply as one_reply_to, one_item as one_item_of, is_listed as is_listed_in, has_one_item as has_one_item_of, has_no_sections as has_no_sections_in, configures_nothing as configures_nothing_in, answers as answers_to};
+ghost use Rattle.cfg_lines.specs.Items.{none, has_counts as has_counts_of, has_reply_counts as has_reply_counts_of, one_reply as one_reply_to, one_item as one_item_of, is_listed as is_listed_in, has_one_item as has_one_item_of, has_no_sections as has_no_sections_in, sets_nothing as sets_nothing_in, configures_nothing as configures_nothing_in, answers as answers_to};
 ghost use Rattle.cfg_world.specs.Script.{is_unwritable as is_unwritable_in};
 
-use cfg_script::{Script, ScriptProfiles};
+use cfg_script::{Script, ScriptProfiles, ServiceConfig};
 use cfg_types::{Request, Text};
 use cfg_world::{DeviceLists, Question};
 
@@ -176,6 +176,15 @@ fn has_no_sections(profiles: &ScriptProfiles) -> bool
     }
 }
 
+fn sets_nothing(service: ServiceConfig) -> bool
+    ensures { result ≡ sets_nothing_in service }
+{
+    service.use_fips.is_none()
+        && service.use_dual_stack.is_none()
+        && service.max_attempts.is_none()
+        && service.timeouts.is_none()
+}
+
 #[tactic(auto, unfolding(crate::specs::Items::configures_nothing))]
 fn configures_nothing(script: &Script) -> bool
     ensures { result ≡ configures_nothing_in (plain script.now) }
@@ -185,6 +194,7 @@ fn configures_nothing(script: &Script) -> bool
         && script.selected.is_none()
         && script.region.is_none()
         && script.sleep
+        && sets_nothing(script.service)
         && script.calls == 1
 }
 

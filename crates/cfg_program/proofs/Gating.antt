@@ -248,8 +248,8 @@ pub chain_is : (chain config copied : Configuration) (given region : Option (Lis
 chain_is chain config copied given region is copy same = is ∙ ap (λ (k : Configuration). in_region k given) copy ∙ ap (λ r. in_region config r) same
 
 pub script_is : (script : ShareScript) (config : Configuration) (region : Option (List ℕ))
-    → config ≡ configured_by (map named script.variables.items) (source_of (plain_profiles script.profiles)) (bytes_of script.selected) script.sleep
+    → config ≡ configured_by (map named script.variables.items) (source_of (plain_profiles script.profiles)) (bytes_of script.selected) script.sleep script.service
     → region ≡ region_of script.region → in_region config region ≡ share_configuration (plain_share script)
 script_is script config region is same =
-    let said = configured_by (map named script.variables.items) (source_of (plain_profiles script.profiles)) (bytes_of script.selected) script.sleep in
+    let said = configured_by (map named script.variables.items) (source_of (plain_profiles script.profiles)) (bytes_of script.selected) script.sleep script.service in
     ap (λ (k : Configuration). in_region k region) is ∙ ap (λ r. in_region said r) same

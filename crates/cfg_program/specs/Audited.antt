@@ -18,7 +18,7 @@ use Rattle.cfg_program.specs.Lines.{shown}
 
 -- what the script of an audit configures
 abbrev pub audit_configuration : PlainAudit → Configuration
-audit_configuration p = in_region (configured_by p.variables (source_of p.profiles) p.selected p.sleep) (option_map characters p.region)
+audit_configuration p = in_region (configured_by p.variables (source_of p.profiles) p.selected p.sleep p.service) (option_map characters p.region)
 
 -- the answer of an entry that a script says
 abbrev pub answering : List ℕ × Answer → Answering

@@ -1,10 +1,11 @@
 -- What the calls of a script answer.
-use Rattle.std.specs.Prelude.{◌≡◌, ℕ, List, [], ◌∷◌, ◌++◌, length, Bool, false, Option, None, map, option_map, is_ok, codes, String, string_bytes}
+use Rattle.std.specs.Prelude.{◌≡◌, ℕ, List, [], ◌∷◌, ◌++◌, length, Bool, true, false, Option, map, option_map, is_ok, codes, String, string_bytes}
 use Rattle.std.specs.List.{flat_map}
 use Rattle.std.specs.declared.alloc.Global.{Global}
 use Rattle.cfg_base.specs.Text.{characters}
 use Rattle.cfg_base.specs.Entries.{each_set}
 use Rattle.cfg_types.specs.declared.environment.EnvText.{EnvText}
+use Rattle.cfg_types.specs.declared.settings.RetryConfig.{RetryConfig}
 use Rattle.cfg_world.specs.declared.script.DeviceLists.{DeviceLists}
 use Rattle.cfg_world.specs.Fits.{Pair}
 use Rattle.cfg_world.specs.declared.devices.Devices.{Ghosts}
@@ -16,13 +17,14 @@ use Rattle.cfg_profile.specs.declared.sections.ProfileSource.{ProfileSource}
 use Rattle.cfg_profile.specs.declared.sections.ProfileSource.TheVariants as source
 use Rattle.cfg_profile.specs.SectionParts.{SectionParts}
 use Rattle.cfg_profile.specs.SectionSets.{sections_by_name}
-use Rattle.cfg_profile.specs.Configuration.{Configuration}
+use Rattle.cfg_profile.specs.Configuration.{Configuration, nothing_configured}
 use Rattle.cfg_kept.specs.Kinds.{Value, States, no_states}
 use Rattle.cfg_providers.specs.CustomSources.{Answer, NamedAnswer}
 use Rattle.cfg_chain.specs.Settings.{ChainSetting, with_sources}
 use Rattle.cfg_chain.specs.Provides.{IsCall}
 use Rattle.cfg_script.specs.Script.{Plain, PlainProfiles, Sections, RefusedSections, Section}
 use Rattle.cfg_script.specs.Devices.{lists_of}
+use Rattle.cfg_script.specs.declared.service.ServiceConfig.{ServiceConfig}
 use Rattle.cfg_program.specs.declared.lines.LineForm.{LineForm}
 use Rattle.cfg_program.specs.Why.{told_as}
 
@@ -51,24 +53,31 @@ source_of (Sections profiles sessions) = source.Sections (record {
 })
 source_of (RefusedSections reason) = source.Refused reason
 
--- these variables, sections, selected name, and whether providers may sleep
-abbrev pub configured_by : List (List ℕ × EnvText) → ProfileSource → Option (List ℕ) → Bool → Configuration
-configured_by variables profiles selected sleep = record {
+-- how often calls are tried, where that is said
+abbrev pub retry_of : Option ℕ → Option RetryConfig
+retry_of attempts = option_map (λ n. record { max_attempts = n }) attempts
+
+-- nothing is configured but how calls are sent
+abbrev pub sent_by : ServiceConfig → Configuration
+sent_by service = record (nothing_configured true) {
+  use_fips = service.use_fips;
+  use_dual_stack = service.use_dual_stack;
+  retry_config = retry_of service.max_attempts;
+  timeout_config = service.timeouts;
+}
+
+-- these variables, sections, selected name, whether providers may sleep, and how calls are sent
+abbrev pub configured_by : List (List ℕ × EnvText) → ProfileSource → Option (List ℕ) → Bool → ServiceConfig → Configuration
+configured_by variables profiles selected sleep service = record (sent_by service) {
   environment = each_set variables;
   profiles = profiles;
   profile_name = selected;
-  region = None;
-  use_fips = None;
-  use_dual_stack = None;
-  retry_config = None;
-  timeout_config = None;
-  behavior_version = None;
   sleep = sleep;
 }
 
 -- what a script configures, but for its region
 abbrev pub configured : Plain → Configuration
-configured p = configured_by p.variables (source_of p.profiles) p.selected p.sleep
+configured p = configured_by p.variables (source_of p.profiles) p.selected p.sleep p.service
 
 -- what a script configures
 abbrev pub configuration_of : Plain → Configuration

@@ -13,13 +13,14 @@ use Rattle.cfg_chain.specs.Settings.{alone}
 use Rattle.cfg_program.specs.declared.lines.LineForm.TheVariants.{Generated}
 use Rattle.cfg_program.specs.declared.status.Status.{Status}
 use Rattle.cfg_program.specs.declared.status.Status.TheVariants as status
+use Rattle.cfg_script.specs.Services.{nothing_set}
 use Rattle.cfg_program.specs.Calls.{configured_by, AnswersOver}
 use Rattle.cfg_program.specs.Streams.{SinkSeen}
 use Rattle.cfg_program.specs.Written.{LinesWritten}
 
 -- the configuration of the set of n profiles, of which `p1` is selected
 abbrev pub generated_configuration : ℕ → Configuration
-generated_configuration n = configured_by [] (source.Sections (generated n)) (Some (codes "p1")) true
+generated_configuration n = configured_by [] (source.Sections (generated n)) (Some (codes "p1")) true nothing_set
 
 -- the credentials that the exchange of this number is granted, without an ARN; the seconds are those
 -- of 2023-11-14T22:13:20Z, and the number

@@ -26,7 +26,7 @@ use Rattle.cfg_program.specs.Calls.{in_region, source_of, configured_by}
 
 -- what such a script configures
 abbrev pub share_configuration : PlainShare → Configuration
-share_configuration p = in_region (configured_by p.variables (source_of p.profiles) p.selected p.sleep) (option_map characters p.region)
+share_configuration p = in_region (configured_by p.variables (source_of p.profiles) p.selected p.sleep p.service) (option_map characters p.region)
 
 -- A caller's call: the values that it found, with their receipts, its questions with their answers, and what it came to.
 pub record Caller : Type 0 where

@@ -33,9 +33,10 @@ pub fn audit(
         selected,
         region,
         sleep,
+        service,
         journal,
     } = script;
-    let config = configuration(alloc, variables, profiles, selected, sleep)?;
+    let config = configuration(alloc, variables, profiles, selected, sleep, service)?;
     let chain = chain_over(alloc, config, region, custom)?;
     let answers = answerings(alloc, journal)?;
     audit_over(alloc, &chain, answers.as_slice())

@@ -49,10 +49,11 @@ pub fn cached(
         selected,
         region,
         sleep,
+        service,
         calls,
         devices,
     } = script;
-    let config = configuration(alloc, variables, profiles, selected, sleep)?;
+    let config = configuration(alloc, variables, profiles, selected, sleep, service)?;
     let chain = chain_over(alloc, config, region, custom)?;
     cached_over(alloc, &chain, devices, calls)
 }

@@ -2,11 +2,11 @@
 ghost use Rattle.std.specs.Prelude.{◌≡◌, IfOk, map};
 ghost use Rattle.cfg_base.specs.TextMap.{named};
 ghost use Rattle.cfg_script.specs.Script.{plain_profiles, section_bytes};
-ghost use Rattle.cfg_program.specs.Calls.{bytes_of, region_of, section_parts, source_of, configured_by};
+ghost use Rattle.cfg_program.specs.Calls.{bytes_of, region_of, section_parts, source_of, sent_by, configured_by};
 
 use cfg_profile::{ProfileSet, ProfileSource, ProviderConfig, Section};
-use cfg_script::ScriptProfiles;
-use cfg_types::{Env, EnvText, OutOfMemory, Region};
+use cfg_script::{ScriptProfiles, ServiceConfig};
+use cfg_types::{Env, EnvText, OutOfMemory, Region, RetryConfig};
 use std::alloc::Global;
 
 /// What the script configures, but for its region. `OutOfMemory` where memory runs out.
@@ -16,11 +16,12 @@ pub fn configuration(
     profiles: ScriptProfiles,
     selected: Option<String>,
     sleep: bool,
+    service: ServiceConfig,
 ) -> Result<ProviderConfig, OutOfMemory>
-    ensures { IfOk result (λ c. c ≡ configured_by (map named variables.items) (source_of (plain_profiles profiles)) (bytes_of selected) sleep) }
+    ensures { IfOk result (λ c. c ≡ configured_by (map named variables.items) (source_of (plain_profiles profiles)) (bytes_of selected) sleep service) }
 {
     let source = source(alloc, profiles)?;
-    configured_with(alloc, variables, source, selected, sleep)
+    configured_with(alloc, variables, source, selected, sleep, service)
 }
 
 // The sections that the script says, or their refusal.
@@ -38,25 +39,43 @@ fn source(alloc: Global, profiles: ScriptProfiles) -> Result<ProfileSource, OutO
     }
 }
 
-/// These variables, sections and selected name, and whether providers may sleep. There is no region: a chain
-/// is given it when it is built. `OutOfMemory` where memory runs out.
+/// These variables, sections and selected name, whether providers may sleep, and how calls are sent. There is no
+/// region: a chain is given it when it is built. `OutOfMemory` where memory runs out.
 pub fn configured_with(
     alloc: Global,
     variables: Vec<(String, EnvText)>,
     source: ProfileSource,
     selected: Option<String>,
     sleep: bool,
+    service: ServiceConfig,
 ) -> Result<ProviderConfig, OutOfMemory>
-    ensures { IfOk result (λ c. c ≡ configured_by (map named variables.items) source (bytes_of selected) sleep) }
+    ensures { IfOk result (λ c. c ≡ configured_by (map named variables.items) source (bytes_of selected) sleep service) }
 {
     let env = Env::new(alloc, variables)?;
-    let config = ProviderConfig::without_region(alloc)?;
+    let config = sent_as(alloc, service)?;
     let config = config.with_env(env);
     let config = config.with_profiles(source);
     let config = config.with_sleep_impl(sleep);
     match selected {
         None => Ok(config),
         Some(name) => config.with_profile_name(alloc, name.as_str()),
+    }
+}
+
+// Nothing is configured but how calls are sent. `OutOfMemory` where memory runs out.
+fn sent_as(alloc: Global, service: ServiceConfig) -> Result<ProviderConfig, OutOfMemory>
+    ensures { IfOk result (λ c. c ≡ sent_by service) }
+{
+    let config = ProviderConfig::without_region(alloc)?;
+    let config = config.with_use_fips(service.use_fips);
+    let config = config.with_use_dual_stack(service.use_dual_stack);
+    let config = match service.max_attempts {
+        None => config,
+        Some(max_attempts) => config.with_retry_config(RetryConfig { max_attempts }),
+    };
+    match service.timeouts {
+        None => Ok(config),
+        Some(timeouts) => Ok(config.with_timeout_config(timeouts)),
     }
 }
 

@@ -39,10 +39,11 @@ pub fn explain(
         selected,
         region,
         sleep,
+        service,
         calls: _,
         devices,
     } = script;
-    let config = configuration(alloc, variables, profiles, selected, sleep)?;
+    let config = configuration(alloc, variables, profiles, selected, sleep, service)?;
     let chain = chain_over(alloc, config, region, custom)?;
     explain_over(alloc, &chain, devices)
 }

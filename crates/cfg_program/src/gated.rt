@@ -46,10 +46,11 @@ pub fn gated<R: Threads + Wait + Sync>(
         selected,
         region,
         sleep,
+        service,
         calls: _,
         callers,
     } = script;
-    let config = configuration(alloc, variables, profiles, selected, sleep)?;
+    let config = configuration(alloc, variables, profiles, selected, sleep, service)?;
     let region = region_named(alloc, region)?;
     let devices = ScriptDevices::new(alloc, DeviceLists::empty(alloc))?;
     let mut world = World::new(alloc, devices);

@@ -9,6 +9,7 @@ use crate::lines::LineForm;
 use crate::outcome::Answered;
 use crate::resolve::{answer_over, chain_over};
 use cfg_profile::{ProfileSource, generated_set};
+use cfg_script::ServiceConfig;
 use cfg_types::{Instant, OutOfMemory, Reply, Seq, StsCredentials, StsReply, Text};
 use cfg_world::DeviceLists;
 use std::alloc::Global;
@@ -28,6 +29,7 @@ pub fn generate(alloc: Global, n: u64) -> Result<Answered, OutOfMemory>
         ProfileSource::Sections(set),
         Some(selected),
         true,
+        ServiceConfig::unset(),
     )?;
     let lists = lists(alloc, n)?;
     let chain = chain_over(alloc, config, None, Vec::new(alloc))?;

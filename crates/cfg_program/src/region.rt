@@ -28,10 +28,11 @@ pub fn find_region(alloc: Global, script: Script) -> Result<Answered, OutOfMemor
         selected,
         region: _,
         sleep,
+        service,
         calls: _,
         devices,
     } = script;
-    let config = configuration(alloc, variables, profiles, selected, sleep)?;
+    let config = configuration(alloc, variables, profiles, selected, sleep, service)?;
     let chain = DefaultRegionChain::builder(alloc)?
         .configure(&config)?
         .build()?;

@@ -42,10 +42,11 @@ pub fn resolve(
         selected,
         region,
         sleep,
+        service,
         calls,
         devices,
     } = script;
-    let config = configuration(alloc, variables, profiles, selected, sleep)?;
+    let config = configuration(alloc, variables, profiles, selected, sleep, service)?;
     let chain = chain_over(alloc, config, region, custom)?;
     answer_over(alloc, &chain, devices, calls, form)
 }

@@ -50,10 +50,11 @@ pub fn share<R: Threads + Wait + Sync>(
         selected,
         region,
         sleep,
+        service,
         calls: _,
         callers,
     } = script;
-    let config = configuration(alloc, variables, profiles, selected, sleep)?;
+    let config = configuration(alloc, variables, profiles, selected, sleep, service)?;
     let chain = chain_over(alloc, config, region, custom)?;
     share_over(rt, alloc, &chain, callers)
 }

@@ -36,10 +36,11 @@ pub fn find_token(alloc: Global, script: Script, below: Below) -> Result<Answere
         selected,
         region,
         sleep,
+        service,
         calls: _,
         devices,
     } = script;
-    let config = configuration(alloc, variables, profiles, selected, sleep)?;
+    let config = configuration(alloc, variables, profiles, selected, sleep, service)?;
     let region = region_named(alloc, region)?;
     let devices = ScriptDevices::new(alloc, devices)?;
     let mut world = World::new(alloc, devices);

@@ -27,6 +27,7 @@ use Rattle.cfg_script.specs.Scalars.{text, characters_of, boolean, unsigned_of, 
 use Rattle.cfg_script.specs.Moments.{moment_from, clock_from, clock_moment}
 use Rattle.cfg_script.specs.Replies.{fail_kind, failed_send, failed, command, look_up, http_reply, refusal, refusal_or, reply_or, reply_of, sts_grant, role_grant, token_grant, sign_in_grant, no_sts, no_role, no_sign_in, sts_reply, role_reply, token_reply, sign_in_reply}
 use Rattle.cfg_script.specs.Sections.{variable, section}
+use Rattle.cfg_script.specs.Services.{service_member}
 use Rattle.cfg_world.specs.declared.script.DeviceLists.{DeviceLists}
 use Rattle.cfg_script.specs.Script.{Plain, PlainShare}
 use Rattle.cfg_script.specs.Settings.{file, Queues, queue_members, replies, no_queues, DeviceRows, device_members, lists_in, devices, settings, ScriptRows, script_members, plain_in, script}
@@ -310,7 +311,7 @@ calls_good (Some d) o e =
 
 module _ {B : Type 0} {others : ObjectForm B} {P : B → Type 0} where
   -- the settings say nothing of their own but how many calls there are
-  settings_say : ObjectSays others P → ObjectSays (settings others) (λ rows. Unit {0} × (Unit {0} × (Unit {0} × (Unit {0} × (Unit {0} × (Unit {0} × (Unit {0} × (IsCounted rows.1.1.1.1.1.1.1.0 × P rows.1.1.1.1.1.1.1.1))))))))
+  settings_say : ObjectSays others P → ObjectSays (settings others) (λ rows. Unit {0} × (Unit {0} × (Unit {0} × (Unit {0} × (Unit {0} × (Unit {0} × (Unit {0} × (Unit {0} × (IsCounted rows.1.1.1.1.1.1.1.1.0 × P rows.1.1.1.1.1.1.1.1.1)))))))))
   settings_say behind =
       and (free (list_member (codes "variables") variable))
       (and (free (list_member (codes "profiles") section))
@@ -319,8 +320,9 @@ module _ {B : Type 0} {others : ObjectForm B} {P : B → Type 0} where
       (and (free (optional_member (codes "selected") text))
       (and (free (optional_member (codes "region") text))
       (and (free (optional_member (codes "sleep") boolean))
+      (and (free service_member)
       (and (record { says = calls_good })
-      behind)))))))
+      behind))))))))
 
 -- ---- the script
 
@@ -331,7 +333,7 @@ Fitting p = AllFit (lists_of p) × IsTrue (is_call_count p.calls)
 rows_fit : (ms : Members) (rows : ScriptRows) → script_members.read ms ≡ Ok rows → Fitting (plain_in rows)
 unfolding plain_in
 rows_fit ms rows e =
-    let fit = ((settings_say lists_say).says ms rows e).1.1.1.1.1.1.1 in
+    let fit = ((settings_say lists_say).says ms rows e).1.1.1.1.1.1.1.1 in
     (fit.1, fit.0)
 
 script_says : ObjectSays script Fitting
@@ -400,7 +402,7 @@ ShareFits p = CallersFit p.callers
 
 share_rows_fit : (ms : Members) (rows : ShareRows) → share_members.read ms ≡ Ok rows → ShareFits (share_in rows)
 unfolding share_in
-share_rows_fit ms rows e = ((settings_say (and callers_say none_left)).says ms rows e).1.1.1.1.1.1.1.1.0
+share_rows_fit ms rows e = ((settings_say (and callers_say none_left)).says ms rows e).1.1.1.1.1.1.1.1.1.0
 
 share_says : ObjectSays share ShareFits
 share_says = record {

@@ -131,7 +131,8 @@ audit_in rows = record {
   selected = rows.1.1.1.1.0;
   region = rows.1.1.1.1.1.0;
   sleep = unwrap_or rows.1.1.1.1.1.1.0 true;
-  journal = rows.1.1.1.1.1.1.1.0;
+  service = rows.1.1.1.1.1.1.1.0;
+  journal = rows.1.1.1.1.1.1.1.1.0;
 }
 
 -- the members of a script of an audit, each in its place

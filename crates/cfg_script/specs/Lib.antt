@@ -10,6 +10,7 @@ pub mod Moments
 pub mod Sections
 pub mod Addresses
 pub mod Replies
+pub mod Services
 pub mod Settings
 pub mod Shares
 pub mod Audits

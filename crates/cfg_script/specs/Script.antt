@@ -10,6 +10,7 @@ use Rattle.cfg_script.specs.declared.script.ShareScript.{ShareScript}
 use Rattle.cfg_script.specs.declared.script.AuditScript.{AuditScript}
 use Rattle.cfg_script.specs.declared.script.ScriptProfiles.{ScriptProfiles}
 use Rattle.cfg_script.specs.declared.script.ScriptProfiles.TheVariants as held
+use Rattle.cfg_script.specs.declared.service.ServiceConfig.{ServiceConfig}
 
 -- a key and its value, as bytes
 abbrev pub Property : Type 0
@@ -31,6 +32,7 @@ pub record Plain : Type 0 where
   pub selected : Option (List ℕ)
   pub region : Option (List ℕ)
   pub sleep : Bool
+  pub service : ServiceConfig
   pub calls : ℕ
   pub devices : DeviceLists
 
@@ -55,6 +57,7 @@ plain s = record {
   selected = option_map (λ t. string_bytes t) s.selected;
   region = option_map (λ t. string_bytes t) s.region;
   sleep = s.sleep;
+  service = s.service;
   calls = s.calls;
   devices = s.devices;
 }
@@ -66,6 +69,7 @@ pub record PlainShare : Type 0 where
   pub selected : Option (List ℕ)
   pub region : Option (List ℕ)
   pub sleep : Bool
+  pub service : ServiceConfig
   pub calls : ℕ
   pub callers : List DeviceLists
 
@@ -77,6 +81,7 @@ plain_share s = record {
   selected = option_map (λ t. string_bytes t) s.selected;
   region = option_map (λ t. string_bytes t) s.region;
   sleep = s.sleep;
+  service = s.service;
   calls = s.calls;
   callers = s.callers.items;
 }
@@ -88,6 +93,7 @@ pub record PlainAudit : Type 0 where
   pub selected : Option (List ℕ)
   pub region : Option (List ℕ)
   pub sleep : Bool
+  pub service : ServiceConfig
   pub journal : List (List ℕ × Answer)
 
 -- what such a script says
@@ -98,5 +104,6 @@ plain_audit s = record {
   selected = option_map (λ t. string_bytes t) s.selected;
   region = option_map (λ t. string_bytes t) s.region;
   sleep = s.sleep;
+  service = s.service;
   journal = s.journal.items;
 }

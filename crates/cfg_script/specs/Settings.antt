@@ -13,8 +13,10 @@ use Rattle.cfg_script.specs.Objects.{ObjectForm, list_member, member_or, optiona
 use Rattle.cfg_script.specs.Scalars.{text, characters_of, boolean, unsigned_integer, content_or_null, call_count}
 use Rattle.cfg_script.specs.Moments.{clock_moment}
 use Rattle.cfg_script.specs.Sections.{variable, section}
+use Rattle.cfg_script.specs.Services.{service_member}
 use Rattle.cfg_script.specs.Replies.{command, look_up, http_reply, sts_reply, role_reply, token_reply, sign_in_reply}
 use Rattle.cfg_script.specs.declared.fault.Wanted.TheVariants as wanted
+use Rattle.cfg_script.specs.declared.service.ServiceConfig.{ServiceConfig}
 
 -- a file: [path, content], or [path, null] for one that cannot be read
 abbrev pub file : Form (List ℕ × Option (List ℕ))
@@ -85,7 +87,9 @@ devices = together lists_in device_members
 
 -- what one call is configured with, in the order of the rows, and what the members behind that say
 abbrev pub ConfigurationRows : Type 0 → Type 0
-ConfigurationRows B = List (List ℕ × EnvText) × (List Section × (List Section × (Option (List ℕ) × (Option (List ℕ) × (Option (List ℕ) × (Option Bool × B))))))
+ConfigurationRows B =
+    List (List ℕ × EnvText) × (List Section × (List Section
+    × (Option (List ℕ) × (Option (List ℕ) × (Option (List ℕ) × (Option Bool × (ServiceConfig × B)))))))
 
 -- what one call is configured with, and other members behind that
 abbrev pub configuration : {B : Type 0} → ObjectForm B → ObjectForm (ConfigurationRows B)
@@ -97,6 +101,7 @@ configuration others =
     & optional_member (codes "selected") text
     & optional_member (codes "region") text
     & optional_member (codes "sleep") boolean
+    & service_member
     & others
 
 -- what the settings say, in the order of their rows, and what the members behind them say
@@ -127,8 +132,9 @@ plain_in rows = record {
   selected = rows.1.1.1.1.0;
   region = rows.1.1.1.1.1.0;
   sleep = unwrap_or rows.1.1.1.1.1.1.0 true;
-  calls = unwrap_or rows.1.1.1.1.1.1.1.0 1;
-  devices = rows.1.1.1.1.1.1.1.1;
+  service = rows.1.1.1.1.1.1.1.0;
+  calls = unwrap_or rows.1.1.1.1.1.1.1.1.0 1;
+  devices = rows.1.1.1.1.1.1.1.1.1;
 }
 
 -- a script's members, each in its place

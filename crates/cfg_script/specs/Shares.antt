@@ -40,8 +40,9 @@ share_in rows = record {
   selected = rows.1.1.1.1.0;
   region = rows.1.1.1.1.1.0;
   sleep = unwrap_or rows.1.1.1.1.1.1.0 true;
-  calls = unwrap_or rows.1.1.1.1.1.1.1.0 1;
-  callers = rows.1.1.1.1.1.1.1.1.0;
+  service = rows.1.1.1.1.1.1.1.0;
+  calls = unwrap_or rows.1.1.1.1.1.1.1.1.0 1;
+  callers = rows.1.1.1.1.1.1.1.1.1.0;
 }
 
 -- the members of a script of several callers, each in its place

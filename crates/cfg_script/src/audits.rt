@@ -237,7 +237,7 @@ fn audit_by(rows: <AuditMembers as Object>::Read) -> AuditScript
     ensures { plain_audit result ≡ audit_in (⟦<AuditMembers as Object>⟧.seen rows) }
 {
     let (variables, (profiles, (sessions, (refused, rows)))) = rows;
-    let (selected, (region, (sleep, (journal, ())))) = rows;
+    let (selected, (region, (sleep, (service, (journal, ()))))) = rows;
     let profiles = profiles_by(refused, profiles, sessions);
     let sleep = is_to_sleep(sleep);
     AuditScript {
@@ -246,6 +246,7 @@ fn audit_by(rows: <AuditMembers as Object>::Read) -> AuditScript
         selected,
         region,
         sleep,
+        service,
         journal,
     }
 }

@@ -79,7 +79,7 @@ fn share_by(rows: <ShareMembers as Object>::Read) -> ShareScript
     ensures { plain_share result ≡ share_in (⟦<ShareMembers as Object>⟧.seen rows) }
 {
     let (variables, (profiles, (sessions, (refused, rows)))) = rows;
-    let (selected, (region, (sleep, (calls, (callers, ()))))) = rows;
+    let (selected, (region, (sleep, (service, (calls, (callers, ())))))) = rows;
     let profiles = profiles_by(refused, profiles, sessions);
     let sleep = is_to_sleep(sleep);
     let calls = call_count(calls);
@@ -89,6 +89,7 @@ fn share_by(rows: <ShareMembers as Object>::Read) -> ShareScript
         selected,
         region,
         sleep,
+        service,
         calls,
         callers,
     }

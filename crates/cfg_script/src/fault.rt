@@ -40,6 +40,12 @@ pub enum Wanted {
     Property,
     /// No list of sections beside the refusal of all, not even an empty one.
     RefusedAlone,
+    /// An object of how calls are sent.
+    Service,
+    /// A whole number of 32 bits without sign.
+    Attempts,
+    /// An object of limits of time.
+    Timeouts,
     /// A whole number of calls, from 1 to 100.
     Calls,
     /// A file's path, and its content or null.

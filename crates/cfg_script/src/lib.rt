@@ -26,6 +26,7 @@ mod replies;
 mod scalars;
 mod script;
 mod sections;
+mod service;
 mod settings;
 
 pub use cfg_types::OutOfMemory;
@@ -35,3 +36,4 @@ pub use reading::{
     find_audit_fault, find_fault, find_share_fault, read_audit, read_script, read_share,
 };
 pub use script::{AuditScript, Script, ScriptError, ScriptProfiles, ShareScript};
+pub use service::ServiceConfig;

@@ -73,6 +73,96 @@ impl Name for Sleep {
     }
 }
 
+pub(crate) struct Service;
+
+impl Name for Service {
+    ghost name = { codes "service" };
+
+    fn name() -> &'static str {
+        "service"
+    }
+}
+
+pub(crate) struct UseFips;
+
+impl Name for UseFips {
+    ghost name = { codes "use_fips" };
+
+    fn name() -> &'static str {
+        "use_fips"
+    }
+}
+
+pub(crate) struct UseDualStack;
+
+impl Name for UseDualStack {
+    ghost name = { codes "use_dual_stack" };
+
+    fn name() -> &'static str {
+        "use_dual_stack"
+    }
+}
+
+pub(crate) struct MaxAttempts;
+
+impl Name for MaxAttempts {
+    ghost name = { codes "max_attempts" };
+
+    fn name() -> &'static str {
+        "max_attempts"
+    }
+}
+
+pub(crate) struct TimeLimits;
+
+impl Name for TimeLimits {
+    ghost name = { codes "timeouts" };
+
+    fn name() -> &'static str {
+        "timeouts"
+    }
+}
+
+pub(crate) struct ConnectMs;
+
+impl Name for ConnectMs {
+    ghost name = { codes "connect_ms" };
+
+    fn name() -> &'static str {
+        "connect_ms"
+    }
+}
+
+pub(crate) struct ReadMs;
+
+impl Name for ReadMs {
+    ghost name = { codes "read_ms" };
+
+    fn name() -> &'static str {
+        "read_ms"
+    }
+}
+
+pub(crate) struct OperationMs;
+
+impl Name for OperationMs {
+    ghost name = { codes "operation_ms" };
+
+    fn name() -> &'static str {
+        "operation_ms"
+    }
+}
+
+pub(crate) struct AttemptMs;
+
+impl Name for AttemptMs {
+    ghost name = { codes "attempt_ms" };
+
+    fn name() -> &'static str {
+        "attempt_ms"
+    }
+}
+
 pub(crate) struct Calls;
 
 impl Name for Calls {

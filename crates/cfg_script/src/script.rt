@@ -2,6 +2,7 @@
 ghost use Rattle.std.specs.Prelude.{◌≡◌};
 ghost use Rattle.cfg_script.specs.declared.script.ScriptError.TheVariants as error;
 
+use crate::service::ServiceConfig;
 use cfg_types::{EnvText, OutOfMemory, Text};
 use cfg_world::{Answer, DeviceLists};
 use std::alloc::{AllocError, AllocFailed};
@@ -21,7 +22,7 @@ pub enum ScriptProfiles {
 }
 
 /// What a script says. Members that are missing are empty lists, or none; `sleep` is true without one,
-/// and `calls` is 1.
+/// `service` sets nothing, and `calls` is 1.
 #[derive(Drop)]
 pub struct Script {
     /// Environment variables, in the script's order.
@@ -34,6 +35,8 @@ pub struct Script {
     pub region: Option<String>,
     /// Whether providers may sleep between attempts.
     pub sleep: bool,
+    /// How calls are sent.
+    pub service: ServiceConfig,
     /// How many calls are made, from 1 to 100.
     pub calls: u64,
     /// What the devices answer.
@@ -53,6 +56,8 @@ pub struct ShareScript {
     pub region: Option<String>,
     /// Whether providers may sleep between attempts.
     pub sleep: bool,
+    /// How calls are sent.
+    pub service: ServiceConfig,
     /// How many calls are made, from 1 to 100.
     pub calls: u64,
     /// What the devices of each caller answer, from 1 to 16 of them.
@@ -72,6 +77,8 @@ pub struct AuditScript {
     pub region: Option<String>,
     /// Whether providers may sleep between attempts.
     pub sleep: bool,
+    /// How calls are sent.
+    pub service: ServiceConfig,
     /// The kind of each question, by its name, and the answer to it, in order.
     pub journal: Vec<(Text, Answer)>,
 }

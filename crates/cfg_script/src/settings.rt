@@ -17,6 +17,7 @@ use crate::replies::{Command, HttpSent, LookUp, Role, Sent, SignsIn, Sts, Tokens
 use crate::scalars::{Boolean, CallCount, ContentOrNull, KeyText, UnsignedInteger, ValueText};
 use crate::script::{Script, ScriptProfiles};
 use crate::sections::{Section, Variable};
+use crate::service::ServiceSettings;
 use cfg_types::{Bytes, Seq, Text};
 use cfg_world::DeviceLists;
 use serde_json::Value;
@@ -156,6 +157,13 @@ fn lists(rows: <DeviceMembers as Object>::Read) -> DeviceLists
     }
 }
 
+// A type of its own, since the way to a bound of pairs doubles with each pair.
+/// The members of the lists in their places.
+#[derive(Drop)]
+pub(crate) struct DevicePlaces {
+    lists: <DeviceMembers as Object>::Places,
+}
+
 /// The lists of the devices.
 pub(crate) struct Devices;
 
@@ -167,7 +175,7 @@ impl Object for Devices {
 
     type Read = DeviceLists;
 
-    type Places = <DeviceMembers as Object>::Places;
+    type Places = DevicePlaces;
 
     ghost Plain = { DeviceLists };
 
@@ -175,21 +183,20 @@ impl Object for Devices {
 
     ghost object_form = { devices };
 
-    ghost read_on = { λ places ms. ⟦<DeviceMembers as Object>⟧.read_on places ms >>= λ rows. Ok (lists_in rows) };
+    ghost read_on = { λ places ms. ⟦<DeviceMembers as Object>⟧.read_on places.lists ms >>= λ rows. Ok (lists_in rows) };
 
-    fn empty() -> <DeviceMembers as Object>::Places {
-        DeviceMembers::empty()
+    fn empty() -> DevicePlaces {
+        DevicePlaces {
+            lists: DeviceMembers::empty(),
+        }
     }
 
-    fn put(places: &mut <DeviceMembers as Object>::Places, name: &str, value: Value) -> bool {
-        DeviceMembers::put(places, name, value)
+    fn put(places: &mut DevicePlaces, name: &str, value: Value) -> bool {
+        DeviceMembers::put(&mut places.lists, name, value)
     }
 
-    fn read_places(
-        alloc: Global,
-        places: <DeviceMembers as Object>::Places,
-    ) -> Result<DeviceLists, FormError> {
-        let rows = DeviceMembers::read_places(alloc, places)?;
+    fn read_places(alloc: Global, places: DevicePlaces) -> Result<DeviceLists, FormError> {
+        let rows = DeviceMembers::read_places(alloc, places.lists)?;
         Ok(lists(rows))
     }
 }
@@ -205,7 +212,10 @@ pub(crate) type ConfigurationMembers<O> = (
                 Optional<Refused, ValueText>,
                 (
                     Optional<Selected, KeyText>,
-                    (Optional<Region, KeyText>, (Optional<Sleep, Boolean>, O)),
+                    (
+                        Optional<Region, KeyText>,
+                        (Optional<Sleep, Boolean>, (ServiceSettings, O)),
+                    ),
                 ),
             ),
         ),
@@ -258,7 +268,7 @@ fn script_by(rows: <ScriptMembers as Object>::Read) -> Script
     ensures { plain result ≡ plain_in (⟦<ScriptMembers as Object>⟧.seen rows) }
 {
     let (variables, (profiles, (sessions, (refused, rows)))) = rows;
-    let (selected, (region, (sleep, (calls, devices)))) = rows;
+    let (selected, (region, (sleep, (service, (calls, devices))))) = rows;
     let profiles = profiles_by(refused, profiles, sessions);
     let sleep = is_to_sleep(sleep);
     let calls = call_count(calls);
@@ -268,6 +278,7 @@ fn script_by(rows: <ScriptMembers as Object>::Read) -> Script
         selected,
         region,
         sleep,
+        service,
         calls,
         devices,
     }

@@ -1,7 +1,7 @@
 //! What no clause says: that the definition is the script that was meant, what is told of bytes that are
 //! none, and that reading succeeds.
-use cfg_script::{ScriptError, find_fault, read_script};
-use cfg_types::OutOfMemory;
+use cfg_script::{ScriptError, ServiceConfig, find_fault, read_script};
+use cfg_types::{OutOfMemory, Timeouts};
 use std::alloc::Global;
 use std::test::Fail;
 
@@ -73,6 +73,67 @@ const TABLE: &[(&[u8], &str)] = &[
         "selected: a text is wanted",
     ),
     (b"{\"sleep\":1}", "sleep: true or false is wanted"),
+    (
+        b"{\"service\":[]}",
+        "service: service is an object of settings",
+    ),
+    (
+        b"{\"service\":null}",
+        "service: service is an object of settings",
+    ),
+    (
+        b"{\"service\":{\"region\":\"eu-west-1\"}}",
+        "service.region: no member of this name belongs here",
+    ),
+    (
+        b"{\"service\":{\"use_fips\":1}}",
+        "service.use_fips: true or false is wanted",
+    ),
+    (
+        b"{\"service\":{\"use_dual_stack\":null}}",
+        "service.use_dual_stack: true or false is wanted",
+    ),
+    (
+        b"{\"service\":{\"max_attempts\":4294967296}}",
+        "service.max_attempts: attempts are a whole number of 32 bits without sign",
+    ),
+    (
+        b"{\"service\":{\"max_attempts\":-1}}",
+        "service.max_attempts: attempts are a whole number of 32 bits without sign",
+    ),
+    (
+        b"{\"service\":{\"max_attempts\":\"3\"}}",
+        "service.max_attempts: attempts are a whole number of 32 bits without sign",
+    ),
+    (
+        b"{\"service\":{\"timeouts\":5000}}",
+        "service.timeouts: timeouts are an object of times in milliseconds",
+    ),
+    (
+        b"{\"service\":{\"timeouts\":{\"connect\":1}}}",
+        "service.timeouts.connect: no member of this name belongs here",
+    ),
+    (
+        b"{\"service\":{\"timeouts\":{\"connect_ms\":-1}}}",
+        "service.timeouts.connect_ms: a whole number of 64 bits without sign is wanted",
+    ),
+    (
+        b"{\"service\":{\"timeouts\":{\"read_ms\":18446744073709551616}}}",
+        "service.timeouts.read_ms: a whole number of 64 bits without sign is wanted",
+    ),
+    (
+        b"{\"service\":{\"timeouts\":{\"operation_ms\":1.5}}}",
+        "service.timeouts.operation_ms: a whole number of 64 bits without sign is wanted",
+    ),
+    (
+        b"{\"service\":{\"timeouts\":{\"attempt_ms\":null}}}",
+        "service.timeouts.attempt_ms: a whole number of 64 bits without sign is wanted",
+    ),
+    // the settings are read before the calls are, and in the order of their table
+    (
+        b"{\"calls\":0,\"service\":{\"timeouts\":{\"attempt_ms\":-1,\"connect_ms\":-1},\"max_attempts\":0.5}}",
+        "service.max_attempts: attempts are a whole number of 32 bits without sign",
+    ),
     (
         b"{\"calls\":101}",
         "calls: calls are a whole number from 1 to 100",
@@ -207,5 +268,88 @@ fn bytes_that_are_a_script_and_others(rt: HostRuntime) -> Result<(), Fail> {
     }
     let words = words_of(rt.alloc(), b"{\"selected\":1e400,\"selected\":\"a\"}")?;
     assert!(rt; words.as_str().ends_with(": no JSON"), "{words}");
+    Ok(())
+}
+
+const UNSET: ServiceConfig = ServiceConfig {
+    use_fips: None,
+    use_dual_stack: None,
+    max_attempts: None,
+    timeouts: None,
+};
+
+const NO_LIMITS: Timeouts = Timeouts {
+    connect_ms: None,
+    read_ms: None,
+    operation_ms: None,
+    attempt_ms: None,
+};
+
+const SERVICES: &[(&str, ServiceConfig)] = &[
+    (r#"{}"#, UNSET),
+    (r#"{"service":{}}"#, UNSET),
+    (
+        r#"{"service":{"use_fips":true}}"#,
+        ServiceConfig {
+            use_fips: Some(true),
+            ..UNSET
+        },
+    ),
+    (
+        r#"{"service":{"use_dual_stack":false}}"#,
+        ServiceConfig {
+            use_dual_stack: Some(false),
+            ..UNSET
+        },
+    ),
+    (
+        r#"{"service":{"max_attempts":0}}"#,
+        ServiceConfig {
+            max_attempts: Some(0),
+            ..UNSET
+        },
+    ),
+    (
+        r#"{"service":{"timeouts":{}}}"#,
+        ServiceConfig {
+            timeouts: Some(NO_LIMITS),
+            ..UNSET
+        },
+    ),
+    (
+        r#"{"service":{"timeouts":{"read_ms":0,"attempt_ms":18446744073709551615},"max_attempts":4294967295}}"#,
+        ServiceConfig {
+            max_attempts: Some(4_294_967_295),
+            timeouts: Some(Timeouts {
+                read_ms: Some(0),
+                attempt_ms: Some(18_446_744_073_709_551_615),
+                ..NO_LIMITS
+            }),
+            ..UNSET
+        },
+    ),
+    (
+        r#"{"service":{"use_fips":false,"use_dual_stack":true,"max_attempts":1,"timeouts":{"connect_ms":1,"read_ms":2,"operation_ms":3,"attempt_ms":4}}}"#,
+        ServiceConfig {
+            use_fips: Some(false),
+            use_dual_stack: Some(true),
+            max_attempts: Some(1),
+            timeouts: Some(Timeouts {
+                connect_ms: Some(1),
+                read_ms: Some(2),
+                operation_ms: Some(3),
+                attempt_ms: Some(4),
+            }),
+        },
+    ),
+];
+
+#[test]
+fn settings_of_calls(rt: HostRuntime) -> Result<(), Fail> {
+    for (text, want) in SERVICES {
+        let script = read_script(rt.alloc(), text.as_bytes())?;
+        assert_eq!(rt; script.service, *want, "{text}");
+    }
+    assert_eq!(rt; ServiceConfig::unset(), UNSET);
     Ok(())
 }
