@@ -10,6 +10,7 @@ from typing import Callable
 from bujerova_host import machine
 from bujerova_host.configuration import Configuration, NoSuchProfile, configuration
 from bujerova_host.conversation import Broken, Conversation, converse
+from bujerova_host.request_settings import NoAttempts
 from bujerova_host.world import World
 
 PROGRAM = "BUJEROVA_PROGRAM"
@@ -155,7 +156,7 @@ def run(words: argparse.Namespace) -> int:
         return GAVE_NONE
     try:
         return words.does(Call(words))
-    except NoSuchProfile as error:
+    except (NoSuchProfile, NoAttempts) as error:
         complain(str(error))
         return GAVE_NONE
     except Broken as error:

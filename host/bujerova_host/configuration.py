@@ -5,11 +5,12 @@ from __future__ import annotations
 import os
 import re
 import subprocess
-from typing import Any, NamedTuple
+from typing import Any, Iterable, NamedTuple
 
-from bujerova_host import profile_files
+from bujerova_host import profile_files, request_settings
 from bujerova_host.conversation import Broken, told_line
 from bujerova_host.profile_files import Profiles
+from bujerova_host.request_settings import Setting
 
 # Every variable that the program reads: a test compares this with the sources of its crates.
 VARIABLES = (
@@ -29,17 +30,18 @@ class NoSuchProfile(Exception):
 
 
 class Configuration(NamedTuple):
-    """The first line, what the profile files said, and whether the profile was named by the caller."""
+    """The first line, what the profile files said, whether the profile was named by the caller, and how requests to
+    AWS's services are sent."""
 
     first: dict[str, Any]
     files: Profiles
     named: bool
+    settings: list[Setting]
 
     @property
     def selected(self) -> str:
-        """The name of the profile that counts, for what a person is told."""
-        named = self.first.get("selected", dict(self.first["variables"]).get("AWS_PROFILE"))
-        return "default" if named is None else named
+        """The name of the profile that counts."""
+        return _selected(self.first)
 
     @property
     def region(self) -> str | None:
@@ -60,10 +62,10 @@ class Configuration(NamedTuple):
 
 
 def configuration(program: str, profile: str | None) -> Configuration:
-    """The configuration of this process. NoSuchProfile where a profile is named that is in no file; Broken where the
-    program does not say which region counts."""
+    """The configuration of this process. NoSuchProfile where a profile is named that is in no file; NoAttempts where
+    the attempts are no number; Broken where the program does not say which region counts."""
     files = profile_files.load(os.environ)
-    first: dict[str, Any] = {"variables": _variables()}
+    first: dict[str, Any] = {"variables": _variables(VARIABLES)}
     if files.refused is not None:
         first["refused"] = files.refused
     else:
@@ -71,15 +73,19 @@ def configuration(program: str, profile: str | None) -> Configuration:
         first["profiles"], first["sessions"] = _pairs(files.profiles), _pairs(files.sessions)
     if profile is not None:
         first["selected"] = profile
+    settings = _settings(first, files)
     region = _region(program, first)
     if region is not None:
         first["region"] = region
-    return Configuration(first, files, profile is not None)
+    service = {one.name: one.value for one in settings if one.value is not None}
+    if service:     # a program that does not know the member is asked for nothing that needs it
+        first["service"] = service
+    return Configuration(first, files, profile is not None, settings)
 
 
-def _variables() -> list[list[str | None]]:
-    """The variables that are set, none for a value that is not Unicode."""
-    values = ((name, os.environb.get(name.encode())) for name in VARIABLES)
+def _variables(names: Iterable[str]) -> list[list[str | None]]:
+    """Those of these variables that are set, none for a value that is not Unicode."""
+    values = ((name, os.environb.get(name.encode())) for name in names)
     return [[name, _unicode(value)] for name, value in values if value is not None]
 
 
@@ -88,6 +94,18 @@ def _unicode(value: bytes) -> str | None:
         return value.decode("utf-8")
     except UnicodeDecodeError:
         return None
+
+
+def _selected(first: dict[str, Any]) -> str:
+    named = first.get("selected", dict(first["variables"]).get("AWS_PROFILE"))
+    return "default" if named is None else named
+
+
+def _settings(first: dict[str, Any], files: Profiles) -> list[Setting]:
+    """How requests to AWS's services are sent. A variable that is not Unicode is as one that is not set."""
+    readable = {name: value for name, value in _variables(request_settings.VARIABLES) if value is not None}
+    selected = _selected(first)
+    return request_settings.load(readable, selected, files.profiles.get(selected, {}))
 
 
 def _pairs(sections: dict[str, dict[str, str]]) -> list[list[Any]]:

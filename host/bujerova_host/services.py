@@ -1,7 +1,8 @@
 """Requests to AWS's services, by botocore: the Security Token Service, IAM Identity Center, and Sign-In.
 
 botocore signs with the keys of the question and with no others: its session sees no profile, no keys and no region of
-the user. Endpoints, proxies and trust of the environment count for AWS's services, as they do for other clients."""
+the user. FIPS, dual stack, attempts and limits of time are those of the question. Endpoints, proxies and trust of the
+environment count for AWS's services, as they do for other clients."""
 
 from __future__ import annotations
 
@@ -15,6 +16,7 @@ import botocore.parsers
 import botocore.session
 
 from bujerova_host.forms import NO_CRYPTOGRAPHY, NO_REGION, Answered
+from bujerova_host.web import CONNECT_SECONDS
 
 KINDS = {
     "RegionDisabledException": "RegionDisabled",
@@ -126,19 +128,19 @@ def _endpoint(service: str) -> str | None:
 
 
 def _options(settings: dict[str, Any], signed: bool) -> dict[str, Any]:
-    """What botocore's Config is told. The service says what is wrong with a parameter, and not botocore."""
+    """What botocore's Config is told. The service says what is wrong with a parameter, and not botocore. What the
+    question leaves out is said too: botocore would ask the environment."""
     limits = settings["timeouts"]
     options: dict[str, Any] = {
         "parameter_validation": False,
-        "retries": {"mode": "standard", "total_max_attempts": max(1, settings["max_attempts"])}}
+        "retries": {"mode": "standard", "total_max_attempts": max(1, settings["max_attempts"])},
+        "connect_timeout": limits["connect_ms"] / 1000 if "connect_ms" in limits else CONNECT_SECONDS,
+        "use_fips_endpoint": settings.get("use_fips", False),
+        "use_dualstack_endpoint": settings.get("use_dual_stack", False)}
     if not signed:
         options["signature_version"] = botocore.UNSIGNED
-    for name, limit in (("connect_timeout", "connect_ms"), ("read_timeout", "read_ms")):
-        if limit in limits:
-            options[name] = limits[limit] / 1000
-    for name, setting in (("use_fips_endpoint", "use_fips"), ("use_dualstack_endpoint", "use_dual_stack")):
-        if settings.get(setting) is not None:
-            options[name] = settings[setting]
+    if "read_ms" in limits:
+        options["read_timeout"] = limits["read_ms"] / 1000
     return options
 
 

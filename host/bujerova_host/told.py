@@ -143,6 +143,7 @@ def _configured(settled: Configuration) -> Iterator[str]:
     for file in settled.files.files:
         yield f"  {file.path}: {'not read, ' + file.cause if file.cause else 'read'}"
     yield f"region {settled.region}" if settled.region else "no region"
+    yield from map(str, settled.settings)
 
 
 def _asked(exchanges: list[Exchange]) -> Iterator[str]:

@@ -194,6 +194,38 @@ class Handler(http.server.BaseHTTPRequestHandler):
                          "</Error><RequestId>r</RequestId></ErrorResponse>", "text/xml")
 
 
+class Proxy(http.server.ThreadingHTTPServer):
+    """A proxy that lets nobody through. Its list tells which hosts somebody wanted to reach."""
+
+    daemon_threads = True
+
+    def __init__(self) -> None:
+        super().__init__(("127.0.0.1", 0), Tunnel)
+        self.url = f"http://127.0.0.1:{self.server_address[1]}"
+        self.wanted: list[str] = []
+
+    def __enter__(self) -> Proxy:
+        threading.Thread(target=self.serve_forever, args=(0.05,), daemon=True).start()
+        return self
+
+    def __exit__(self, *_: Any) -> None:
+        self.shutdown()
+        self.server_close()
+
+
+class Tunnel(http.server.BaseHTTPRequestHandler):
+    """One request for a tunnel."""
+
+    server: Proxy
+
+    def log_message(self, *_: Any) -> None:
+        pass
+
+    def do_CONNECT(self) -> None:
+        self.server.wanted.append(self.path)
+        self.send_error(502)
+
+
 def role_keys(server: Aws, asked: dict[str, str]) -> str:
     """What is granted to whoever may assume a role."""
     id, secret, token, arn = server.grant(asked["RoleArn"], asked["RoleSessionName"])

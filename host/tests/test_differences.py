@@ -7,12 +7,15 @@ import os
 import sys
 import unittest
 from typing import Callable, NamedTuple
+from unittest import mock
 
+import botocore.session
 import known
 from place import KEYS, LOGIN, REPOSITORY, Place
 from scenarios import CONTAINER, has_sign_in
-from servers import Aws
+from servers import Aws, Handler
 from test_clients import AWS, knows_endpoint_variables
+from test_services import set_to
 
 BOTOCORE = """
 import botocore.session, sys
@@ -20,6 +23,7 @@ credentials = botocore.session.Session(profile=sys.argv[1] or None).get_credenti
 keys = credentials.get_frozen_credentials() if credentials else None
 print(f'{keys.access_key} by {credentials.method}' if keys else 'none')
 """
+WITHOUT_SLEEP = "import time; time.sleep = lambda seconds: None\n"
 ROLE = "role_arn = arn:aws:iam::111122223333:role/x\nsource_profile = base\n"
 BASE = f"[profile base]\n{KEYS}"
 
@@ -33,6 +37,11 @@ def process(id: str, **more: str) -> str:
     """The line of a process that prints keys with this id."""
     printed = json.dumps({"Version": 1, "AccessKeyId": id, "SecretAccessKey": known.PROCESS_KEYS[1], **more})
     return f"credential_process = printf '{printed}'\n"
+
+
+def refuse_for_now(request: Handler, _: bytes) -> None:
+    """The reply of a service that fails."""
+    request.fault(500, "InternalFailure", "not now")
 
 
 class Row(NamedTuple):
@@ -94,11 +103,15 @@ ROWS = {
     "`[profile NAME]` in the credentials file": Row(
         "", "no profile is named profile inner", "AKIAKEYS by shared-credentials-file",
         "[profile inner]\n" + keys("AKIAKEYS"), {}, "profile inner"),
+    "`max_attempts = 0` beside keys": Row(
+        f"[profile inner]\nmax_attempts = 0\n{keys('AKIAKEYS')}", "max_attempts of profile inner is no whole number from 1 to 4294967295",
+        "AKIAKEYS by config-file"),
     "a name with a blank, in quotation marks": Row(
         "[profile \"a b\"]\n" + keys("AKIAKEYS"), "no profile is named a b", "AKIAKEYS by config-file", profile="a b"),
 }
 # of these a row of the page tells what another test shows
-ELSEWHERE = ("the name of a role's session, where none is set", "a role's credentials at the next call")
+ELSEWHERE = ("the name of a role's session, where none is set", "a role's credentials at the next call",
+             "attempts at a request, where none are set", "the limit of time to connect to a service")
 # the rows that need what is not everywhere
 NEED_SIGN_IN = ("a sign-in session",)
 NEED_ENDPOINT = ("keys in `default`, a web identity in the environment, as on EKS", "a role in no region")
@@ -137,6 +150,19 @@ class Differences(unittest.TestCase):
                     place.other(sys.executable, "-c", BOTOCORE, "inner")
                 for asked in aws.parameters:
                     self.assertRegex(asked["RoleSessionName"], pattern)
+
+    @unittest.skipUnless(knows_endpoint_variables(), "this botocore is too old for it")
+    def test_attempts_at_a_request(self) -> None:
+        for attempts, words in ((3, None), (5, (sys.executable, "-c", WITHOUT_SLEEP + BOTOCORE, "inner"))):
+            with Aws() as aws, mock.patch.object(Handler, "security_token_service", refuse_for_now):
+                place = Place(self, aws, f"[profile inner]\nregion = eu-west-1\n{ROLE}{BASE}")
+                done = place.other(*words) if words else place.run("why", "--profile", "inner")
+                self.assertNotEqual(0, done.returncode)
+                self.assertEqual(["POST /"] * attempts, aws.requests)
+
+    def test_the_limit_of_time_to_connect(self) -> None:
+        theirs = botocore.session.Session().create_client("sts", region_name="eu-west-1").meta.config
+        self.assertEqual((3.1, 60), (set_to({"region": "eu-west-1", "max_attempts": 3, "timeouts": {}})[3], theirs.connect_timeout))
 
     @unittest.skipUnless(AWS and knows_endpoint_variables(), "there is no AWS CLI whose botocore is 1.31 or later")
     def test_roles_are_asked_for_at_each_call(self) -> None:

@@ -30,6 +30,13 @@ GRANTED = {"id": "ASIA000000000000", "secret": "secret", "token": "token", "expi
 Prepare = Callable[[Stubber], None]
 
 
+def set_to(settings: dict[str, Any]) -> tuple[bool, bool, int, float, float]:
+    """How a client sends a question with these settings: FIPS, dual stack, attempts, and the limits of time."""
+    config = Services()._client("sts", {**ROLE, "settings": settings}).meta.config
+    return (bool(config.use_fips_endpoint), bool(config.use_dualstack_endpoint), config.retries["total_max_attempts"],
+            config.connect_timeout, config.read_timeout)
+
+
 class Stubbed(Services):
     """The services, of which each client has a stub."""
 
@@ -139,12 +146,22 @@ class WhatServicesSay(unittest.TestCase):
             said = self.asked(ROLE, lambda stub: stub.add_response("assume_role", reply))
         self.assertEqual(("broken", "the reply lacks a member"), said)
 
-    def test_settings(self) -> None:
-        settings = {**SETTINGS, "use_fips": True, "use_dual_stack": True, "max_attempts": 5, "timeouts": {"connect_ms": 1500, "read_ms": 2500}}
-        client = Services()._client("sts", {**ROLE, "settings": settings})
-        config = client.meta.config
-        self.assertEqual((1.5, 2.5, 5), (config.connect_timeout, config.read_timeout, config.retries["total_max_attempts"]))
-        self.assertEqual((True, True), (config.use_fips_endpoint, config.use_dualstack_endpoint))
+    def test_settings_are_the_questions_alone(self) -> None:
+        said = {"AWS_USE_FIPS_ENDPOINT": "true", "AWS_USE_DUALSTACK_ENDPOINT": "true", "AWS_MAX_ATTEMPTS": "9", "AWS_RETRY_MODE": "legacy"}
+        for settings, wanted in (
+                ({}, (False, False, 3, 3.1, 60)),
+                ({"use_fips": False, "use_dual_stack": False, "max_attempts": 1}, (False, False, 1, 3.1, 60)),
+                ({"use_fips": True}, (True, False, 3, 3.1, 60)),
+                ({"use_dual_stack": True}, (False, True, 3, 3.1, 60)),
+                ({"max_attempts": 4294967295}, (False, False, 4294967295, 3.1, 60)),
+                ({"max_attempts": 0}, (False, False, 1, 3.1, 60)),
+                ({"timeouts": {"connect_ms": 1500}}, (False, False, 3, 1.5, 60)),
+                ({"timeouts": {"read_ms": 2500}}, (False, False, 3, 3.1, 2.5)),
+                ({"use_fips": True, "use_dual_stack": True, "max_attempts": 5, "timeouts": {"connect_ms": 1500, "read_ms": 2500}},
+                 (True, True, 5, 1.5, 2.5))):
+            for environment in ({}, said):
+                with self.subTest(settings=settings, environment=environment), mock.patch.dict(os.environ, environment):
+                    self.assertEqual(wanted, set_to({"region": "eu-west-1", "max_attempts": 3, "timeouts": {}, **settings}))
 
     def test_the_signer_is_the_questions_alone(self) -> None:
         mine = {"AWS_ACCESS_KEY_ID": known.ENVIRONMENT_ID, "AWS_SECRET_ACCESS_KEY": known.ENVIRONMENT_SECRET,
