@@ -78,7 +78,7 @@ def configuration(program: str, profile: str | None) -> Configuration:
     if region is not None:
         first["region"] = region
     service = {one.name: one.value for one in settings if one.value is not None}
-    if service:     # a program that does not know the member is asked for nothing that needs it
+    if service:     # where nothing is set a program without this member serves too
         first["service"] = service
     return Configuration(first, files, profile is not None, settings)
 

@@ -51,5 +51,5 @@ def _setting(name: str, text: str, place: str) -> Setting:
         return Setting(name, WORDS.get(text.lower()) if text.isascii() else None, place)
     number = NUMBER.fullmatch(text)
     if number is None or not 1 <= int(number[1]) <= MOST_ATTEMPTS:
-        raise NoAttempts(f"{place} is no whole number from 1 to {MOST_ATTEMPTS}: unset it, or set it to one")
+        raise NoAttempts(f"{place} is no whole number from 1 to {MOST_ATTEMPTS}: unset it, or set it to such a number")
     return Setting(name, int(number[1]), place)

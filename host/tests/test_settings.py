@@ -54,7 +54,7 @@ ROWS: list[tuple[dict[str, str], str, dict[str, Any] | None]] = [
      {"use_fips": True, "use_dual_stack": True, "max_attempts": 6}),
 ]
 NO_ATTEMPTS = ("0", "00", "", "x", "-1", "4294967296", "1.5", " 3", "3 ", "1_0", "0x3", "\u0663", "9" * 5000)
-REFUSED = "bujerova-host: {} is no whole number from 1 to 4294967295: unset it, or set it to one\n"
+REFUSED = "bujerova-host: {} is no whole number from 1 to 4294967295: unset it, or set it to such a number\n"
 
 
 class FirstLine(unittest.TestCase):
