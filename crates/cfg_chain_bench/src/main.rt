@@ -3,6 +3,8 @@
 //!
 //! - `none`: no call; the script is read, and the chain is made
 //! - `call`: one call
+//! - `keep`: one call; where memory runs out over it, a second one on what is kept then
+//! - `keep-shared`: the same on states that callers share
 //! - `run`: the call as a run, which is polled again where memory ran out over a poll
 //! - `leave`: a run that is given up there
 //! - `behind COUNT`: a run that is given up behind so many receipts
@@ -10,13 +12,15 @@
 //! - `shared THREADS CALLS`: so many calls on each of so many threads, on one kept state that they share, over what one
 //!   call before them kept
 //!
-//! The line of one call has how many questions it asked, and its answer; of a run that is given up the number of its
-//! receipts, the question that it shows, and the line of a call on what is kept then; of many calls how many gave
+//! The line of one call has how many questions it asked, and its answer; of a call that memory runs out over it is
+//! `kept behind` the number of its questions, and the line of the second call; of a run that is given up the number of
+//! its receipts, the question that it shows, and the line of a call on what is kept then; of many calls how many gave
 //! credentials. The status is 6 where memory ran out elsewhere, and 1 where the words or the script are not known.
 #![tactic(auto)]
 
 mod calls;
 mod hits;
+mod interrupted;
 mod runs;
 mod setup;
 mod ways;
@@ -26,6 +30,7 @@ use cfg_chain::DefaultCredentialsChain;
 use cfg_script::ScriptError;
 use cfg_world::{ScriptDevices, World};
 use hits::{lent_line, shared_line};
+use interrupted::{keep_line, keep_shared_line};
 use runs::{GivenUp, given_up_line, run_line};
 use setup::{Setup, chain_over, set_up};
 use std::alloc::Global;
@@ -104,6 +109,11 @@ fn line_by<R: Threads + Wait + Sync>(
     Ok(match way {
         Way::None => String::new(alloc),
         Way::Call => call_line(alloc, &chain, devices)?,
+        Way::Keep => keep_line(alloc, &chain, devices, set_up(alloc, script)?.devices)?,
+        Way::KeepShared => {
+            let later = set_up(alloc, script)?.devices;
+            keep_shared_line(rt, alloc, &chain, devices, later)?
+        }
         Way::Run => run_line(alloc, &chain, devices)?,
         Way::Leave => left(alloc, &chain, devices, script, GivenUp::Refused)?,
         Way::Behind(count) => left(alloc, &chain, devices, script, GivenUp::Behind(count))?,

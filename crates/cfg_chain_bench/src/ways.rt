@@ -5,6 +5,8 @@
 pub enum Way {
     None,
     Call,
+    Keep,
+    KeepShared,
     Run,
     Leave,
     Behind(usize),
@@ -26,6 +28,8 @@ fn named(word: &str) -> Option<Way> {
     match word {
         "none" => Some(Way::None),
         "call" => Some(Way::Call),
+        "keep" => Some(Way::Keep),
+        "keep-shared" => Some(Way::KeepShared),
         "run" => Some(Way::Run),
         "leave" => Some(Way::Leave),
         _ => None,

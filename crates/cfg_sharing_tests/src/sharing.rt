@@ -12,7 +12,7 @@ use cfg_kept::Kept;
 use cfg_script::ScriptError;
 use cfg_sharing::{Called, ShareFault, Shared, share_calls};
 use cfg_types::{OutOfMemory, Seq};
-use cfg_world::{ScriptDevices, World};
+use cfg_world::{Devices, FaultDevices, ScriptDevices, World};
 use std::alloc::Global;
 use std::sync::Wait;
 use std::test::Fail;
@@ -20,7 +20,7 @@ use std::thread::Threads;
 
 // The answers in the callers' order, how much they asked together, the readings behind files in their journals and in
 // what is kept, and the strays.
-fn shared_words(alloc: Global, shared: &Shared<ScriptDevices>) -> Result<String, OutOfMemory> {
+fn shared_words<D: Devices>(alloc: Global, shared: &Shared<D>) -> Result<String, OutOfMemory> {
     let mut words = String::new(alloc);
     let mut asked: usize = 0;
     for called in shared.calls.as_slice() {
@@ -78,13 +78,13 @@ fn kept_after(
     Ok(kept)
 }
 
-fn shared_by<R: Threads + Wait + Sync>(
+fn shared_by<R: Threads + Wait + Sync, D: Devices + Send + Drop>(
     rt: &R,
     alloc: Global,
     chain: &DefaultCredentialsChain,
     before: Option<ScriptDevices>,
-    callers: Vec<ScriptDevices>,
-) -> Result<Shared<ScriptDevices>, ShareFault<ScriptDevices>> {
+    callers: Vec<D>,
+) -> Result<Shared<D>, ShareFault<D>> {
     let kept = kept_after(alloc, chain, before)?;
     let worlds = worlds_over(alloc, callers)?;
     share_calls(rt, alloc, chain, kept, worlds)
@@ -267,6 +267,58 @@ fn unlike<R: Threads + Wait + Sync>(
 fn one_to_sixteen_callers(rt: HostRuntime) -> Result<(), Fail> {
     for base in BASES {
         assert_eq!(rt; unlike(&rt, rt.alloc(), base)?, None);
+    }
+    Ok(())
+}
+
+// What two callers of a session come to, of whose devices the call of this number fails for the first caller.
+fn fault_words<R: Threads + Wait + Sync>(
+    rt: &R,
+    alloc: Global,
+    at: u64,
+) -> Result<String, ScriptError> {
+    let chain = chain_of(alloc, SESSION)?;
+    let mut callers = Vec::new(alloc);
+    callers.push(FaultDevices::new(devices_of(alloc, SESSION)?, at))?;
+    callers.push(FaultDevices::new(devices_of(alloc, SESSION)?, 0))?;
+    match shared_by(rt, alloc, &chain, None, callers) {
+        Ok(shared) => Ok(shared_words(alloc, &shared)?),
+        Err(_) => Ok(String::from_str(alloc, "no history, or no memory")?),
+    }
+}
+
+// Whether the first caller comes first, it is to load the token, and its calls of the devices are the file and the
+// credentials' request. Else it finds the token, and its only one is that request.
+const FAULTS: &[(u64, &[&str])] = &[
+    // It is not given credentials: it has no file, and the other one loads the token, or its request fails.
+    (
+        1,
+        &[
+            "provider error, R, asked 6, handed [Instant { seconds: 0, nanos: 0 }], recorded [Instant { seconds: 0, nanos: 0 }], strays 0",
+        ],
+    ),
+    // Its request fails where it loads the token, which the other one finds all the same.
+    (
+        2,
+        &[
+            "provider error, R, asked 6, handed [Instant { seconds: 0, nanos: 0 }], recorded [Instant { seconds: 0, nanos: 0 }], strays 0",
+            "R, R, asked 6, handed [Instant { seconds: 0, nanos: 0 }], recorded [Instant { seconds: 0, nanos: 0 }], strays 0",
+        ],
+    ),
+    // It has no third one.
+    (
+        3,
+        &[
+            "R, R, asked 6, handed [Instant { seconds: 0, nanos: 0 }], recorded [Instant { seconds: 0, nanos: 0 }], strays 0",
+        ],
+    ),
+];
+
+#[test]
+fn each_call_of_the_devices_of_a_caller_may_fail(rt: HostRuntime) -> Result<(), Fail> {
+    for (at, lawful) in FAULTS {
+        let words = fault_words(&rt, rt.alloc(), *at)?;
+        assert!(rt; lawful.contains(&words.as_str()), "{at}: {words}");
     }
     Ok(())
 }

@@ -6,17 +6,17 @@ ghost use Rattle.cfg_script.specs.Devices.{lists_of};
 use cfg_imds::steps::follow_region;
 use cfg_imds::{Client, ImdsTokenState};
 use cfg_profile::ProviderConfig;
-use cfg_script::{Script, read_script};
+use cfg_script::{Script, ScriptError, read_script};
 use cfg_types::{Env, OutOfMemory};
-use cfg_world::{DeviceLists, ScriptDevices, World};
+use cfg_world::{DeviceLists, Devices, FaultDevices, ScriptDevices, World};
 use std::alloc::Global;
 use std::test::Fail;
 
 /// What a get of this path answers, how many questions it puts, and the token that it leaves.
-pub(crate) fn get_words(
+pub(crate) fn get_words<D: Devices>(
     alloc: Global,
     client: &Client,
-    world: &mut World<ScriptDevices>,
+    world: &mut World<D>,
     path: &str,
 ) -> Result<String, OutOfMemory> {
     let mut state = ImdsTokenState::new();
@@ -155,6 +155,81 @@ fn calls_of_a_client(rt: HostRuntime) -> Result<(), Fail> {
         let script = read_script(rt.alloc(), script.as_bytes())?;
         let words = called_by(rt.alloc(), script, path)?;
         assert_eq!(rt; words.as_str(), *want, "{path}");
+    }
+    Ok(())
+}
+
+// What a get of a path answers where the call of the devices of this number fails, none for 0, how many questions it
+// puts, and the token that it leaves.
+fn fault_words(alloc: Global, script: Script, at: u64) -> Result<String, OutOfMemory>
+    requires { AllFit (lists_of (plain script)) }
+{
+    let config = ProviderConfig::empty(alloc)?;
+    let client = Client::configured(alloc, &config)?;
+    let devices = ScriptDevices::new(alloc, script.devices)?;
+    let mut world = World::new(alloc, FaultDevices::new(devices, at));
+    let words = get_words(alloc, &client, &mut world, "/a")?;
+    let calls = world.into_devices().calls();
+    Ok(format!(in alloc; "{calls}: {words}")?)
+}
+
+fn fault_words_by(alloc: Global, script: &str, at: u64) -> Result<String, ScriptError> {
+    let script = read_script(alloc, script.as_bytes())?;
+    Ok(fault_words(alloc, script, at)?)
+}
+
+const REFUSED: &str = r#"{"clock":[100],"replies":{"imds-token":[[403,[],""]]}}"#;
+
+const WITHOUT_LIFETIME: &str = r#"{"clock":[100],"replies":{"imds-token":[[200,[],"tok"]]}}"#;
+
+const ASKED_AGAIN: &str =
+    r#"{"clock":[100],"replies":{"imds-token":[[200,[["x-aws-ec2-metadata-token-ttl-seconds","9"]],"t"]],"imds-get":[[500,[],""],[200,[],"role"]]}}"#;
+
+// A request for a token that is not sent is its error, and one for the path, which is asked again for a status of the
+// server alone, leaves the token.
+const FAULTS: &[(&str, u64, &str)] = &[
+    (
+        REFUSED,
+        0,
+        "1: Err(FailedToLoadToken(Token(Forbidden))) 3 None",
+    ),
+    (
+        REFUSED,
+        1,
+        "1: Err(FailedToLoadToken(Sent(Dispatch))) 3 None",
+    ),
+    (
+        WITHOUT_LIFETIME,
+        0,
+        "1: Err(FailedToLoadToken(Token(NoTtl))) 3 None",
+    ),
+    (
+        WITHOUT_LIFETIME,
+        1,
+        "1: Err(FailedToLoadToken(Sent(Dispatch))) 3 None",
+    ),
+    (
+        ASKED_AGAIN,
+        1,
+        "1: Err(FailedToLoadToken(Sent(Dispatch))) 3 None",
+    ),
+    (
+        ASKED_AGAIN,
+        2,
+        "2: Err(Unexpected(Dispatch)) 4 Some(MetadataToken { value: \"** redacted **\", expiry: 109 s 0 ns })",
+    ),
+    (
+        ASKED_AGAIN,
+        3,
+        "3: Err(Unexpected(Dispatch)) 5 Some(MetadataToken { value: \"** redacted **\", expiry: 109 s 0 ns })",
+    ),
+];
+
+#[test]
+fn each_request_of_a_client_may_fail(rt: HostRuntime) -> Result<(), Fail> {
+    for (script, at, want) in FAULTS {
+        let words = fault_words_by(rt.alloc(), script, *at)?;
+        assert_eq!(rt; words.as_str(), *want, "{at} {script}");
     }
     Ok(())
 }
