@@ -142,6 +142,15 @@ class Why(unittest.TestCase):
                        r"\nprofile inner, named by --profile\n", r"\.aws/credentials: not read, No such file or directory\n"):
             self.assertRegex(told, wanted)
 
+    def test_who_was_passed_over_before_an_error(self) -> None:
+        with Aws() as aws:
+            refused, nothing = (self.told(placed(self, aws, name), "--profile", "inner") for name in ("a role that is refused", "nothing"))
+        self.assertRegex(refused, r"^no credentials: ProviderError\n")
+        self.assertRegex(refused, r"\npassed over:\n  Environment\n    not loaded\n")
+        self.assertNotIn("\n  Profile\n", refused)
+        self.assertRegex(nothing, r"^no credentials: CredentialsNotLoaded\n")
+        self.assertNotIn("passed over:", nothing)
+
     def test_which_profile_counts(self) -> None:
         place = Place(self, None, STATIC + REGION)
         self.assertIn("\nprofile default, since none is named\n", self.told(place))

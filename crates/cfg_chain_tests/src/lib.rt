@@ -20,6 +20,8 @@ mod own;
 #[cfg(test)]
 mod owners;
 #[cfg(test)]
+mod reasons;
+#[cfg(test)]
 mod region_runs;
 #[cfg(test)]
 mod replay;

@@ -17,7 +17,7 @@ use Rattle.cfg_error_report.specs.CredentialsCauses.{causes_of}
 use Rattle.cfg_error_report.specs.Lines.{Line, one_line}
 use Rattle.cfg_lines.specs.Members.{text_value, whole, signed, list_value, items_of}
 use Rattle.cfg_lines.proofs.Members.{IsPlain, neither, object_plain, may_within}
-use Rattle.cfg_drive.specs.Outcomes.{moment_value, cause_value, causes_value, passed_over_value, credentials_value, error_value, outcome_value, broken_value}
+use Rattle.cfg_drive.specs.Outcomes.{moment_value, cause_value, causes_value, passed_over_value, credentials_value, error_value, answer_value, outcome_value, broken_value}
 
 word_within : (n : ℕ) (word : List ℕ) → IsPlain n (string word)
 word_within n word = (omega arith, refl)
@@ -97,18 +97,29 @@ credentials_within passed keys line =
       ),
     )
 
-error_within : (e : CredentialsError) (line : List ℕ) → IsPlain 5 (error_value e line)
+error_within : (passed : List PassedOver) (e : CredentialsError) (line : List ℕ) → IsPlain 5 (error_value passed e line)
 unfolding error_value
-error_within e line =
-    object_plain 4 _
-    (word_within 4 (codes "error"), (word_within 4 (class_name (class_of e)), (word_within 4 (one_line (causes_of e)), (deeper 2 4 (causes_value e) (lit≤ tt) (causes_within e), (word_within 4 line, tt)))))
+error_within passed e line =
+    object_plain 4 _ (
+      word_within 4 (codes "error"),
+      (
+        word_within 4 (class_name (class_of e)),
+        (
+          word_within 4 (one_line (causes_of e)),
+          (
+            deeper 2 4 (causes_value e) (lit≤ tt) (causes_within e),
+            (list_within passed_over_value 3 passed_within passed, (word_within 4 line, tt)),
+          ),
+        ),
+      ),
+    )
 
-outcome_within : (over : ChainSetting) (out : Answer) (line : List ℕ) → IsPlain 5 (outcome_value over out line)
-outcome_within over (Ok keys) line = credentials_within (reasons_of over).passed_over keys line
-outcome_within over (Err e) line = error_within e line
+answer_within : (passed : List PassedOver) (out : Answer) (line : List ℕ) → IsPlain 5 (answer_value passed out line)
+answer_within passed (Ok keys) line = credentials_within passed keys line
+answer_within passed (Err e) line = error_within passed e line
 
 pub outcome_plain : (over : ChainSetting) (out : Answer) (line : List ℕ) → IsPlain max_depth (outcome_value over out line)
-outcome_plain over out line = deeper 5 max_depth (outcome_value over out line) (lit≤ tt) (outcome_within over out line)
+outcome_plain over out line = deeper 5 max_depth (outcome_value over out line) (lit≤ tt) (answer_within (reasons_of over out).passed_over out line)
 
 broken_within : (reason : List ℕ) → IsPlain 1 (broken_value reason)
 unfolding broken_value

@@ -58,20 +58,24 @@ credentials_value passed keys line = object_with (
     ∷ has (codes "line") (string line)
     ∷ [])
 
--- an error, what it comes of, and the line of the call
-unfoldable pub error_value : CredentialsError → List ℕ → Data
-error_value e line = object_with (
+-- an error, what it comes of, which members were passed over before it, and the line of the call
+unfoldable pub error_value : List PassedOver → CredentialsError → List ℕ → Data
+error_value passed e line = object_with (
     has (codes "outcome") (string (codes "error"))
     ∷ has (codes "class") (string (class_name (class_of e)))
     ∷ has (codes "text") (string (one_line (causes_of e)))
     ∷ has (codes "causes") (causes_value e)
+    ∷ has (codes "passed_over") (list_value passed_over_value passed)
     ∷ has (codes "line") (string line)
     ∷ [])
 
--- what a call of a chain of this setting came to, with its line
+abbrev pub answer_value : List PassedOver → Answer → List ℕ → Data
+answer_value passed (Ok keys) line = credentials_value passed keys line
+answer_value passed (Err e) line = error_value passed e line
+
+-- what a call of a chain of this setting came to, with the members that it passed over, and with its line
 abbrev pub outcome_value : ChainSetting → Answer → List ℕ → Data
-outcome_value over (Ok keys) line = credentials_value (reasons_of over).passed_over keys line
-outcome_value over (Err e) line = error_value e line
+outcome_value over out line = answer_value (reasons_of over out).passed_over out line
 
 -- why a conversation broke off
 unfoldable pub broken_value : List ℕ → Data

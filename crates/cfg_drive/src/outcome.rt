@@ -1,10 +1,13 @@
 //! The lines of outcomes.
 ghost use Rattle.std.specs.Prelude.{◌≡◌, ◌++◌, ◌≤◌, codes, false, option_map, IfOk, Some, string_bytes};
-ghost use Rattle.serde_json.specs.Data.{depth};
+ghost use Rattle.serde_json.specs.Data.{depth, string};
 ghost use Rattle.serde_json.specs.Read.{max_depth};
 ghost use Rattle.serde_json.specs.Written.{has_float};
 ghost use Rattle.serde_json.specs.View.{view};
+ghost use Rattle.cfg_types.specs.Classes.{class_of, class_name};
 ghost use Rattle.cfg_chain.specs.Views.{chain_of};
+ghost use Rattle.cfg_error_report.specs.CredentialsCauses.{causes_of as causes_of_error};
+ghost use Rattle.cfg_error_report.specs.Lines.{one_line};
 ghost use Rattle.cfg_lines.specs.Members.{put_or_keep, text_value, list_value};
 ghost use Rattle.cfg_program.specs.Lines.{shown};
 ghost use Rattle.cfg_drive.specs.Objects.{told_in};
@@ -63,12 +66,11 @@ fn outcome_as_value(
 ) -> Result<Value, OutOfMemory>
     ensures { let over = chain_of value repeated chain.now in IfOk result (λ v. view v ≡ outcome_value over answer.now resolved.now) }
 {
+    let reasons = reasons_of(alloc, chain, answer)?;
+    let passed = reasons.passed_over.as_slice();
     match answer {
-        Ok(keys) => {
-            let reasons = reasons_of(alloc, chain)?;
-            credentials(alloc, reasons.passed_over.as_slice(), keys, resolved)
-        }
-        Err(error) => refused(alloc, error, resolved),
+        Ok(keys) => credentials(alloc, passed, keys, resolved),
+        Err(error) => refused(alloc, passed, error, resolved),
     }
 }
 
@@ -163,17 +165,37 @@ fn moment_as_value(alloc: Global, moment: Instant) -> Result<Value, OutOfMemory>
 }
 
 #[tactic(auto, unfolding(cfg_lines::specs::Members::object_with, crate::specs::Outcomes::error_value))]
-fn refused(alloc: Global, error: &CredentialsError, resolved: &str) -> Result<Value, OutOfMemory>
-    ensures { IfOk result (λ v. view v ≡ error_value error.now resolved.now) }
+fn refused(
+    alloc: Global,
+    passed: &[PassedOver],
+    error: &CredentialsError,
+    resolved: &str,
+) -> Result<Value, OutOfMemory>
+    ensures { IfOk result (λ v. view v ≡ error_value passed.now error.now resolved.now) }
 {
-    let text = causes_of(alloc, error)?.to_string(alloc)?;
-    let object = Object::new(alloc)
-        .word("outcome", "error")?
-        .word("class", error.class().name())?
-        .word("text", text.as_str())?
-        .with("causes", causes_as_value(alloc, error)?)?
+    let object = Object::new(alloc).word("outcome", "error")?;
+    let object = with_error(alloc, object, error)?
+        .with("passed_over", passed_over_list(alloc, passed)?)?
         .word("line", resolved)?;
     Ok(object.into_value())
+}
+
+// What the error is, and what it comes of.
+#[tactic(auto, unfolding(cfg_lines::specs::Members::put_or_keep))]
+fn with_error(
+    alloc: Global,
+    object: Object,
+    error: &CredentialsError,
+) -> Result<Object, OutOfMemory>
+    ensures { IfOk result (λ o. told_in o ≡ put_or_keep (codes "causes") (Some (causes_value error.now))
+        (put_or_keep (codes "text") (Some (string (one_line (causes_of_error error.now))))
+        (put_or_keep (codes "class") (Some (string (class_name (class_of error.now)))) (told_in object)))) }
+{
+    let text = causes_of(alloc, error)?.to_string(alloc)?;
+    object
+        .word("class", error.class().name())?
+        .word("text", text.as_str())?
+        .with("causes", causes_as_value(alloc, error)?)
 }
 
 // The members that were passed over.

@@ -10,4 +10,5 @@ pub mod OneReplay
 pub mod OwnerSteps
 pub mod OneOwner
 pub mod RefusedPlans
+pub mod EndingErrors
 pub mod ReasonsOfCalls

@@ -1,6 +1,5 @@
 //! Laws of verdicts, of replays, of owners and of reasons, each on a call that carries it.
-ghost use Rattle.std.specs.Prelude.{◌≡◌, ◌↔◌, ℕ, List, Option, IsSome, IsTrue, Ok};
-ghost use Rattle.cfg_types.specs.Keys.{Keys};
+ghost use Rattle.std.specs.Prelude.{◌≡◌, ◌↔◌, ℕ, List, Option, IsSome, IsTrue};
 ghost use Rattle.cfg_world.specs.Fits.{Pair};
 ghost use Rattle.cfg_kept.specs.Kinds.{Value, States};
 ghost use Rattle.cfg_providers.specs.CustomSources.{Answer};
@@ -57,9 +56,9 @@ pub fn one_list_of_owners_is_true()
         Owns over old new found journal names → Owns over old newer more journal also → names ≡ also }
 {}
 
-/// Of a call that gave credentials the reasons are its own: the members that it passed over, each with its error, the one
-/// that gave the credentials, and what this one asked.
+/// The reasons of a call are its own: the members that it passed over, each with its error, the one that gave the
+/// credentials or whose error ended it, and what this one asked; or none was loaded, and these are all.
 pub fn reasons_are_those_of_the_call()
-    ensures { (over : ChainSetting) (old new : States) (found : List Value) (journal : List Pair) (keys : Keys) →
-        IsCall over old new found journal (Ok keys) → AreReasonsOf over found journal keys (reasons_of over) }
+    ensures { (over : ChainSetting) (old new : States) (found : List Value) (journal : List Pair) (out : Answer) →
+        IsCall over old new found journal out → AreReasonsOf over found journal out (reasons_of over out) }
 {}

@@ -1,8 +1,9 @@
 //! Audits: whether a journal and an outcome, or answers by the kinds of their questions, can be those of a call of the
-//! default chain; which member of the chain asked each question; and why a call gave its credentials. It stands on
-//! cfg_chain and cfg_run. The layers above may use that a verdict is the one that is true of what was handed in, that a
+//! default chain; which member of the chain asked each question; and which members a call passed over, and why. It stands
+//! on cfg_chain and cfg_run. The layers above may use that a verdict is the one that is true of what was handed in, that a
 //! yes is said, and a whole call told, exactly where there is such a call, that each entry's owner is the member that asked
-//! its question, and that the reasons of credentials are the members that their call passed over, each with its error.
+//! its question, and that the reasons of a call are the members that it passed over, each with its error, and the one whose
+//! answer ended it.
 #![tactic(auto)]
 
 pub mod alike;

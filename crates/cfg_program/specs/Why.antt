@@ -1,5 +1,5 @@
 -- What stands below the line of a call.
-use Rattle.std.specs.Prelude.{ℕ, List, [], ◌∷◌, ◌++◌, Result, Ok, Err, codes}
+use Rattle.std.specs.Prelude.{ℕ, List, [], ◌∷◌, ◌++◌, Option, Some, None, Result, Ok, Err, codes}
 use Rattle.std.specs.List.{flat_map}
 use Rattle.std.specs.Str.{encode_utf8_all}
 use Rattle.cfg_types.specs.Keys.{Keys}
@@ -50,18 +50,22 @@ asked_below Nothing out journal = []
 asked_below Causes (Ok gave) journal = []
 asked_below Causes (Err e) journal = asked_lines journal
 
--- the reasons of a call of this journal: a line for each member that was passed over, one for the member that answered,
--- and one for each question that this one asked
-abbrev pub lines_by : Variables → Reasons → List Pair → List ℕ
-lines_by env r journal = flat_map passed_over_line r.passed_over ++ (answered_line r.answered ++ flat_map asked_line (own_part env r.answered journal))
+-- one line for the member that answered, and one for each question that it asked
+abbrev pub answered_lines : Variables → Option Member → List Pair → List ℕ
+answered_lines env (Some m) journal = answered_line m ++ flat_map asked_line (own_part env m journal)
+answered_lines env None journal = []
 
-abbrev pub reason_lines : ChainSetting → List Pair → List ℕ
-reason_lines over journal = lines_by over.configuration.environment (reasons_of over) journal
+-- the reasons of a call of this journal: a line for each member that was passed over, and those of the one that answered
+abbrev pub lines_by : Variables → Reasons → List Pair → List ℕ
+lines_by env r journal = flat_map passed_over_line r.passed_over ++ answered_lines env r.answered journal
+
+abbrev pub reason_lines : ChainSetting → Result Keys CredentialsError → List Pair → List ℕ
+reason_lines over out journal = lines_by over.configuration.environment (reasons_of over out) journal
 
 -- what stands below the line of credentials, and of an error behind its causes, where it is asked for
 abbrev pub below_credentials : ChainSetting → Below → Result Keys CredentialsError → List Pair → List ℕ
 below_credentials over Nothing out journal = []
-below_credentials over Causes (Ok keys) journal = reason_lines over journal
+below_credentials over Causes (Ok keys) journal = reason_lines over (Ok keys) journal
 below_credentials over Causes (Err e) journal = asked_lines journal
 
 abbrev pub below_call : ChainSetting → LineForm → Result Keys CredentialsError → List Pair → List ℕ

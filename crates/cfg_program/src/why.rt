@@ -6,7 +6,7 @@ ghost use Rattle.std.specs.Str.{encode_utf8_all};
 ghost use Rattle.cfg_types.specs.Classes.{is_memory};
 ghost use Rattle.cfg_chain.specs.Members.{name_of};
 ghost use Rattle.cfg_chain.specs.Views.{chain_of};
-ghost use Rattle.cfg_program.specs.Why.{passed_over_line, answered_line, subject_behind, asked_line, asked_lines, reason_lines, below_credentials, below_call, told_as};
+ghost use Rattle.cfg_program.specs.Why.{passed_over_line, answered_line, answered_lines, subject_behind, asked_line, asked_lines, reason_lines, below_credentials, below_call, told_as};
 
 use crate::causes::{Below, write_escaped};
 use crate::lines::{LineForm, write_kind, write_word};
@@ -14,7 +14,7 @@ use crate::outcome::tell;
 use cfg_chain::{DefaultCredentialsChain, Member};
 use cfg_error_report::causes_of;
 use cfg_explain::{PassedOver, own_part, reasons_of, subject_of};
-use cfg_types::{Credentials, CredentialsError, OutOfMemory, Text};
+use cfg_types::{Credentials, CredentialsError, Env, OutOfMemory, Text};
 use cfg_world::Entry;
 use std::alloc::AllocError;
 use std::string::ToString;
@@ -68,7 +68,7 @@ fn write_below(
         OnOk result (lines.new.items ≡ lines.old.items ++ below_credentials over below outcome.now journal.now) }
 {
     match (below, outcome) {
-        (Below::Causes, Ok(_)) => write_reasons(lines, chain, journal),
+        (Below::Causes, Ok(_)) => write_reasons(lines, chain, outcome, journal),
         (Below::Causes, Err(_)) => write_journal(lines, journal),
         _ => Ok(()),
     }
@@ -79,15 +79,15 @@ fn write_below(
 fn write_reasons(
     lines: &mut Vec<u8>,
     chain: &DefaultCredentialsChain,
+    outcome: &Result<Credentials, CredentialsError>,
     journal: &[Entry],
 ) -> Result<(), OutOfMemory>
-    ensures { OnOk result (lines.new.items ≡ lines.old.items ++ reason_lines (chain_of value repeated chain.now) journal.now) }
+    ensures { let over = chain_of value repeated chain.now in
+        OnOk result (lines.new.items ≡ lines.old.items ++ reason_lines over outcome.now journal.now) }
 {
-    let reasons = reasons_of(*lines.allocator(), chain)?;
+    let reasons = reasons_of(*lines.allocator(), chain, outcome)?;
     write_passed_over(lines, reasons.passed_over.as_slice())?;
-    write_answered(lines, reasons.answered)?;
-    let asked = own_part(chain.core.config().env(), reasons.answered, journal);
-    write_part(lines, asked)?;
+    write_answered(lines, chain.core.config().env(), reasons.answered, journal)?;
     Ok(())
 }
 
@@ -115,9 +115,26 @@ fn write_one_passed_over(lines: &mut Vec<u8>, passed: &PassedOver) -> Result<(),
     Ok(())
 }
 
-// The member that gave the credentials.
+// The member that gave the credentials, and what it asked.
 #[tactic(auto, using(std::proofs::lemmas::Grind::common_steps))]
-fn write_answered(lines: &mut Vec<u8>, member: Member) -> Result<(), OutOfMemory>
+fn write_answered(
+    lines: &mut Vec<u8>,
+    env: &Env,
+    answered: Option<Member>,
+    journal: &[Entry],
+) -> Result<(), OutOfMemory>
+    ensures { OnOk result (lines.new.items ≡ lines.old.items ++ answered_lines env.now answered journal.now) }
+{
+    let Some(member) = answered else {
+        return Ok(());
+    };
+    write_member(lines, member)?;
+    write_part(lines, own_part(env, member, journal))?;
+    Ok(())
+}
+
+#[tactic(auto, using(std::proofs::lemmas::Grind::common_steps))]
+fn write_member(lines: &mut Vec<u8>, member: Member) -> Result<(), OutOfMemory>
     ensures { OnOk result (lines.new.items ≡ lines.old.items ++ answered_line member) }
 {
     write_word(lines, b"  ")?;

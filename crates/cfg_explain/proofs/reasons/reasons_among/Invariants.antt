@@ -7,4 +7,4 @@ use Rattle.cfg_explain.proofs.reasons.reasons_among.Given as goal
 abbrev pub invariant-loop-member : goal.invariant-loop-member
 invariant-loop-member g l =
     let over = chain_of (λ z. (goal.ProvideCredentials-dyn g z).value z.1) (λ z. (goal.ClassifyRetry-dyn g z).repeated z.1) l.chain in
-    behind l.passed_over.items (reasons_among over (drop l.member-index l.members)) ≡ reasons_among over l.members
+    behind l.passed_over.items (reasons_among over l.answer (drop l.member-index l.members)) ≡ reasons_among over l.answer l.members
