@@ -19,3 +19,8 @@ call_taken_back before handed left receipt asked count same counted grew cut =
     cut
     ∙ ap (λ (s : CallSoFar). record s { asked = take count s.asked }) grew
     ∙ ap (λ (xs : List Pair). record before { asked = xs }) (ap (λ n. take n (before.asked ++ receipt)) (counted ∙ ap length same) ∙ take-append_seam before.asked receipt)
+
+-- the receipts that there were stay
+pub asked_taken_back : (before handed : CallSoFar) (receipt : List Pair) (count : ℕ) → count ≡ length before.asked → handed ≡ record before { asked = before.asked ++ receipt } → take count handed.asked ≡ before.asked
+asked_taken_back before handed receipt count counted grew =
+    ap (λ (s : CallSoFar). take count s.asked) grew ∙ ap (λ n. take n (before.asked ++ receipt)) counted ∙ take-append_seam before.asked receipt

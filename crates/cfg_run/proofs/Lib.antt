@@ -6,3 +6,11 @@ pub mod Askers
 pub mod KeptCopies
 pub mod RunSteps
 pub mod CallLaws
+pub mod LastRoles
+pub mod NeverForRole
+pub mod SectionsWithoutRoles
+pub mod BasesWithoutRoles
+pub mod RoleParts
+pub mod RoleWalks
+pub mod RolePlaces
+pub mod RoleSteps

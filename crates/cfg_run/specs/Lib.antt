@@ -3,3 +3,7 @@ pub mod RegionRuns
 pub mod FutureRegions
 pub mod CallSoFar
 pub mod Runs
+pub mod Roles
+pub mod Marks
+pub mod Planned
+pub mod Places

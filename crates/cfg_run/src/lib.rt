@@ -6,11 +6,14 @@
 
 pub mod future;
 mod kept_progress;
+mod last_role;
 pub mod laws;
 mod next;
+mod planned;
 mod progress;
 mod region_run;
 mod replay;
+mod roles;
 mod run;
 
 pub use cfg_types::OutOfMemory;
