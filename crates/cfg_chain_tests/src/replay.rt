@@ -150,62 +150,64 @@ fn beginnings_of(alloc: Global, script: &str) -> Result<String, ScriptError> {
     beginnings(alloc, script, answer.as_str(), journal.as_slice())
 }
 
-#[test]
-fn each_call_of_the_devices_may_fail(rt: HostRuntime) -> Result<(), Fail> {
-    let table: &[(&str, &str)] = &[
-        (
-            ROLE,
-            r#"1: 2 ProviderError(Role(ProviderError(Sent(Dispatch))))
+// The script, and for each call of its devices that may fail, how many questions are asked then and what comes of it.
+const FAILING_CALLS: &[(&str, &str)] = &[
+    (
+        ROLE,
+        r#"1: 2 ProviderError(Role(ProviderError(Sent(Dispatch))))
 "#,
-        ),
-        (
-            PROCESS,
-            r#"1: 1 ProviderError(Base(ProviderError(Process(NotRun))))
+    ),
+    (
+        PROCESS,
+        r#"1: 1 ProviderError(Base(ProviderError(Process(NotRun))))
 2: 3 ProviderError(Role(ProviderError(Sent(Dispatch))))
 3: 4 ProviderError(Role(ProviderError(Sent(Dispatch))))
 "#,
-        ),
-        (
-            IDENTITY,
-            r#"1: 2 ProviderError(File("/j"))
+    ),
+    (
+        IDENTITY,
+        r#"1: 2 ProviderError(File("/j"))
 2: 3 ProviderError(Sent(Dispatch))
 "#,
-        ),
-        (
-            CONTAINER,
-            r#"1: 1 ProviderError(File("/t"))
+    ),
+    (
+        CONTAINER,
+        r#"1: 1 ProviderError(File("/t"))
 2: 2 InvalidConfiguration(FullUri(http://n/c: failed to perform DNS lookup while validating URI))
 3: 5 Unhandled(NoDocument(JsonError(NotObject)))
 4: 5 Unhandled(NoDocument(JsonError(NotObject)))
 5: 5 Unhandled(Sent(Dispatch))
 "#,
-        ),
-        (
-            METADATA,
-            r#"1: 3 CredentialsNotLoaded(Chain(ProviderChainError { attempts: [ProviderAttempt { name: "Environment", error: CredentialsNotLoaded(NotSet("AWS_ACCESS_KEY_ID")) }, ProviderAttempt { name: "Profile", error: CredentialsNotLoaded(Profile(NoProfilesDefined)) }, ProviderAttempt { name: "WebIdentityToken", error: CredentialsNotLoaded(NotSet("AWS_WEB_IDENTITY_TOKEN_FILE")) }, ProviderAttempt { name: "EcsContainer", error: CredentialsNotLoaded(NotConfigured) }, ProviderAttempt { name: "Ec2InstanceMetadata", error: CredentialsNotLoaded(MetadataUnreachable) }] }))
+    ),
+    (
+        METADATA,
+        r#"1: 3 CredentialsNotLoaded(Chain(ProviderChainError { attempts: [ProviderAttempt { name: "Environment", error: CredentialsNotLoaded(NotSet("AWS_ACCESS_KEY_ID")) }, ProviderAttempt { name: "Profile", error: CredentialsNotLoaded(Profile(NoProfilesDefined)) }, ProviderAttempt { name: "WebIdentityToken", error: CredentialsNotLoaded(NotSet("AWS_WEB_IDENTITY_TOKEN_FILE")) }, ProviderAttempt { name: "EcsContainer", error: CredentialsNotLoaded(NotConfigured) }, ProviderAttempt { name: "Ec2InstanceMetadata", error: CredentialsNotLoaded(MetadataUnreachable) }] }))
 2: 4 ProviderError(Metadata(Unexpected(Dispatch)))
 3: 7 ProviderError(Metadata(FailedToLoadToken(Sent(Dispatch))))
 4: 8 ProviderError(Metadata(Unexpected(Dispatch)))
 "#,
-        ),
-        (
-            SESSION,
-            r#"1: 2 ProviderError(Base(ProviderError(SsoToken(FailedToLoadToken(IoError { what: Read, path: "/home/u/.aws/sso/cache/a9993e364706816aba3e25717850c26c9cd0d89d.json" })))))
+    ),
+    (
+        SESSION,
+        r#"1: 2 ProviderError(Base(ProviderError(SsoToken(FailedToLoadToken(IoError { what: Read, path: "/home/u/.aws/sso/cache/a9993e364706816aba3e25717850c26c9cd0d89d.json" })))))
 2: 5 Credentials { provider_name: "SSO", access_key_id: "R", secret_access_key: "** redacted **", expires_after: 5000 s 0 ns, account_id: "1" } S Some("T") [CredentialsSso, CredentialsProfile]
 3: 5 ProviderError(Base(ProviderError(SsoToken(FailedToLoadToken(IoError { what: Write, path: "/home/u/.aws/sso/cache/a9993e364706816aba3e25717850c26c9cd0d89d.json" })))))
 4: 6 ProviderError(Base(ProviderError(Sent(Dispatch))))
 "#,
-        ),
-        (
-            SIGN_IN,
-            r#"1: 2 ProviderError(Base(Unhandled(LoginToken(IoError { what: Read, path: "/c/ba7816bf8f01cfea414140de5dae2223b00361a396177a9cb410ff61f20015ad.json" }))))
+    ),
+    (
+        SIGN_IN,
+        r#"1: 2 ProviderError(Base(Unhandled(LoginToken(IoError { what: Read, path: "/c/ba7816bf8f01cfea414140de5dae2223b00361a396177a9cb410ff61f20015ad.json" }))))
 2: 4 ProviderError(Base(ProviderError(LoginToken(RefreshFailed { message: None }))))
 3: 6 Credentials { provider_name: "AssumeRoleProvider", access_key_id: "KA", secret_access_key: "** redacted **", expires_after: 2000 s 0 ns } SA Some("TA") [CredentialsProfile]
 4: 6 ProviderError(Role(ProviderError(Sent(Dispatch))))
 "#,
-        ),
-    ];
-    for (script, want) in table {
+    ),
+];
+
+#[test]
+fn each_call_of_the_devices_may_fail(rt: HostRuntime) -> Result<(), Fail> {
+    for (script, want) in FAILING_CALLS {
         let lines = faults_of(rt.alloc(), script)?;
         assert_eq!(rt; lines.as_str(), *want, "{script}");
     }

@@ -86,58 +86,59 @@ fn words_of<R: Wait>(
 const ROLES: &str =
     r#"{"profiles":[["default",[["role_arn","arn:aws:iam::1:role/A"],["source_profile","b"]]],["b",[["role_arn","arn:aws:iam::1:role/B"],["source_profile","c"],["role_session_name","sb"]]],["c",[["aws_access_key_id","KC"],["aws_secret_access_key","SC"],["role_arn","arn:aws:iam::1:role/C"]]]],"clock":[5,5,1989,1990],"replies":{"assume-role":[{"id":"KB","secret":"SB","token":"TB","expires":1000},{"id":"KA","secret":"SA","token":"TA","expires":2000}]}}"#;
 
+const CALLS: &[Case] = &[
+    // A load, a hit, and an error, after which what was held is held.
+    (
+        settings(10, 900),
+        ROLES,
+        &["a"],
+        &["a", "a", "a", "a"],
+        "1\nKA AssumeRoleProvider 1 now assume-role now assume-role; nothing; 0\nKA AssumeRoleProvider 1 now; held KA 2000 0; 0\nprovider error now assume-role; held KA 2000 0; 0\nprovider error now assume-role; held KA 2000 0; 0\n",
+    ),
+    // No name, and another name.
+    (
+        settings(10, 900),
+        ROLES,
+        &[],
+        &["a"],
+        "0\nunknown name: a; nothing; 0\n",
+    ),
+    (
+        settings(10, 900),
+        r#"{"variables":[["AWS_ACCESS_KEY_ID","access"],["SECRET_ACCESS_KEY","secret"]],"clock":[0,890]}"#,
+        &["a", "b"],
+        &["c", "a", "", "a", "b"],
+        "2\nunknown name: c; nothing; 0\naccess EnvironmentVariable 1 now; nothing; 0\nunknown name: ; nothing; 0\naccess EnvironmentVariable 1 now; held access 900 0; 0\naccess EnvironmentVariable 1 now; nothing; 0\n",
+    ),
+    // Two names of one configuration.
+    (
+        settings(10, 900),
+        r#"{"profiles":[["default",[["role_arn","r"],["role_session_name","s"],["source_profile","c"]]],["c",[["aws_access_key_id","KC"],["aws_secret_access_key","SC"]]]],"clock":[0,1,2,3],"replies":{"assume-role":[{"id":"KA","secret":"SA","token":"TA","expires":2000},{"id":"KB","secret":"SB","token":"TB","expires":3000}]}}"#,
+        &["a", "b"],
+        &["a", "b", "a", "b"],
+        "2\nKA AssumeRoleProvider 1 now assume-role; nothing; 0\nKB AssumeRoleProvider 1 now assume-role; nothing; 0\nKA AssumeRoleProvider 1 now; held KA 2000 0; 0\nKB AssumeRoleProvider 1 now; held KB 3000 0; 0\n",
+    ),
+    // A kept token of IAM Identity Center, which a load finds and a hit does not look for.
+    (
+        settings(10, 900),
+        r#"{"variables":[["HOME","/home/u"]],"profiles":[["default",[["sso_session","abc"],["sso_account_id","1"],["sso_role_name","r"]]]],"sessions":[["abc",[["sso_region","us-east-1"],["sso_start_url","u"]]]],"files":[["/home/u/.aws/sso/cache/a9993e364706816aba3e25717850c26c9cd0d89d.json","{\"accessToken\":\"t\",\"expiresAt\":\"1970-01-01T01:00:00Z\"}"]],"clock":[0,0,0,1,90,90,90],"replies":{"role-credentials":[{"id":"R","secret":"S","token":"T","expires_ms":100000},{"id":"Q","secret":"S","token":"T","expires_ms":200000}]}}"#,
+        &["a"],
+        &["a", "a", "a"],
+        "1\nR SSO 2 now now read now send; nothing; 1\nR SSO 2 now; held R 100 0; 0\nQ SSO 2 now now send; held R 100 0; 1\n",
+    ),
+    // Kept values of instance metadata: its session token, and behind a refusal the credentials that it gave before.
+    (
+        settings(18446744073709551615, 900),
+        r#"{"clock":[100],"replies":{"imds-token":[[200,[["x-aws-ec2-metadata-token-ttl-seconds","21600"]],"tok"]],"imds-get":[[200,[],"role"],[200,[],"{\"AccessKeyId\":\"M\",\"SecretAccessKey\":\"S\",\"Token\":\"T\",\"Expiration\":\"2016-02-25T06:03:31Z\"}"],[404,[],""]]}}"#,
+        &["a"],
+        &["a", "a"],
+        "1\nM IMDSv2 1 now now imds-token now imds-get now imds-get now; nothing; 2\nM IMDSv2 0 now now imds-get; held M 1456380211 0; 2\n",
+    ),
+];
+
 #[test]
 fn calls_tell_what_they_found(rt: HostRuntime) -> Result<(), Fail> {
-    let table: &[Case] = &[
-        // A load, a hit, and an error, after which what was held is held.
-        (
-            settings(10, 900),
-            ROLES,
-            &["a"],
-            &["a", "a", "a", "a"],
-            "1\nKA AssumeRoleProvider 1 now assume-role now assume-role; nothing; 0\nKA AssumeRoleProvider 1 now; held KA 2000 0; 0\nprovider error now assume-role; held KA 2000 0; 0\nprovider error now assume-role; held KA 2000 0; 0\n",
-        ),
-        // No name, and another name.
-        (
-            settings(10, 900),
-            ROLES,
-            &[],
-            &["a"],
-            "0\nunknown name: a; nothing; 0\n",
-        ),
-        (
-            settings(10, 900),
-            r#"{"variables":[["AWS_ACCESS_KEY_ID","access"],["SECRET_ACCESS_KEY","secret"]],"clock":[0,890]}"#,
-            &["a", "b"],
-            &["c", "a", "", "a", "b"],
-            "2\nunknown name: c; nothing; 0\naccess EnvironmentVariable 1 now; nothing; 0\nunknown name: ; nothing; 0\naccess EnvironmentVariable 1 now; held access 900 0; 0\naccess EnvironmentVariable 1 now; nothing; 0\n",
-        ),
-        // Two names of one configuration.
-        (
-            settings(10, 900),
-            r#"{"profiles":[["default",[["role_arn","r"],["role_session_name","s"],["source_profile","c"]]],["c",[["aws_access_key_id","KC"],["aws_secret_access_key","SC"]]]],"clock":[0,1,2,3],"replies":{"assume-role":[{"id":"KA","secret":"SA","token":"TA","expires":2000},{"id":"KB","secret":"SB","token":"TB","expires":3000}]}}"#,
-            &["a", "b"],
-            &["a", "b", "a", "b"],
-            "2\nKA AssumeRoleProvider 1 now assume-role; nothing; 0\nKB AssumeRoleProvider 1 now assume-role; nothing; 0\nKA AssumeRoleProvider 1 now; held KA 2000 0; 0\nKB AssumeRoleProvider 1 now; held KB 3000 0; 0\n",
-        ),
-        // A kept token of IAM Identity Center, which a load finds and a hit does not look for.
-        (
-            settings(10, 900),
-            r#"{"variables":[["HOME","/home/u"]],"profiles":[["default",[["sso_session","abc"],["sso_account_id","1"],["sso_role_name","r"]]]],"sessions":[["abc",[["sso_region","us-east-1"],["sso_start_url","u"]]]],"files":[["/home/u/.aws/sso/cache/a9993e364706816aba3e25717850c26c9cd0d89d.json","{\"accessToken\":\"t\",\"expiresAt\":\"1970-01-01T01:00:00Z\"}"]],"clock":[0,0,0,1,90,90,90],"replies":{"role-credentials":[{"id":"R","secret":"S","token":"T","expires_ms":100000},{"id":"Q","secret":"S","token":"T","expires_ms":200000}]}}"#,
-            &["a"],
-            &["a", "a", "a"],
-            "1\nR SSO 2 now now read now send; nothing; 1\nR SSO 2 now; held R 100 0; 0\nQ SSO 2 now now send; held R 100 0; 1\n",
-        ),
-        // Kept values of instance metadata: its session token, and behind a refusal the credentials that it gave before.
-        (
-            settings(18446744073709551615, 900),
-            r#"{"clock":[100],"replies":{"imds-token":[[200,[["x-aws-ec2-metadata-token-ttl-seconds","21600"]],"tok"]],"imds-get":[[200,[],"role"],[200,[],"{\"AccessKeyId\":\"M\",\"SecretAccessKey\":\"S\",\"Token\":\"T\",\"Expiration\":\"2016-02-25T06:03:31Z\"}"],[404,[],""]]}}"#,
-            &["a"],
-            &["a", "a"],
-            "1\nM IMDSv2 1 now now imds-token now imds-get now imds-get now; nothing; 2\nM IMDSv2 0 now now imds-get; held M 1456380211 0; 2\n",
-        ),
-    ];
-    for (settings, script, names, asked, want) in table {
+    for (settings, script, names, asked, want) in CALLS {
         let words = words_of(&rt, rt.alloc(), *settings, script, names, asked)?;
         assert_eq!(rt; words.as_str(), *want, "{script}");
     }

@@ -175,58 +175,59 @@ const SIGNED_ON: &str =
 const SIGNED_IN: &str =
     r#"{"variables":[["AWS_LOGIN_CACHE_DIRECTORY","/c"]],"clock":[0],"files":[["/c/ba7816bf8f01cfea414140de5dae2223b00361a396177a9cb410ff61f20015ad.json","{\"accessToken\":{\"accessKeyId\":\"AK\",\"secretAccessKey\":\"SK\",\"sessionToken\":\"ST\",\"accountId\":\"012345678901\",\"expiresAt\":\"1970-01-01T00:15:00Z\"},\"refreshToken\":\"rt\",\"clientId\":\"ci\",\"dpopKey\":\"dk\"}"]]}"#;
 
+const MEMBERS: &[(char, &str, &str)] = &[
+    ('X', "{}", "ProviderError(Sent(Timeout)); none;"),
+    (
+        ' ',
+        "{}",
+        "CredentialsNotLoaded(Chain(ProviderChainError { attempts: [] })); none;",
+    ),
+    ('F', "{}", "F Own []; none;"),
+    (
+        'M',
+        "{}",
+        r#"CredentialsNotLoaded(Chain(ProviderChainError { attempts: [ProviderAttempt { name: "First", error: CredentialsNotLoaded(NotSet("AWS_ACCESS_KEY_ID")) }, ProviderAttempt { name: "Second", error: CredentialsNotLoaded(MetadataUnreachable) }] })); none; now imds-token now"#,
+    ),
+    (
+        'M',
+        LISTED,
+        "M IMDSv2 [CredentialsImds]; M; now imds-token now imds-get now imds-get now",
+    ),
+    (
+        'P',
+        LISTED,
+        "M IMDSv2 [CredentialsImds]; P; now imds-token now imds-get now imds-get now",
+    ),
+    (
+        'D',
+        LISTED,
+        "M IMDSv2 [CredentialsImds]; M; now imds-token now imds-get now imds-get now",
+    ),
+    (
+        'Z',
+        LISTED,
+        "M IMDSv2 [CredentialsImds]; M; now imds-token now imds-get now imds-get now",
+    ),
+    (
+        'S',
+        SIGNED_ON,
+        "R1 SSO [CredentialsSso]; none; read now role-credentials",
+    ),
+    (
+        'L',
+        SIGNED_IN,
+        "AK Login [CredentialsProfile]; none; now read now",
+    ),
+    (
+        'R',
+        r#"{"replies":{"assume-role":[{"id":"X","secret":"SX","token":"TX","expires":9}]}}"#,
+        "X AssumeRoleProvider [CredentialsStsAssumeRole]; none; assume-role",
+    ),
+];
+
 #[test]
 fn members_in_order(rt: HostRuntime) -> Result<(), Fail> {
-    let table: &[(char, &str, &str)] = &[
-        ('X', "{}", "ProviderError(Sent(Timeout)); none;"),
-        (
-            ' ',
-            "{}",
-            "CredentialsNotLoaded(Chain(ProviderChainError { attempts: [] })); none;",
-        ),
-        ('F', "{}", "F Own []; none;"),
-        (
-            'M',
-            "{}",
-            r#"CredentialsNotLoaded(Chain(ProviderChainError { attempts: [ProviderAttempt { name: "First", error: CredentialsNotLoaded(NotSet("AWS_ACCESS_KEY_ID")) }, ProviderAttempt { name: "Second", error: CredentialsNotLoaded(MetadataUnreachable) }] })); none; now imds-token now"#,
-        ),
-        (
-            'M',
-            LISTED,
-            "M IMDSv2 [CredentialsImds]; M; now imds-token now imds-get now imds-get now",
-        ),
-        (
-            'P',
-            LISTED,
-            "M IMDSv2 [CredentialsImds]; P; now imds-token now imds-get now imds-get now",
-        ),
-        (
-            'D',
-            LISTED,
-            "M IMDSv2 [CredentialsImds]; M; now imds-token now imds-get now imds-get now",
-        ),
-        (
-            'Z',
-            LISTED,
-            "M IMDSv2 [CredentialsImds]; M; now imds-token now imds-get now imds-get now",
-        ),
-        (
-            'S',
-            SIGNED_ON,
-            "R1 SSO [CredentialsSso]; none; read now role-credentials",
-        ),
-        (
-            'L',
-            SIGNED_IN,
-            "AK Login [CredentialsProfile]; none; now read now",
-        ),
-        (
-            'R',
-            r#"{"replies":{"assume-role":[{"id":"X","secret":"SX","token":"TX","expires":9}]}}"#,
-            "X AssumeRoleProvider [CredentialsStsAssumeRole]; none; assume-role",
-        ),
-    ];
-    for (letter, script, want) in table {
+    for (letter, script, want) in MEMBERS {
         let setup = set_up(rt.alloc(), script)?;
         let words = source_words(rt.alloc(), setup, *letter)?;
         assert_eq!(rt; words.as_str(), *want, "{letter}");

@@ -90,98 +90,100 @@ const KEYS: &str = r#"{"variables":[["AWS_ACCESS_KEY_ID","A"],["AWS_SECRET_ACCES
 
 const LINE: &str = "credentials =A =EnvironmentVariable none -\n";
 
+// The words, the input, and how the run ends with what it writes.
+const WORDS: &[(&[&str], &str, &str)] = &[
+    (
+        &["resolve"],
+        KEYS,
+        "Done credentials =A =EnvironmentVariable none -\n",
+    ),
+    (
+        &["resolve"],
+        r#"{"profiles":[["default",[["role_arn","r"],["credential_source","OWN"]]]],"clock":[7],"replies":{"assume-role":[{"id":"%\u0000 \u007f\u00e9\ud83d\ude00~!","secret":"SA","token":"TA","expires":[-5,7]}]}}"#,
+        "Done credentials =%25%00%20%7F%C3%A9%F0%9F%98%80~! =AssumeRoleProvider -5.000000007 now,assume-role\n",
+    ),
+    (&["resolve"], r#"{"bogus":1}"#, "NoScript "),
+    (
+        &["why"],
+        r#"{"calls":2,"profiles":[["default",[["credential_process","x"]]]],"commands":[[3,"","a\nb\u009b\u202e%é"],[0,"{\"Version\":1,\"AccessKeyId\":\"P\",\"SecretAccessKey\":\"S\"}",""]]}"#,
+        "Done error ProviderError run\n  provider error\n    the base gave no credentials\n  provider error\n  the command ended with status 3: a%0Ab%C2%9B%E2%80%AE%25é\n  asked\n    run x\ncredentials =P =CredentialProcess none run\n  Environment passed over: not loaded: environment variable not set (`AWS_ACCESS_KEY_ID` is not set, or blank)\n  Profile answered\n    run x\n",
+    ),
+    (
+        &["cached"],
+        r#"{"calls":4,"profiles":[["default",[["role_arn","r"],["role_session_name","s"],["credential_source","OWN"]]]],"clock":[5,1989,1990,1991],"replies":{"assume-role":[{"id":"KA","secret":"SA","token":"TA","expires":2000},"dispatch",{"id":"KB","secret":"SB","token":"TB","expires":5000}]}}"#,
+        "Done credentials =KA =AssumeRoleProvider 2000.000000000 now,assume-role\ncredentials =KA =AssumeRoleProvider 2000.000000000 now\nerror ProviderError now,assume-role!\ncredentials =KB =AssumeRoleProvider 5000.000000000 now,assume-role\n",
+    ),
+    (&["cached"], r#"{"calls":0}"#, "NoScript "),
+    (
+        &["region"],
+        r#"{"variables":[["AWS_REGION","a b"]]}"#,
+        "Done region =a%20b -\n",
+    ),
+    (
+        &["token"],
+        r#"{"variables":[["HOME","/h"]],"profiles":[["default",[["sso_session","abc"]]]],"sessions":[["abc",[["sso_region","us-east-1"],["sso_start_url","u"]]]],"files":[["/h/.aws/sso/cache/a9993e364706816aba3e25717850c26c9cd0d89d.json","{\"accessToken\":\"t\",\"expiresAt\":\"1970-01-01T01:00:00Z\"}"]]}"#,
+        "Done token 3600.000000000 now,read,now\n",
+    ),
+    (
+        &["why-token"],
+        "{}",
+        "Refused error InvalidConfiguration -\n  invalid configuration\n  No profiles were defined\n    there are no profiles, or `default` is selected and is not there\n",
+    ),
+    (
+        &["explain"],
+        r#"{"profiles":[["default",[["role_arn","r"],["credential_source","OWN"]]]],"clock":[7],"replies":{"assume-role":[{"id":"KA","secret":"SA","token":"TA","expires":2000}]}}"#,
+        "Done entry 1 now Profile\nentry 2 assume-role Profile\ncredentials =KA =AssumeRoleProvider 2000.000000000 now,assume-role\n",
+    ),
+    (
+        &["explain"],
+        r#"{"calls":2,"variables":[["AWS_ACCESS_KEY_ID","A"]]}"#,
+        "NoScript ",
+    ),
+    (
+        &["audit"],
+        r#"{"profiles":[["default",[["role_arn","r"],["credential_source","OWN"]]]],"journal":[["now",7],["assume-role",{"id":"KA","secret":"SA","token":"TA","expires":2000}]]}"#,
+        "Done audit yes credentials =KA =AssumeRoleProvider 2000.000000000 now,assume-role\n",
+    ),
+    (&["audit"], "{}", "Refused audit no 1 now\n"),
+    (
+        &["audit"],
+        r#"{"refused":"bad","journal":[["jitter",18446744073709551615]]}"#,
+        "Refused audit no 1 end\n",
+    ),
+    (
+        &["audit"],
+        r#"{"calls":1,"journal":[["now",7]]}"#,
+        "NoScript ",
+    ),
+    (
+        &["endpoint"],
+        r#"{"mode":"metadata","role":"r","id":"I","secret":"S","token":"T","expires":5000,"calls":2,"forget_after":1}"#,
+        "Done credentials =I =IMDSv2 5000.000000000 now,imds-token,now,imds-get,now,imds-get,now\ncredentials =I =IMDSv2 5000.000000000 now,imds-get,imds-get,imds-get,imds-get\n",
+    ),
+    (
+        &["endpoint"],
+        r#"{"mode":"container","id":"I","secret":"S","token":"T","expires":5000}"#,
+        "Done credentials =I =EcsContainer 5000.000000000 http\n",
+    ),
+    (
+        &["endpoint"],
+        r#"{"mode":"metadata","role":"a\n","id":"I","secret":"S","token":"T","expires":5000}"#,
+        "NoScript ",
+    ),
+    (
+        &["local"],
+        "",
+        "Done credentials =L =EnvironmentVariable none -\n",
+    ),
+    (&["generate", "1000"], "", "Done generate 1000 999 =K999\n"),
+    (&["generate", "1001"], KEYS, "UnknownCommand "),
+    (&[], KEYS, "UnknownCommand "),
+];
+
 // Each word once, and a line that is one write: the sink's second call would fail.
 #[test]
 fn words(rt: HostRuntime) -> Result<(), Fail> {
-    let table: &[(&[&str], &str, &str)] = &[
-        (
-            &["resolve"],
-            KEYS,
-            "Done credentials =A =EnvironmentVariable none -\n",
-        ),
-        (
-            &["resolve"],
-            r#"{"profiles":[["default",[["role_arn","r"],["credential_source","OWN"]]]],"clock":[7],"replies":{"assume-role":[{"id":"%\u0000 \u007f\u00e9\ud83d\ude00~!","secret":"SA","token":"TA","expires":[-5,7]}]}}"#,
-            "Done credentials =%25%00%20%7F%C3%A9%F0%9F%98%80~! =AssumeRoleProvider -5.000000007 now,assume-role\n",
-        ),
-        (&["resolve"], r#"{"bogus":1}"#, "NoScript "),
-        (
-            &["why"],
-            r#"{"calls":2,"profiles":[["default",[["credential_process","x"]]]],"commands":[[3,"","a\nb\u009b\u202e%é"],[0,"{\"Version\":1,\"AccessKeyId\":\"P\",\"SecretAccessKey\":\"S\"}",""]]}"#,
-            "Done error ProviderError run\n  provider error\n    the base gave no credentials\n  provider error\n  the command ended with status 3: a%0Ab%C2%9B%E2%80%AE%25é\n  asked\n    run x\ncredentials =P =CredentialProcess none run\n  Environment passed over: not loaded: environment variable not set (`AWS_ACCESS_KEY_ID` is not set, or blank)\n  Profile answered\n    run x\n",
-        ),
-        (
-            &["cached"],
-            r#"{"calls":4,"profiles":[["default",[["role_arn","r"],["role_session_name","s"],["credential_source","OWN"]]]],"clock":[5,1989,1990,1991],"replies":{"assume-role":[{"id":"KA","secret":"SA","token":"TA","expires":2000},"dispatch",{"id":"KB","secret":"SB","token":"TB","expires":5000}]}}"#,
-            "Done credentials =KA =AssumeRoleProvider 2000.000000000 now,assume-role\ncredentials =KA =AssumeRoleProvider 2000.000000000 now\nerror ProviderError now,assume-role!\ncredentials =KB =AssumeRoleProvider 5000.000000000 now,assume-role\n",
-        ),
-        (&["cached"], r#"{"calls":0}"#, "NoScript "),
-        (
-            &["region"],
-            r#"{"variables":[["AWS_REGION","a b"]]}"#,
-            "Done region =a%20b -\n",
-        ),
-        (
-            &["token"],
-            r#"{"variables":[["HOME","/h"]],"profiles":[["default",[["sso_session","abc"]]]],"sessions":[["abc",[["sso_region","us-east-1"],["sso_start_url","u"]]]],"files":[["/h/.aws/sso/cache/a9993e364706816aba3e25717850c26c9cd0d89d.json","{\"accessToken\":\"t\",\"expiresAt\":\"1970-01-01T01:00:00Z\"}"]]}"#,
-            "Done token 3600.000000000 now,read,now\n",
-        ),
-        (
-            &["why-token"],
-            "{}",
-            "Refused error InvalidConfiguration -\n  invalid configuration\n  No profiles were defined\n    there are no profiles, or `default` is selected and is not there\n",
-        ),
-        (
-            &["explain"],
-            r#"{"profiles":[["default",[["role_arn","r"],["credential_source","OWN"]]]],"clock":[7],"replies":{"assume-role":[{"id":"KA","secret":"SA","token":"TA","expires":2000}]}}"#,
-            "Done entry 1 now Profile\nentry 2 assume-role Profile\ncredentials =KA =AssumeRoleProvider 2000.000000000 now,assume-role\n",
-        ),
-        (
-            &["explain"],
-            r#"{"calls":2,"variables":[["AWS_ACCESS_KEY_ID","A"]]}"#,
-            "NoScript ",
-        ),
-        (
-            &["audit"],
-            r#"{"profiles":[["default",[["role_arn","r"],["credential_source","OWN"]]]],"journal":[["now",7],["assume-role",{"id":"KA","secret":"SA","token":"TA","expires":2000}]]}"#,
-            "Done audit yes credentials =KA =AssumeRoleProvider 2000.000000000 now,assume-role\n",
-        ),
-        (&["audit"], "{}", "Refused audit no 1 now\n"),
-        (
-            &["audit"],
-            r#"{"refused":"bad","journal":[["jitter",18446744073709551615]]}"#,
-            "Refused audit no 1 end\n",
-        ),
-        (
-            &["audit"],
-            r#"{"calls":1,"journal":[["now",7]]}"#,
-            "NoScript ",
-        ),
-        (
-            &["endpoint"],
-            r#"{"mode":"metadata","role":"r","id":"I","secret":"S","token":"T","expires":5000,"calls":2,"forget_after":1}"#,
-            "Done credentials =I =IMDSv2 5000.000000000 now,imds-token,now,imds-get,now,imds-get,now\ncredentials =I =IMDSv2 5000.000000000 now,imds-get,imds-get,imds-get,imds-get\n",
-        ),
-        (
-            &["endpoint"],
-            r#"{"mode":"container","id":"I","secret":"S","token":"T","expires":5000}"#,
-            "Done credentials =I =EcsContainer 5000.000000000 http\n",
-        ),
-        (
-            &["endpoint"],
-            r#"{"mode":"metadata","role":"a\n","id":"I","secret":"S","token":"T","expires":5000}"#,
-            "NoScript ",
-        ),
-        (
-            &["local"],
-            "",
-            "Done credentials =L =EnvironmentVariable none -\n",
-        ),
-        (&["generate", "1000"], "", "Done generate 1000 999 =K999\n"),
-        (&["generate", "1001"], KEYS, "UnknownCommand "),
-        (&[], KEYS, "UnknownCommand "),
-    ];
-    for (words, input, want) in table {
+    for (words, input, want) in WORDS {
         let told = run_in_pieces(rt.alloc(), words, input.as_bytes(), 100_000, 0, 2)?;
         assert_eq!(rt; told.as_str(), *want, "{words:?} {input}");
     }

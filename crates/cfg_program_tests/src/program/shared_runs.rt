@@ -81,55 +81,56 @@ const NO_PROFILES: &str = r#"{"callers":[{}]}"#;
 
 const NO_PROFILES_AT_A_GATE: &str = "Refused error InvalidConfiguration -\nloads 0\n";
 
-// Each run has one of two endings.
+// The word, the input, which read and which write fails, and two endings of which a run has one.
+const RUNS: &[(&str, &str, u64, u64, &str, &str)] = &[
+    ("share", OWN, 0, 0, OWN_ANSWERS, OWN_ANSWERS),
+    ("share", OWN, 1, 0, "SourceFault ", "SourceFault "),
+    ("share", OWN, 0, 1, "SinkFault ", "SinkFault "),
+    ("share", SESSION, 0, 0, FIRST_LOADS, SECOND_LOADS),
+    ("share", "{}", 0, 0, "NoScript ", "NoScript "),
+    ("share", SEVERAL_CALLS, 0, 0, "NoScript ", "NoScript "),
+    ("resolve", OWN, 0, 0, "UnknownCommand ", "UnknownCommand "),
+    (
+        "gated",
+        OWN,
+        0,
+        0,
+        NOT_LOADED_AT_A_GATE,
+        NOT_LOADED_AT_A_GATE,
+    ),
+    (
+        "gated",
+        NO_PROFILES,
+        0,
+        0,
+        NO_PROFILES_AT_A_GATE,
+        NO_PROFILES_AT_A_GATE,
+    ),
+    ("gated", OWN, 1, 0, "SourceFault ", "SourceFault "),
+    ("gated", OWN, 0, 1, "SinkFault ", "SinkFault "),
+    (
+        "gated",
+        SESSION,
+        0,
+        0,
+        FIRST_LOADS_AT_A_GATE,
+        SECOND_LOADS_AT_A_GATE,
+    ),
+    ("gated", "{}", 0, 0, "NoScript ", "NoScript "),
+    ("gated", SEVERAL_CALLS, 0, 0, "NoScript ", "NoScript "),
+];
+
 #[test]
 fn runs_of_callers(rt: HostRuntime) -> Result<(), Fail> {
-    let table = [
-        ("share", OWN, 0, 0, OWN_ANSWERS, OWN_ANSWERS),
-        ("share", OWN, 1, 0, "SourceFault ", "SourceFault "),
-        ("share", OWN, 0, 1, "SinkFault ", "SinkFault "),
-        ("share", SESSION, 0, 0, FIRST_LOADS, SECOND_LOADS),
-        ("share", "{}", 0, 0, "NoScript ", "NoScript "),
-        ("share", SEVERAL_CALLS, 0, 0, "NoScript ", "NoScript "),
-        ("resolve", OWN, 0, 0, "UnknownCommand ", "UnknownCommand "),
-        (
-            "gated",
-            OWN,
-            0,
-            0,
-            NOT_LOADED_AT_A_GATE,
-            NOT_LOADED_AT_A_GATE,
-        ),
-        (
-            "gated",
-            NO_PROFILES,
-            0,
-            0,
-            NO_PROFILES_AT_A_GATE,
-            NO_PROFILES_AT_A_GATE,
-        ),
-        ("gated", OWN, 1, 0, "SourceFault ", "SourceFault "),
-        ("gated", OWN, 0, 1, "SinkFault ", "SinkFault "),
-        (
-            "gated",
-            SESSION,
-            0,
-            0,
-            FIRST_LOADS_AT_A_GATE,
-            SECOND_LOADS_AT_A_GATE,
-        ),
-        ("gated", "{}", 0, 0, "NoScript ", "NoScript "),
-        ("gated", SEVERAL_CALLS, 0, 0, "NoScript ", "NoScript "),
-    ];
-    for (word, input, source_fails, sink_fails, one, other) in table {
+    for (word, input, source_fails, sink_fails, one, other) in RUNS {
         let streams = Streams {
             most: 8_192,
-            source_fails,
-            sink_fails,
+            source_fails: *source_fails,
+            sink_fails: *sink_fails,
         };
         let told = run_over(&rt, rt.alloc(), word, input, streams)?;
         assert!(rt;
-            told.as_str() == one || told.as_str() == other,
+            told.as_str() == *one || told.as_str() == *other,
             "{word} {input}: {told}"
         );
     }

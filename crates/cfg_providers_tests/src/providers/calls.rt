@@ -157,51 +157,52 @@ fn words_over(alloc: Global, provider: &str, script: Script) -> Result<String, O
     words_by(alloc, provider, env, script.devices)
 }
 
+const PROVIDERS: &[(&str, &str, &str)] = &[
+    (
+        "environment",
+        r#"{"variables":[["AWS_ACCESS_KEY_ID"," A"],["AWS_SECRET_ACCESS_KEY",""],["SECRET_ACCESS_KEY","S "],["AWS_SESSION_TOKEN"," T "],["AWS_ACCOUNT_ID"," "]]}"#,
+        r#"Credentials { provider_name: "EnvironmentVariable", access_key_id: " A", secret_access_key: "** redacted **", expires_after: never } S  Some("T") [CredentialsEnvVars]"#,
+    ),
+    (
+        "process",
+        r#"{"commands":[[0,"{\"Version\":1,\"AccessKeyId\":\"ASIARTESTID\",\"SecretAccessKey\":\"S\",\"SessionToken\":\"T\",\"Expiration\":\"2022-05-02T18:36:00+02:00\"}","a warning"]]}"#,
+        r#"Credentials { provider_name: "CredentialProcess", access_key_id: "ASIARTESTID", secret_access_key: "** redacted **", expires_after: 1651509360 s 0 ns, account_id: "7" } S Some("T") [CredentialsProcess] Run { command: "/opt/creds ** arguments redacted **" }"#,
+    ),
+    (
+        "process",
+        r#"{"commands":[[3,"","bad"]]}"#,
+        r#"ProviderError(Process(Status { code: 3, errors: Some("bad") })) Run { command: "/opt/creds ** arguments redacted **" }"#,
+    ),
+    (
+        "container",
+        r#"{"variables":[["AWS_CONTAINER_CREDENTIALS_FULL_URI","http://n/c"],["AWS_CONTAINER_AUTHORIZATION_TOKEN_FILE","/t"]],"files":[["/t","a"]],"lookups":[["127.0.0.1"]],"replies":{"http":[[500,[],""],[200,[],"{\"AccessKeyId\":\"MUA\",\"SecretAccessKey\":\"S\",\"Token\":\"T\",\"Expiration\":\"2016-02-25T06:03:31Z\"}"]]}}"#,
+        r#"Credentials { provider_name: "EcsContainer", access_key_id: "MUA", secret_access_key: "** redacted **", expires_after: 1456380211 s 0 ns } S Some("T") [CredentialsHttp] Read { path: "/t" } LookUp { host: "n" } Send(Http(Http { endpoint: "http://n", path: "/c", secrets: "** redacted **" })) Send(Http(Http { endpoint: "http://n", path: "/c", secrets: "** redacted **" }))"#,
+    ),
+    (
+        "named container",
+        r#"{"variables":[["AWS_CONTAINER_CREDENTIALS_FULL_URI","http://n/c"],["AWS_CONTAINER_AUTHORIZATION_TOKEN_FILE","/t"]],"files":[["/t","a"]],"lookups":[["127.0.0.1"]],"replies":{"http":[[500,[],""],[200,[],"{\"AccessKeyId\":\"MUA\",\"SecretAccessKey\":\"S\",\"Token\":\"T\",\"Expiration\":\"2016-02-25T06:03:31Z\"}"]]}}"#,
+        r#"Credentials { provider_name: "EcsContainer", access_key_id: "MUA", secret_access_key: "** redacted **", expires_after: 1456380211 s 0 ns } S Some("T") [CredentialsHttp] Read { path: "/t" } LookUp { host: "n" } Send(Http(Http { endpoint: "http://n", path: "/c", secrets: "** redacted **" })) Send(Http(Http { endpoint: "http://n", path: "/c", secrets: "** redacted **" }))"#,
+    ),
+    (
+        "web identity",
+        r#"{"variables":[["AWS_WEB_IDENTITY_TOKEN_FILE","/j"],["AWS_ROLE_ARN","a"]],"files":[["/j","jwt"]],"clock":[1],"replies":{"web-identity":[{"id":"W","secret":"S","token":"T","expires":900,"arn":"a:b:c:d:7"}]}}"#,
+        r#"Credentials { provider_name: "WebIdentityToken", access_key_id: "W", secret_access_key: "** redacted **", expires_after: 900 s 0 ns, account_id: "7" } S Some("T") [CredentialsProfileStsWebIdToken] Now Read { path: "/j" } Send(AssumeRoleWithWebIdentity(AssumeRoleWithWebIdentity { role_arn: "a", session_name: "web-identity-token-1000", secrets: "** redacted **" }))"#,
+    ),
+    (
+        "limited web identity",
+        r#"{"files":[["/f"," x\n"]],"replies":{"web-identity":[null]}}"#,
+        r#"Unhandled(StsNoCredentials) Read { path: "/f" } Send(AssumeRoleWithWebIdentity(AssumeRoleWithWebIdentity { role_arn: "b", session_name: "n", secrets: "** redacted **" }))"#,
+    ),
+    (
+        "role",
+        r#"{"clock":[5],"replies":{"assume-role":[{"id":"KA","secret":"SA","token":"TA","expires":2000,"arn":"a:b:c:d:e:f"}]}}"#,
+        r#"Credentials { provider_name: "AssumeRoleProvider", access_key_id: "KA", secret_access_key: "** redacted **", expires_after: 2000 s 0 ns, account_id: "e" } SA Some("TA") [] Now Send(AssumeRole(AssumeRole { signer: Credentials { provider_name: "Fixed", access_key_id: "K", secret_access_key: "** redacted **", expires_after: never }, role_arn: "r", session_name: "assume-role-from-profile-5000", external_id: None, policy: None, policy_arns: None, duration_seconds: None, tags: None, settings: CallSettings { region: None, use_fips: None, use_dual_stack: None, max_attempts: 3, timeouts: Timeouts { connect_ms: None, read_ms: None, operation_ms: None, attempt_ms: None } } }))"#,
+    ),
+];
+
 #[test]
 fn providers(rt: HostRuntime) -> Result<(), Fail> {
-    let table: &[(&str, &str, &str)] = &[
-        (
-            "environment",
-            r#"{"variables":[["AWS_ACCESS_KEY_ID"," A"],["AWS_SECRET_ACCESS_KEY",""],["SECRET_ACCESS_KEY","S "],["AWS_SESSION_TOKEN"," T "],["AWS_ACCOUNT_ID"," "]]}"#,
-            r#"Credentials { provider_name: "EnvironmentVariable", access_key_id: " A", secret_access_key: "** redacted **", expires_after: never } S  Some("T") [CredentialsEnvVars]"#,
-        ),
-        (
-            "process",
-            r#"{"commands":[[0,"{\"Version\":1,\"AccessKeyId\":\"ASIARTESTID\",\"SecretAccessKey\":\"S\",\"SessionToken\":\"T\",\"Expiration\":\"2022-05-02T18:36:00+02:00\"}","a warning"]]}"#,
-            r#"Credentials { provider_name: "CredentialProcess", access_key_id: "ASIARTESTID", secret_access_key: "** redacted **", expires_after: 1651509360 s 0 ns, account_id: "7" } S Some("T") [CredentialsProcess] Run { command: "/opt/creds ** arguments redacted **" }"#,
-        ),
-        (
-            "process",
-            r#"{"commands":[[3,"","bad"]]}"#,
-            r#"ProviderError(Process(Status { code: 3, errors: Some("bad") })) Run { command: "/opt/creds ** arguments redacted **" }"#,
-        ),
-        (
-            "container",
-            r#"{"variables":[["AWS_CONTAINER_CREDENTIALS_FULL_URI","http://n/c"],["AWS_CONTAINER_AUTHORIZATION_TOKEN_FILE","/t"]],"files":[["/t","a"]],"lookups":[["127.0.0.1"]],"replies":{"http":[[500,[],""],[200,[],"{\"AccessKeyId\":\"MUA\",\"SecretAccessKey\":\"S\",\"Token\":\"T\",\"Expiration\":\"2016-02-25T06:03:31Z\"}"]]}}"#,
-            r#"Credentials { provider_name: "EcsContainer", access_key_id: "MUA", secret_access_key: "** redacted **", expires_after: 1456380211 s 0 ns } S Some("T") [CredentialsHttp] Read { path: "/t" } LookUp { host: "n" } Send(Http(Http { endpoint: "http://n", path: "/c", secrets: "** redacted **" })) Send(Http(Http { endpoint: "http://n", path: "/c", secrets: "** redacted **" }))"#,
-        ),
-        (
-            "named container",
-            r#"{"variables":[["AWS_CONTAINER_CREDENTIALS_FULL_URI","http://n/c"],["AWS_CONTAINER_AUTHORIZATION_TOKEN_FILE","/t"]],"files":[["/t","a"]],"lookups":[["127.0.0.1"]],"replies":{"http":[[500,[],""],[200,[],"{\"AccessKeyId\":\"MUA\",\"SecretAccessKey\":\"S\",\"Token\":\"T\",\"Expiration\":\"2016-02-25T06:03:31Z\"}"]]}}"#,
-            r#"Credentials { provider_name: "EcsContainer", access_key_id: "MUA", secret_access_key: "** redacted **", expires_after: 1456380211 s 0 ns } S Some("T") [CredentialsHttp] Read { path: "/t" } LookUp { host: "n" } Send(Http(Http { endpoint: "http://n", path: "/c", secrets: "** redacted **" })) Send(Http(Http { endpoint: "http://n", path: "/c", secrets: "** redacted **" }))"#,
-        ),
-        (
-            "web identity",
-            r#"{"variables":[["AWS_WEB_IDENTITY_TOKEN_FILE","/j"],["AWS_ROLE_ARN","a"]],"files":[["/j","jwt"]],"clock":[1],"replies":{"web-identity":[{"id":"W","secret":"S","token":"T","expires":900,"arn":"a:b:c:d:7"}]}}"#,
-            r#"Credentials { provider_name: "WebIdentityToken", access_key_id: "W", secret_access_key: "** redacted **", expires_after: 900 s 0 ns, account_id: "7" } S Some("T") [CredentialsProfileStsWebIdToken] Now Read { path: "/j" } Send(AssumeRoleWithWebIdentity(AssumeRoleWithWebIdentity { role_arn: "a", session_name: "web-identity-token-1000", secrets: "** redacted **" }))"#,
-        ),
-        (
-            "limited web identity",
-            r#"{"files":[["/f"," x\n"]],"replies":{"web-identity":[null]}}"#,
-            r#"Unhandled(StsNoCredentials) Read { path: "/f" } Send(AssumeRoleWithWebIdentity(AssumeRoleWithWebIdentity { role_arn: "b", session_name: "n", secrets: "** redacted **" }))"#,
-        ),
-        (
-            "role",
-            r#"{"clock":[5],"replies":{"assume-role":[{"id":"KA","secret":"SA","token":"TA","expires":2000,"arn":"a:b:c:d:e:f"}]}}"#,
-            r#"Credentials { provider_name: "AssumeRoleProvider", access_key_id: "KA", secret_access_key: "** redacted **", expires_after: 2000 s 0 ns, account_id: "e" } SA Some("TA") [] Now Send(AssumeRole(AssumeRole { signer: Credentials { provider_name: "Fixed", access_key_id: "K", secret_access_key: "** redacted **", expires_after: never }, role_arn: "r", session_name: "assume-role-from-profile-5000", external_id: None, policy: None, policy_arns: None, duration_seconds: None, tags: None, settings: CallSettings { region: None, use_fips: None, use_dual_stack: None, max_attempts: 3, timeouts: Timeouts { connect_ms: None, read_ms: None, operation_ms: None, attempt_ms: None } } }))"#,
-        ),
-    ];
-    for (provider, text, want) in table {
+    for (provider, text, want) in PROVIDERS {
         let script = read_script(rt.alloc(), text.as_bytes())?;
         let words = words_over(rt.alloc(), provider, script)?;
         assert_eq!(rt; words.as_str(), *want, "{text}");
