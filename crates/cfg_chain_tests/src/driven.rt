@@ -277,10 +277,18 @@ fn steps_of(alloc: Global, script: &str) -> Result<String, ScriptError> {
 const ROLES: &str =
     r#"{"profiles":[["default",[["role_arn","arn:aws:iam::1:role/A"],["source_profile","b"]]],["b",[["role_arn","arn:aws:iam::1:role/B"],["source_profile","c"],["role_session_name","sb"]]],["c",[["aws_access_key_id","KC"],["aws_secret_access_key","SC"]]]],"clock":[5],"replies":{"assume-role":[{"id":"KB","secret":"SKB","token":"TKB","expires":1000},{"id":"KA","secret":"SKA","token":"TKA","expires":2000}]}}"#;
 
+// Two roles over a process, neither of which names its session. The later one is refused.
+const UNNAMED: &str =
+    r#"{"profiles":[["default",[["role_arn","arn:aws:iam::1:role/A"],["source_profile","b"]]],["b",[["role_arn","arn:aws:iam::1:role/B"],["source_profile","c"]]],["c",[["credential_process","x"]]]],"commands":[[0,"{\"Version\":1,\"AccessKeyId\":\"P\",\"SecretAccessKey\":\"S\"}",""]],"clock":[5,6],"replies":{"assume-role":[{"id":"KB","secret":"SB","token":"TB","expires":1000},"dispatch"]}}"#;
+
 const STEPS: &[(&str, &str)] = &[
     (
         ROLES,
         r#"assume-role Some("Profile"); now Some("Profile"); assume-role Some("Profile"); "#,
+    ),
+    (
+        UNNAMED,
+        r#"run Some("Profile"); now Some("Profile"); assume-role Some("Profile"); now Some("Profile"); assume-role Some("Profile"); "#,
     ),
     (
         ROLE,

@@ -131,21 +131,21 @@ fn steps_of(
     Ok(words)
 }
 
-pub(crate) const fn settings(buffer_seconds: u64, default_life_seconds: u64) -> CacheSettings {
+pub(crate) fn settings(buffer_seconds: u64, default_life_seconds: u64) -> CacheSettings {
     CacheSettings {
         buffer_seconds,
         default_life_seconds,
     }
 }
 
-// A case: the settings, the script that configures the chains, the steps, and what they come to.
-type Case = (CacheSettings, &'static str, &'static [Step], &'static str);
+// A case: the seconds of the settings, the script that configures the chains, the steps, and what they come to.
+type Case = ((u64, u64), &'static str, &'static [Step], &'static str);
 
 const HELD_AND_ASKED_AGAIN: &[Case] = &[
     // Two roles, whose session is named by the clock; then the last second that is not enough, and a refusal, after
     // which what was held is held.
     (
-        settings(10, 900),
+        (10, 900),
         r#"{"profiles":[["default",[["role_arn","arn:aws:iam::1:role/A"],["source_profile","b"]]],["b",[["role_arn","arn:aws:iam::1:role/B"],["source_profile","c"],["role_session_name","sb"]]],["c",[["aws_access_key_id","KC"],["aws_secret_access_key","SC"],["role_arn","arn:aws:iam::1:role/C"]]]],"clock":[5,5,1989,1990],"replies":{"assume-role":[{"id":"KB","secret":"SB","token":"TB","expires":1000},{"id":"KA","secret":"SA","token":"TA","expires":2000}]}}"#,
         &[
             Step::Add("a"),
@@ -158,7 +158,7 @@ const HELD_AND_ASKED_AGAIN: &[Case] = &[
     ),
     // Keys without an expiry.
     (
-        settings(10, 900),
+        (10, 900),
         r#"{"variables":[["AWS_ACCESS_KEY_ID","access"],["SECRET_ACCESS_KEY","secret"]],"clock":[0,889,890]}"#,
         &[
             Step::Add("a"),
@@ -173,7 +173,7 @@ const HELD_AND_ASKED_AGAIN: &[Case] = &[
     ),
     // A name that is there, and names that are not.
     (
-        settings(10, 900),
+        (10, 900),
         r#"{"variables":[["AWS_ACCESS_KEY_ID","access"],["SECRET_ACCESS_KEY","secret"]],"clock":[0,1]}"#,
         &[
             Step::Len,
@@ -193,7 +193,7 @@ const HELD_AND_ASKED_AGAIN: &[Case] = &[
     ),
     // A nanosecond more than the buffer, exactly the buffer, and a clock that goes back.
     (
-        settings(10, 900),
+        (10, 900),
         r#"{"profiles":[["default",[["role_arn","r"],["role_session_name","s"],["source_profile","c"]]],["c",[["aws_access_key_id","KC"],["aws_secret_access_key","SC"]]]],"clock":[5,[1989,999999999],0,1990],"replies":{"assume-role":[{"id":"KA","secret":"SA","token":"TA","expires":2000},{"id":"KB","secret":"SB","token":"TB","expires":3000}]}}"#,
         &[
             Step::Add("a"),
@@ -207,7 +207,7 @@ const HELD_AND_ASKED_AGAIN: &[Case] = &[
     ),
     // No buffer.
     (
-        settings(0, 900),
+        (0, 900),
         r#"{"profiles":[["default",[["role_arn","r"],["role_session_name","s"],["source_profile","c"]]],["c",[["aws_access_key_id","KC"],["aws_secret_access_key","SC"]]]],"clock":[5,[1999,999999999],2000],"replies":{"assume-role":[{"id":"KA","secret":"SA","token":"TA","expires":2000},{"id":"KB","secret":"SB","token":"TB","expires":3000}]}}"#,
         &[
             Step::Add("a"),
@@ -219,7 +219,7 @@ const HELD_AND_ASKED_AGAIN: &[Case] = &[
     ),
     // No default life, and no buffer.
     (
-        settings(0, 0),
+        (0, 0),
         r#"{"variables":[["AWS_ACCESS_KEY_ID","access"],["SECRET_ACCESS_KEY","secret"]],"clock":[7,7,6]}"#,
         &[
             Step::Add("a"),
@@ -233,7 +233,7 @@ const HELD_AND_ASKED_AGAIN: &[Case] = &[
     ),
     // Credentials that have ended when they come are given, and asked for again.
     (
-        settings(10, 900),
+        (10, 900),
         r#"{"profiles":[["default",[["role_arn","r"],["role_session_name","s"],["source_profile","c"]]],["c",[["aws_access_key_id","KC"],["aws_secret_access_key","SC"]]]],"clock":[100,100],"replies":{"assume-role":[{"id":"KA","secret":"SA","token":"TA","expires":50},{"id":"KB","secret":"SB","token":"TB","expires":3000}]}}"#,
         &[
             Step::Add("a"),
@@ -246,7 +246,7 @@ const HELD_AND_ASKED_AGAIN: &[Case] = &[
     ),
     // An error between two loads.
     (
-        settings(10, 900),
+        (10, 900),
         r#"{"profiles":[["default",[["role_arn","r"],["role_session_name","s"],["source_profile","c"]]],["c",[["aws_access_key_id","KC"],["aws_secret_access_key","SC"]]]],"clock":[0,1995,1996,1997],"replies":{"assume-role":[{"id":"KA","secret":"SA","token":"TA","expires":2000},"dispatch",{"id":"KB","secret":"SB","token":"TB","expires":4000}]}}"#,
         &[
             Step::Add("a"),
@@ -260,7 +260,7 @@ const HELD_AND_ASKED_AGAIN: &[Case] = &[
     ),
     // A chain that gives nothing.
     (
-        settings(10, 900),
+        (10, 900),
         r#"{"variables":[["AWS_EC2_METADATA_DISABLED","TRUE"]],"clock":[0,1]}"#,
         &[
             Step::Add("a"),
@@ -272,7 +272,7 @@ const HELD_AND_ASKED_AGAIN: &[Case] = &[
     ),
     // Two names with one key hold each its own.
     (
-        settings(10, 900),
+        (10, 900),
         r#"{"profiles":[["default",[["role_arn","r"],["role_session_name","s"],["source_profile","c"]]],["c",[["aws_access_key_id","KC"],["aws_secret_access_key","SC"]]]],"clock":[0,1,2,3],"replies":{"assume-role":[{"id":"KA","secret":"SA","token":"TA","expires":2000},{"id":"KB","secret":"SB","token":"TB","expires":3000}]}}"#,
         &[
             Step::Add("a"),
@@ -290,7 +290,7 @@ const HELD_AND_ASKED_AGAIN: &[Case] = &[
     ),
     // What is given up is asked for again, and another name's is held.
     (
-        settings(10, 900),
+        (10, 900),
         r#"{"profiles":[["default",[["role_arn","r"],["role_session_name","s"],["source_profile","c"]]],["c",[["aws_access_key_id","KC"],["aws_secret_access_key","SC"]]]],"clock":[0,1,2,3],"replies":{"assume-role":[{"id":"KA","secret":"SA","token":"TA","expires":2000},{"id":"KB","secret":"SB","token":"TB","expires":3000},{"id":"KD","secret":"SD","token":"TD","expires":4000}]}}"#,
         &[
             Step::Add("a"),
@@ -307,7 +307,7 @@ const HELD_AND_ASKED_AGAIN: &[Case] = &[
     ),
     // The last moment of all, and a buffer without end.
     (
-        settings(10, 18446744073709551615),
+        (10, 18446744073709551615),
         r#"{"variables":[["AWS_ACCESS_KEY_ID","access"],["SECRET_ACCESS_KEY","secret"]],"clock":[5,[9223372036854775797,999999998],[9223372036854775797,999999999]]}"#,
         &[
             Step::Add("a"),
@@ -321,7 +321,7 @@ const HELD_AND_ASKED_AGAIN: &[Case] = &[
         "added\naccess EnvironmentVariable 1 now\nheld access 9223372036854775807 999999999\naccess EnvironmentVariable 1 now\nheld access 9223372036854775807 999999999\naccess EnvironmentVariable 1 now\nheld access 9223372036854775807 999999999\n",
     ),
     (
-        settings(18446744073709551615, 900),
+        (18446744073709551615, 900),
         r#"{"variables":[["AWS_ACCESS_KEY_ID","access"],["SECRET_ACCESS_KEY","secret"]],"clock":[0,0]}"#,
         &[
             Step::Add("a"),
@@ -333,14 +333,14 @@ const HELD_AND_ASKED_AGAIN: &[Case] = &[
     ),
     // A nanosecond less than the buffer.
     (
-        settings(10, 900),
+        (10, 900),
         r#"{"profiles":[["default",[["role_arn","r"],["role_session_name","s"],["source_profile","c"]]],["c",[["aws_access_key_id","KC"],["aws_secret_access_key","SC"]]]],"clock":[5,[1990,1]],"replies":{"assume-role":[{"id":"KA","secret":"SA","token":"TA","expires":2000},{"id":"KB","secret":"SB","token":"TB","expires":3000}]}}"#,
         &[Step::Add("a"), Step::Ask("a"), Step::Ask("a")],
         "added\nKA AssumeRoleProvider 1 now assume-role\nKB AssumeRoleProvider 1 now assume-role\n",
     ),
     // An expiry with nanoseconds is compared with them.
     (
-        settings(10, 900),
+        (10, 900),
         r#"{"profiles":[["default",[["role_arn","r"],["role_session_name","s"],["source_profile","c"]]],["c",[["aws_access_key_id","KC"],["aws_secret_access_key","SC"]]]],"clock":[5,[1990,499999999],[1990,500000000]],"replies":{"assume-role":[{"id":"KA","secret":"SA","token":"TA","expires":[2000,500000000]},{"id":"KB","secret":"SB","token":"TB","expires":3000}]}}"#,
         &[
             Step::Add("a"),
@@ -353,7 +353,7 @@ const HELD_AND_ASKED_AGAIN: &[Case] = &[
     ),
     // A default life of the buffer is none, and one of a second more is one of less than a second.
     (
-        settings(10, 10),
+        (10, 10),
         r#"{"variables":[["AWS_ACCESS_KEY_ID","access"],["SECRET_ACCESS_KEY","secret"]],"clock":[7,7]}"#,
         &[
             Step::Add("a"),
@@ -365,7 +365,7 @@ const HELD_AND_ASKED_AGAIN: &[Case] = &[
         "added\naccess EnvironmentVariable 1 now\nheld access 17 0\naccess EnvironmentVariable 1 now\nheld access 17 0\n",
     ),
     (
-        settings(10, 11),
+        (10, 11),
         r#"{"profiles":[["default",[["credential_process","p"]]]],"commands":[[0,"{\"Version\":1,\"AccessKeyId\":\"P\",\"SecretAccessKey\":\"S\"}",""],[0,"{\"Version\":1,\"AccessKeyId\":\"Q\",\"SecretAccessKey\":\"S\"}",""]],"clock":[7,[7,999999999],8]}"#,
         &[
             Step::Add("a"),
@@ -378,7 +378,7 @@ const HELD_AND_ASKED_AGAIN: &[Case] = &[
     ),
     // What a process gives with an expiry is held until then, and not for the default life.
     (
-        settings(10, 900),
+        (10, 900),
         r#"{"profiles":[["default",[["credential_process","p"]]]],"commands":[[0,"{\"Version\":1,\"AccessKeyId\":\"P\",\"SecretAccessKey\":\"S\",\"Expiration\":\"1970-01-01T00:01:00Z\"}",""]],"clock":[7,49,50]}"#,
         &[
             Step::Add("a"),
@@ -392,7 +392,7 @@ const HELD_AND_ASKED_AGAIN: &[Case] = &[
     ),
     // An expiry before the epoch.
     (
-        settings(10, 900),
+        (10, 900),
         r#"{"profiles":[["default",[["role_arn","r"],["role_session_name","s"],["source_profile","c"]]],["c",[["aws_access_key_id","KC"],["aws_secret_access_key","SC"]]]],"clock":[0],"replies":{"assume-role":[{"id":"KA","secret":"SA","token":"TA","expires":[-5,7]},{"id":"KB","secret":"SB","token":"TB","expires":3000}]}}"#,
         &[
             Step::Add("a"),
@@ -405,7 +405,7 @@ const HELD_AND_ASKED_AGAIN: &[Case] = &[
     ),
     // Two errors, before which and behind which credentials are given.
     (
-        settings(10, 900),
+        (10, 900),
         r#"{"profiles":[["default",[["role_arn","r"],["role_session_name","s"],["source_profile","c"]]],["c",[["aws_access_key_id","KC"],["aws_secret_access_key","SC"]]]],"clock":[0,1990,1991,0],"replies":{"assume-role":[{"id":"KA","secret":"SA","token":"TA","expires":2000},"timeout",null]}}"#,
         &[
             Step::Add("a"),
@@ -419,7 +419,7 @@ const HELD_AND_ASKED_AGAIN: &[Case] = &[
     ),
     // What is given up after an error is not held either.
     (
-        settings(10, 900),
+        (10, 900),
         r#"{"profiles":[["default",[["role_arn","r"],["role_session_name","s"],["source_profile","c"]]],["c",[["aws_access_key_id","KC"],["aws_secret_access_key","SC"]]]],"clock":[0],"replies":{"assume-role":["broken",{"id":"KA","secret":"SA","token":"TA","expires":2000}]}}"#,
         &[
             Step::Add("a"),
@@ -434,7 +434,7 @@ const HELD_AND_ASKED_AGAIN: &[Case] = &[
     ),
     // A session of IAM Identity Center, whose token is kept when its credentials are asked for again.
     (
-        settings(10, 900),
+        (10, 900),
         r#"{"variables":[["HOME","/home/u"]],"profiles":[["default",[["sso_session","abc"],["sso_account_id","1"],["sso_role_name","r"]]]],"sessions":[["abc",[["sso_region","us-east-1"],["sso_start_url","u"]]]],"files":[["/home/u/.aws/sso/cache/a9993e364706816aba3e25717850c26c9cd0d89d.json","{\"accessToken\":\"t\",\"expiresAt\":\"1970-01-01T01:00:00Z\"}"]],"clock":[0,0,0,90,90,90],"replies":{"role-credentials":[{"id":"R","secret":"S","token":"T","expires_ms":100000},{"id":"Q","secret":"S","token":"T","expires_ms":200000}]}}"#,
         &[
             Step::Add("a"),
@@ -447,7 +447,7 @@ const HELD_AND_ASKED_AGAIN: &[Case] = &[
     ),
     // Two names with one session each keep a token of their own.
     (
-        settings(10, 900),
+        (10, 900),
         r#"{"variables":[["HOME","/home/u"]],"profiles":[["default",[["sso_session","abc"],["sso_account_id","1"],["sso_role_name","r"]]]],"sessions":[["abc",[["sso_region","us-east-1"],["sso_start_url","u"]]]],"files":[["/home/u/.aws/sso/cache/a9993e364706816aba3e25717850c26c9cd0d89d.json","{\"accessToken\":\"t\",\"expiresAt\":\"1970-01-01T01:00:00Z\"}"]],"clock":[0],"replies":{"role-credentials":[{"id":"R","secret":"S","token":"T","expires_ms":100000},{"id":"Q","secret":"S","token":"T","expires_ms":200000}]}}"#,
         &[
             Step::Add("a"),
@@ -462,7 +462,7 @@ const HELD_AND_ASKED_AGAIN: &[Case] = &[
     // Credentials that were retrieved from instance metadata answer a refusal: they are what the chain gives, and
     // are held.
     (
-        settings(18446744073709551615, 900),
+        (18446744073709551615, 900),
         r#"{"clock":[100],"replies":{"imds-token":[[200,[["x-aws-ec2-metadata-token-ttl-seconds","21600"]],"tok"]],"imds-get":[[200,[],"role"],[200,[],"{\"AccessKeyId\":\"M\",\"SecretAccessKey\":\"S\",\"Token\":\"T\",\"Expiration\":\"2016-02-25T06:03:31Z\"}"],[404,[],""]]}}"#,
         &[
             Step::Add("a"),
@@ -479,8 +479,8 @@ const HELD_AND_ASKED_AGAIN: &[Case] = &[
 
 #[test]
 fn held_and_asked_again(rt: HostRuntime) -> Result<(), Fail> {
-    for (settings, script, steps, want) in HELD_AND_ASKED_AGAIN {
-        let words = steps_of(rt.alloc(), *settings, script, steps)?;
+    for ((buffer, life), script, steps, want) in HELD_AND_ASKED_AGAIN {
+        let words = steps_of(rt.alloc(), settings(*buffer, *life), script, steps)?;
         assert_eq!(rt; words.as_str(), *want, "{script}");
     }
     Ok(())

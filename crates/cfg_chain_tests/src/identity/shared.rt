@@ -56,10 +56,10 @@ fn words_over<R: Wait>(
     Ok(words)
 }
 
-// A case: how long credentials are used, the script that configures the chains, their names, those that are asked for,
+// A case: the seconds of the settings, the script that configures the chains, their names, those that are asked for,
 // and what the calls come to.
 type Case = (
-    CacheSettings,
+    (u64, u64),
     &'static str,
     &'static [&'static str],
     &'static [&'static str],
@@ -89,7 +89,7 @@ const ROLES: &str =
 const CALLS: &[Case] = &[
     // A load, a hit, and an error, after which what was held is held.
     (
-        settings(10, 900),
+        (10, 900),
         ROLES,
         &["a"],
         &["a", "a", "a", "a"],
@@ -97,14 +97,14 @@ const CALLS: &[Case] = &[
     ),
     // No name, and another name.
     (
-        settings(10, 900),
+        (10, 900),
         ROLES,
         &[],
         &["a"],
         "0\nunknown name: a; nothing; 0\n",
     ),
     (
-        settings(10, 900),
+        (10, 900),
         r#"{"variables":[["AWS_ACCESS_KEY_ID","access"],["SECRET_ACCESS_KEY","secret"]],"clock":[0,890]}"#,
         &["a", "b"],
         &["c", "a", "", "a", "b"],
@@ -112,7 +112,7 @@ const CALLS: &[Case] = &[
     ),
     // Two names of one configuration.
     (
-        settings(10, 900),
+        (10, 900),
         r#"{"profiles":[["default",[["role_arn","r"],["role_session_name","s"],["source_profile","c"]]],["c",[["aws_access_key_id","KC"],["aws_secret_access_key","SC"]]]],"clock":[0,1,2,3],"replies":{"assume-role":[{"id":"KA","secret":"SA","token":"TA","expires":2000},{"id":"KB","secret":"SB","token":"TB","expires":3000}]}}"#,
         &["a", "b"],
         &["a", "b", "a", "b"],
@@ -120,7 +120,7 @@ const CALLS: &[Case] = &[
     ),
     // A kept token of IAM Identity Center, which a load finds and a hit does not look for.
     (
-        settings(10, 900),
+        (10, 900),
         r#"{"variables":[["HOME","/home/u"]],"profiles":[["default",[["sso_session","abc"],["sso_account_id","1"],["sso_role_name","r"]]]],"sessions":[["abc",[["sso_region","us-east-1"],["sso_start_url","u"]]]],"files":[["/home/u/.aws/sso/cache/a9993e364706816aba3e25717850c26c9cd0d89d.json","{\"accessToken\":\"t\",\"expiresAt\":\"1970-01-01T01:00:00Z\"}"]],"clock":[0,0,0,1,90,90,90],"replies":{"role-credentials":[{"id":"R","secret":"S","token":"T","expires_ms":100000},{"id":"Q","secret":"S","token":"T","expires_ms":200000}]}}"#,
         &["a"],
         &["a", "a", "a"],
@@ -128,7 +128,7 @@ const CALLS: &[Case] = &[
     ),
     // Kept values of instance metadata: its session token, and behind a refusal the credentials that it gave before.
     (
-        settings(18446744073709551615, 900),
+        (18446744073709551615, 900),
         r#"{"clock":[100],"replies":{"imds-token":[[200,[["x-aws-ec2-metadata-token-ttl-seconds","21600"]],"tok"]],"imds-get":[[200,[],"role"],[200,[],"{\"AccessKeyId\":\"M\",\"SecretAccessKey\":\"S\",\"Token\":\"T\",\"Expiration\":\"2016-02-25T06:03:31Z\"}"],[404,[],""]]}}"#,
         &["a"],
         &["a", "a"],
@@ -138,8 +138,9 @@ const CALLS: &[Case] = &[
 
 #[test]
 fn calls_tell_what_they_found(rt: HostRuntime) -> Result<(), Fail> {
-    for (settings, script, names, asked, want) in CALLS {
-        let words = words_of(&rt, rt.alloc(), *settings, script, names, asked)?;
+    for ((buffer, life), script, names, asked, want) in CALLS {
+        let settings = settings(*buffer, *life);
+        let words = words_of(&rt, rt.alloc(), settings, script, names, asked)?;
         assert_eq!(rt; words.as_str(), *want, "{script}");
     }
     Ok(())
