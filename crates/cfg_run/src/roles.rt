@@ -1,7 +1,6 @@
 //! What comes next between the roles of a path.
 ghost use Rattle.std.specs.Prelude.{◌≡◌, ◌++◌, ◌∷◌, IfOk};
 ghost use Rattle.std.specs.Option.{option_copied};
-ghost use Rattle.cfg_chain.specs.profile.Profiles.{by_profile, marked as marked_of};
 ghost use Rattle.cfg_run.specs.RegionRuns.{ComesNext};
 ghost use Rattle.cfg_run.specs.Roles.{AreLeft, signer_in, asked_before, marked_roles};
 
@@ -9,9 +8,10 @@ use crate::last_role::{LastRole, signer_of};
 use crate::next::Next;
 use crate::planned::PlannedRoles;
 use crate::replay::Replay;
+use cfg_chain::profile::provider::marked;
 use cfg_profile::RoleArn;
 use cfg_providers::steps::follow_role_chain;
-use cfg_types::{AwsCredentialFeature, Credentials, CredentialsError, OutOfMemory, TryCopy};
+use cfg_types::{Credentials, CredentialsError, OutOfMemory, TryCopy};
 use cfg_world::{Receipt, Stop};
 use std::alloc::Global;
 
@@ -46,25 +46,4 @@ fn questions_before(role: &RoleArn) -> usize
         Some(_) => 0,
         None => 1,
     }
-}
-
-// Credentials of a profile, marked as such.
-#[tactic(auto, unfolding(cfg_chain::specs::profile::Profiles::marked))]
-fn marked(
-    outcome: Result<Credentials, CredentialsError>,
-) -> Result<Result<Credentials, CredentialsError>, OutOfMemory>
-    ensures { IfOk result (λ r. marked_of outcome ≡ r) }
-{
-    match outcome {
-        Ok(credentials) => Ok(Ok(mark(credentials)?)),
-        Err(error) => Ok(Err(error)),
-    }
-}
-
-fn mark(credentials: Credentials) -> Result<Credentials, OutOfMemory>
-    ensures { IfOk result (λ c. c ≡ by_profile credentials) }
-{
-    let mut credentials = credentials;
-    credentials.add_feature(AwsCredentialFeature::CredentialsProfile)?;
-    Ok(credentials)
 }

@@ -106,8 +106,9 @@ fn assume<A: Asking>(
     follow_role_chain(call.alloc, keys, roles, &settings, asking)
 }
 
+/// The outcome of a profile: its credentials, marked as such, or the error as it is. `OutOfMemory` where memory runs out.
 #[tactic(auto, unfolding(crate::specs::profile::Profiles::marked))]
-fn marked(
+pub fn marked(
     outcome: Result<Credentials, CredentialsError>,
 ) -> Result<Result<Credentials, CredentialsError>, OutOfMemory>
     ensures { IfOk result (λ r. marked_of outcome ≡ r) }
@@ -118,7 +119,6 @@ fn marked(
     }
 }
 
-// Credentials of a profile, marked as such.
 fn mark(credentials: Credentials) -> Result<Credentials, OutOfMemory>
     ensures { IfOk result (λ c. c ≡ by_profile credentials) }
 {
