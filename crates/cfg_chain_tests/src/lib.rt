@@ -1,4 +1,4 @@
-//! The tests of cfg_chain, over public calls: what no clause says.
+//! The tests of cfg_chain, cfg_run, cfg_explain and cfg_identity, over public calls: what no clause says.
 #![tactic(auto)]
 
 #[cfg(test)]

@@ -50,7 +50,7 @@ usage: bujerova resolve < SCRIPT     a line for each call that the script descri
        bujerova explain < SCRIPT     a line for each question of the script's call: who asked it
        bujerova audit < SCRIPT       whether the script's journal can be that of a call
        bujerova share < SCRIPT       a line for each of the script's callers, on a thread each
-       bujerova gated < SCRIPT       the same of sections of their token, at a gate
+       bujerova gated < SCRIPT       the same, of callers that take one token in turn
        bujerova endpoint < ENDPOINT  a line for each call over a local endpoint for tests
        bujerova drive                one call, its questions and their answers as lines
        bujerova local                one line for a call over the variables and files here

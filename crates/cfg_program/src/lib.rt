@@ -1,6 +1,7 @@
 //! The program without its process: `run` does what a command asks for, over any source, sink and
 //! world, and answers how it ended; `run_shared` does what is done on several threads. It stands on cfg_chain,
-//! cfg_region, cfg_token_chain, cfg_identity, cfg_sharing, cfg_explain, cfg_endpoint, cfg_script and cfg_error_report.
+//! cfg_region, cfg_token_chain, cfg_gate, cfg_identity, cfg_sharing, cfg_explain, cfg_endpoint, cfg_script and
+//! cfg_error_report.
 #![tactic(auto)]
 
 mod audit;
