@@ -1,7 +1,8 @@
 -- Lists of callers and of what they brought back.
-use Rattle.std.proofs.Common.{◌≡◌, ℕ, suc, ◌+◌, ◌<◌, ◌≤◌, List, [], ◌∷◌, ◌++◌, map, length, get_or, All, Result, Ok, Err, refl, sym, subst, ap, ◌∙◌, append-nil, arith}
+use Rattle.std.proofs.Common.{◌≡◌, ℕ, suc, ◌+◌, ◌<◌, List, [], ◌∷◌, ◌++◌, map, length, get_or, All, Result, Ok, Err, refl, sym, subst, ap, ◌∙◌, append-nil, arith}
 use Rattle.std.specs.Prelude.{IfOk}
 use Rattle.std.specs.List.{AllZip}
+use Rattle.cfg_gate.specs.Turns.{greater, greatest}
 use Rattle.std.proofs.lemmas.List.Elements.{All-nil, All-cons, All-append, All-head, All-tail}
 
 pub ok_by : {A E : Type 0} {P Q S : A → Type 0} (r : Result A E) → IfOk r P → IfOk r Q → ((x : A) → P x → Q x → S x) → IfOk r S
@@ -53,9 +54,6 @@ pub all_read : {C W : Type 0} (f : C → W) (ws : List W) (rest : List C) (all :
 all_read f ws [] all none before = sym (append-nil ws) ∙ before
 all_read f ws (c ∷ rest) all none before = absurd (let x : suc (length rest) ≡ 0 = none in omega arith)
 
-pub all_none : {X : Type 0} (xs : List X) (P : X → Type 0) → xs ≡ [] → All P xs
-all_none xs P e = subst (λ z. All P z) (sym e) (All-nil P)
-
 pub all_same : {X : Type 0} (xs ys : List X) (P : X → Type 0) → xs ≡ ys → All P xs → All P ys
 all_same xs ys P e h = subst (λ z. All P z) e h
 
@@ -68,5 +66,11 @@ all_rest xs ys x P e h = All-tail P x ys (subst (λ z. All P z) e h)
 pub all_first : {X : Type 0} (xs ys : List X) (x : X) (P : X → Type 0) → xs ≡ x ∷ ys → All P xs → P x
 all_first xs ys x P e h = All-head P x ys (subst (λ z. All P z) e h)
 
-pub all_up : {X : Type 0} (xs : List X) (f : X → ℕ) (m n : ℕ) → m ≤ n → All (λ x. f x ≤ m) xs → All (λ x. f x ≤ n) xs
-all_up xs f m n le h k d lt = let y = h k d lt in omega arith
+greatest_behind : {X : Type 0} (f : X → ℕ) (n : ℕ) (xs : List X) (x : X) → greatest n (map f (xs ++ x ∷ [])) ≡ greater (greatest n (map f xs)) (f x)
+greatest_behind f n [] x = refl
+greatest_behind f n (y ∷ xs) x = greatest_behind f (greater n (f y)) xs x
+
+-- one more, and the greater of what was the greatest and its own
+pub greatest_snoc : {X : Type 0} (f : X → ℕ) (n old new : ℕ) (xs ys : List X) (x : X) → ys ≡ xs ++ x ∷ [] → old ≡ greatest n (map f xs) → new ≡ greater old (f x) → new ≡ greatest n (map f ys)
+greatest_snoc f n old new xs ys x e before is =
+    is ∙ ap (λ m. greater m (f x)) before ∙ sym (greatest_behind f n xs x) ∙ ap (λ z. greatest n (map f z)) (sym e)

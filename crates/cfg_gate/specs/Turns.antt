@@ -175,6 +175,11 @@ gets_share share v = view share v.seen Idle
 abbrev pub greater : ℕ → ℕ → ℕ
 greater a b = if nat_le a b then b else a
 
+-- the greatest of a number and others
+abbrev pub greatest : ℕ → List ℕ → ℕ
+greatest n [] = n
+greatest n (m ∷ ms) = greatest (greater n m) ms
+
 -- two callers become one
 abbrev pub joined : View → View → View
 joined v w = view (v.left + w.left) (greater v.seen w.seen) v.stage

@@ -2,6 +2,7 @@
 ghost use Rattle.std.specs.Prelude.{◌≡◌, ◌+◌, ◌<◌, ◌≤◌, ◌^◌, ℕ, All, IfOk, true, vec_len, map};
 ghost use Rattle.std.specs.List.{AllZip};
 ghost use Rattle.cfg_gate.specs.GatedSections.{AnswersTurn};
+ghost use Rattle.cfg_gate.specs.Turns.{greatest};
 ghost use Rattle.cfg_gate.specs.Worlds.{worlds_of};
 
 use crate::gate::{Gate, Pass, new_gate};
@@ -28,7 +29,8 @@ pub struct Called<T: FileToken, D: Devices + Drop> {
     pub seen: u64,
 }
 
-/// What callers came to, and how many loads they have seen together.
+/// What callers came to, and how many loads they have seen together: the greatest number that one of their passes, or
+/// the first pass, has seen.
 #[derive(Drop)]
 pub struct GatedCalls<T: FileToken, D: Devices + Drop> {
     pub calls: Seq<Called<T, D>>,
@@ -66,7 +68,7 @@ where
     requires bound { token.loads + vec_len worlds < 2 ^ 64 }
     ensures calls { IfOk result (λ g. AllZip (λ world called. AnswersTurn T.rules (worlds_of ⟦<D as Devices>⟧) token.state.key env.now settings.now
         world called.world called.answer.kept called.answer.last called.found called.seen called.answer.outcome) worlds.items g.calls) }
-    ensures loads { IfOk result (λ g. All (λ called. called.seen ≤ g.loads) g.calls) }
+    ensures loads { IfOk result (λ g. g.loads ≡ greatest token.loads (map (λ called. called.seen) g.calls)) }
 {
     let (gate, mut pass) = new_gate(alloc, token, worlds.len() as u64)?;
     let callers = split_each(alloc, &gate, &mut pass, worlds)?;
@@ -84,6 +86,7 @@ fn split_each<T: FileToken, D: Devices + Drop>(
     requires of { pass.old.place.table_id ≡ gate.now.table.shared.table_id }
     requires allowance { vec_len worlds ≤ pass.old.allowance }
     ensures first { pass.new.place.table_id ≡ pass.old.place.table_id }
+    ensures seen { pass.new.seen ≡ pass.old.seen }
     ensures worlds { IfOk result (λ c. map (λ caller. caller.world) c.items ≡ worlds.items) }
     ensures of { IfOk result (λ c. All (λ caller. caller.pass.place.table_id ≡ gate.now.table.shared.table_id) c.items) }
     ensures ready { IfOk result (λ c. All (λ caller. 0 < caller.pass.allowance) c.items) }
@@ -174,7 +177,7 @@ fn join_each<T: FileToken, D: Devices + Drop>(
     requires all_of { All (λ back. back.pass.place.table_id ≡ gate.now.table.shared.table_id) returned.items }
     requires seen { All (λ back. back.called.seen ≡ back.pass.seen) returned.items }
     ensures calls { IfOk result (λ g. g.calls ≡ map (λ back. back.called) returned.items) }
-    ensures loads { IfOk result (λ g. All (λ called. called.seen ≤ g.loads) g.calls) }
+    ensures loads { IfOk result (λ g. g.loads ≡ greatest pass.seen (map (λ called. called.seen) g.calls)) }
 {
     let mut calls = Vec::with_capacity(alloc, returned.len())?;
     for back in returned {

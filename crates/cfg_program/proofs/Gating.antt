@@ -1,12 +1,11 @@
 -- Sections at a gate are those of a script's callers, and without a session the default token chain asks nothing.
 use denote.Hole.Carrier as carrier
-use Rattle.std.proofs.Common.{◌≡◌, ℕ, ◌+◌, ◌<◌, ◌≤◌, List, [], ◌∷◌, ◌++◌, Bool, true, false, Option, Some, None, Result, Ok, Err}
-use Rattle.std.proofs.Common.{refl, sym, ap, ◌∙◌, subst, inl, inr, length, get_or, take, map, append-nil, arith}
-use Rattle.std.specs.Prelude.{All, IfOk, is_ok, codes}
+use Rattle.std.proofs.Common.{◌≡◌, ℕ, ◌+◌, ◌<◌, List, [], ◌∷◌, ◌++◌, Bool, true, false, Option, Some, None, Result, Ok, Err}
+use Rattle.std.proofs.Common.{refl, sym, ap, ◌∙◌, subst, inl, inr, length, get_or, take, map, append-nil}
+use Rattle.std.specs.Prelude.{IfOk, is_ok, codes}
 use Rattle.std.specs.List.{flat_map, AllByRecursion, AllZip}
 use Rattle.std.proofs.lemmas.Grind.{flat_map-append}
 use Rattle.std.proofs.lemmas.List.{take_more, map-append}
-use Rattle.std.proofs.lemmas.List.Elements.{All-head, All-tail}
 use Rattle.cfg_base.specs.TextMap.{named}
 use Rattle.cfg_types.specs.declared.errors.sso.SsoTokenProviderError.{SsoTokenProviderError}
 use Rattle.cfg_types.specs.declared.errors.token.TokenError.{TokenError}
@@ -31,6 +30,7 @@ use Rattle.cfg_token.specs.Sections.{section}
 use Rattle.cfg_token.specs.SsoTokens.{is_sso, sso_rules}
 use Rattle.cfg_gate.specs.declared.calls.Called.{Called}
 use Rattle.cfg_gate.specs.GatedSections.{AnswersTurn}
+use Rattle.cfg_gate.specs.Turns.{greater, greatest}
 use Rattle.cfg_gate.specs.Worlds.{worlds_of}
 use Rattle.cfg_kept.specs.Kinds.{Value}
 use Rattle.cfg_kept.specs.KeptInquiry.{Reads as Answers}
@@ -43,7 +43,7 @@ use Rattle.cfg_script.specs.Script.{plain_profiles, plain_share}
 use Rattle.cfg_program.specs.declared.outcome.Answered.{Answered}
 use Rattle.cfg_program.specs.Calls.{in_region, bytes_of, region_of, source_of, configured_by}
 use Rattle.cfg_program.specs.Shares.{share_configuration}
-use Rattle.cfg_program.specs.Gated.{GatedSection, IsGatedSection, section_line, section_lines, last_is_token, shown_loads}
+use Rattle.cfg_program.specs.Gated.{GatedSection, IsGatedSection, section_line, section_lines, last_is_token, most_seen, shown_loads}
 use Rattle.cfg_program.specs.Gated.{AtGate, WithoutSession, GatedBy, section_of, TellsSections}
 use Rattle.cfg_program.specs.Lines.{shown_expiry}
 use Rattle.cfg_program.specs.Sharing.{new_world}
@@ -100,7 +100,7 @@ sections_more calls i one was is lines more lt at so_far answered given shows =
 -- scripted devices, by what they allow and stand for
 module _ (d : Ghosts Script) (starts : (lists : DeviceLists) → d.stands (new_world lists).devices [])
     (stands_allowed : (s : Script) (entries : List Pair) → d.stands s entries → d.allows s entries)
-    (allowed : (s : Script) (entries : List Pair) → d.allows s entries → Allows s entries) (conf : Configuration) (key : TokenKey) (loads : ℕ) where
+    (allowed : (s : Script) (entries : List Pair) → d.allows s entries → Allows s entries) (conf : Configuration) (key : TokenKey) where
   -- a caller had its turn at the gate, over this world
   abbrev IsTurn : Held Script → Back → Type 0
   IsTurn world called =
@@ -108,8 +108,8 @@ module _ (d : Ghosts Script) (starts : (lists : DeviceLists) → d.stands (new_w
       called.answer.kept called.answer.last called.found called.seen called.answer.outcome
 
   one_section : (lists : DeviceLists) (called : Back) → IsTurn (new_world lists) called → is_memory sso_rules called.answer.outcome ≡ false
-      → called.seen ≤ loads → IsGatedSection conf key loads lists (section_of called)
-  one_section lists called turn answered seen =
+      → IsGatedSection conf key lists (section_of called)
+  one_section lists called turn answered =
       let t = turn.finished answered in
       let e = t.ends in
       let journal : called.world.journal ≡ e.part = e.grows in
@@ -117,26 +117,27 @@ module _ (d : Ghosts Script) (starts : (lists : DeviceLists) → d.stands (new_w
       let allows : d.allows (new_world lists).devices e.part = e.same.from e.part (stands_allowed called.world.devices e.part stood) in
       let given : Given lists start e.part = allowed (new_world lists).devices e.part allows in
       let tree = section sso_rules key conf.environment (settings_of conf) (token_in called.answer.kept) called.answer.last in
-      let sees = t.sees in
       record {
+        finds = t.finds;
         made = t.made;
         answers = t.answers;
         reads = subst (λ (j : List Pair). Reads tree j t.made) (sym journal) e.reads;
-        carried = t.finds.carried;
         agrees = subst (λ (j : List Pair). Given lists start j) (sym journal) given;
-        counted = omega (arith, sees, seen);
+        sees = t.sees;
       }
 
   all_sections : (all : List DeviceLists) (calls : List Back) → AllZip IsTurn (map new_world all) calls
       → AllByRecursion (λ s. is_memory sso_rules s.answer ≡ false) (map section_of calls)
-      → All (λ called. called.seen ≤ loads) calls → AllZip (IsGatedSection conf key loads) all (map section_of calls)
-  all_sections [] [] turns answered seen = tt
-  all_sections [] (called ∷ calls) turns answered seen = absurd turns
-  all_sections (lists ∷ all) [] turns answered seen = absurd turns
-  all_sections (lists ∷ all) (called ∷ calls) turns answered seen = (
-    one_section lists called turns.0 answered.0 (All-head (λ (c : Back). c.seen ≤ loads) called calls seen),
-    all_sections all calls turns.1 answered.1 (All-tail (λ (c : Back). c.seen ≤ loads) called calls seen),
-  )
+      → AllZip (IsGatedSection conf key) all (map section_of calls)
+  all_sections [] [] turns answered = tt
+  all_sections [] (called ∷ calls) turns answered = absurd turns
+  all_sections (lists ∷ all) [] turns answered = absurd turns
+  all_sections (lists ∷ all) (called ∷ calls) turns answered = (one_section lists called turns.0 answered.0, all_sections all calls turns.1 answered.1)
+
+-- the sections' callers have seen what is handed back
+same_seen : (n : ℕ) (calls : List Back) → greatest n (map (λ (s : GatedSection). s.seen) (map section_of calls)) ≡ greatest n (map (λ (c : Back). c.seen) calls)
+same_seen n [] = refl
+same_seen n (c ∷ calls) = same_seen (greater n c.seen) calls
 
 -- callers had their turns, over these worlds
 module _ (d : Ghosts Script) where
@@ -156,7 +157,7 @@ module _ (d : Ghosts Script) where
   pub at_gate : (conf : Configuration) (one key : TokenKey) (made : Variables) (given : CallSettings) (worlds : List (Held Script)) (calls listed : List Back)
       (loads : ℕ) (all : List DeviceLists) (is_token : Bool) (told lines : List ℕ) → Turns one made given worlds calls
       → one ≡ key → made ≡ conf.environment → given ≡ settings_of conf → worlds ≡ map new_world all → listed ≡ calls
-      → All (λ called. called.seen ≤ loads) calls → TellsSections (map section_of listed) is_token told → lines ≡ told ++ shown_loads loads
+      → loads ≡ greatest 0 (map (λ called. called.seen) calls) → TellsSections (map section_of listed) is_token told → lines ≡ told ++ shown_loads loads
       → (starts : (lists : DeviceLists) → d.stands (new_world lists).devices [])
       → (stands_allowed : (s : Script) (entries : List Pair) → d.stands s entries → d.allows s entries)
       → (allowed : (s : Script) (entries : List Pair) → d.allows s entries → Allows s entries) → AtGate conf key all is_token lines
@@ -164,10 +165,10 @@ module _ (d : Ghosts Script) where
       let turned = turns_by one key made conf.environment given (settings_of conf) worlds (map new_world all) calls k e s w turns in
       let own = subst (λ (x : List Back). TellsSections (map section_of x) is_token told) same tells in record {
         sections = map section_of calls;
-        loads = loads;
-        made = all_sections d starts stands_allowed allowed conf key loads all calls turned own.answered seen;
+        made = all_sections d starts stands_allowed allowed conf key all calls turned own.answered;
         token = own.token;
-        shows = shows ∙ ap (λ (l : List ℕ). l ++ shown_loads loads) own.shows;
+        shows = shows ∙ ap (λ (n : ℕ). told ++ shown_loads n) (seen ∙ sym (same_seen 0 calls))
+            ∙ ap (λ (l : List ℕ). l ++ shown_loads (most_seen (map section_of calls))) own.shows;
       }
 
 -- ---- without a session

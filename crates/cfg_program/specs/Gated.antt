@@ -1,5 +1,5 @@
 -- What the sections of a script's callers answer at a gate round the token of the default token chain.
-use Rattle.std.specs.Prelude.{◌≡◌, ℕ, ◌≤◌, List, [], ◌∷◌, ◌++◌, Bool, false, Option, Some, None, IfSome, Result, Err, is_ok, codes}
+use Rattle.std.specs.Prelude.{◌≡◌, ℕ, ◌+◌, List, [], ◌∷◌, ◌++◌, map, Bool, false, Option, Some, None, Result, Err, is_ok, codes}
 use Rattle.std.specs.List.{flat_map, AllByRecursion, AllZip}
 use Rattle.std.specs.Fmt.{decimal}
 use Rattle.cfg_base.specs.Moment.{Moment}
@@ -14,12 +14,13 @@ use Rattle.cfg_profile.specs.Settings.{settings_of}
 use Rattle.cfg_token.specs.declared.sections.Sectioned.{Sectioned}
 use Rattle.cfg_token.specs.declared.sso_token.CachedSsoToken.{CachedSsoToken}
 use Rattle.cfg_token.specs.declared.token_key.TokenKey.{TokenKey}
-use Rattle.cfg_token.specs.Histories.{TokenLoad, IsTokenLoad, token_in}
+use Rattle.cfg_token.specs.Histories.{TokenLoad, token_in}
 use Rattle.cfg_token.specs.SectionCalls.{is_memory}
 use Rattle.cfg_token.specs.Sections.{section, answer_of}
 use Rattle.cfg_token.specs.SsoTokens.{sso_rules}
 use Rattle.cfg_gate.specs.declared.calls.Called.{Called}
-use Rattle.cfg_gate.specs.GatedSections.{loads_of}
+use Rattle.cfg_gate.specs.GatedSections.{loads_of, Finds}
+use Rattle.cfg_gate.specs.Turns.{greatest}
 use Rattle.cfg_kept.specs.KeptInquiry.{Reads as Answers}
 use Rattle.cfg_sso.specs.BearerTokens.{bearer}
 use Rattle.cfg_token_chain.specs.ProfileTokens.{default_token}
@@ -28,22 +29,26 @@ use Rattle.cfg_script.specs.Script.{PlainShare}
 use Rattle.cfg_program.specs.Shares.{share_configuration}
 use Rattle.cfg_program.specs.Tokens.{shown_token}
 
--- A caller's section: the load and the last attempt that it found, its questions with their answers, and what it came to.
+-- A caller's section: how many loads it found, of which these are the one that is kept and the last attempt, its questions
+-- with their answers, what it came to, and how many loads its caller had seen then.
 pub record GatedSection : Type 0 where
+  pub found : ℕ
   pub kept : Option (TokenLoad CachedSsoToken SsoTokenProviderError)
   pub last : Option Moment
   pub journal : List Pair
   pub answer : Result CachedSsoToken SsoTokenProviderError
+  pub seen : ℕ
 
--- One section of the token of this key, by this configuration, from nothing or from a load that carries the receipts by
--- which it gave its token. Its answers are those that its caller's lists give. It made no more than this many loads.
-pub record IsGatedSection (conf : Configuration) (key : TokenKey) (loads : ℕ) (lists : DeviceLists) (s : GatedSection) : Type 0 where
+-- One section of the token of this key, by this configuration, from a history of loads, of which the one that is kept
+-- carries the receipts by which it gave its token. Its answers are those that its caller's lists give. Its caller has then
+-- seen the loads that it found and its own.
+pub record IsGatedSection (conf : Configuration) (key : TokenKey) (lists : DeviceLists) (s : GatedSection) : Type 0 where
+  pub finds : Finds sso_rules s.found s.kept s.last
   pub made : Sectioned CachedSsoToken SsoTokenProviderError
   pub answers : s.answer ≡ answer_of made
   pub reads : Reads (section sso_rules key conf.environment (settings_of conf) (token_in s.kept) s.last) s.journal made
-  pub carried : IfSome s.kept (IsTokenLoad sso_rules)
   pub agrees : Given lists start s.journal
-  pub counted : loads_of made ≤ loads
+  pub sees : s.seen ≡ s.found + loads_of made
 
 -- a section's line, as the default token chain's call has it
 abbrev pub section_line : GatedSection → List ℕ
@@ -59,18 +64,21 @@ last_is_token [] = false
 last_is_token (s ∷ []) = is_ok s.answer
 last_is_token (s ∷ next ∷ later) = last_is_token (next ∷ later)
 
+-- the greatest number of loads that a section's caller had seen, where none were there at the start
+abbrev pub most_seen : List GatedSection → ℕ
+most_seen sections = greatest 0 (map (λ s. s.seen) sections)
+
 -- the last line: how many loads the callers have seen together
 abbrev pub shown_loads : ℕ → List ℕ
 shown_loads n = codes "loads " ++ (decimal n ++ codes "\n")
 
--- Each caller made one section of the token of this key, and they have these lines, with a number behind them, which is
--- at least 1 where a section made a load.
+-- Each caller made one section of the token of this key, and they have these lines. Behind them stands the greatest
+-- number of loads that a caller had seen.
 pub record AtGate (conf : Configuration) (key : TokenKey) (all : List DeviceLists) (is_token : Bool) (lines : List ℕ) : Type 0 where
   pub sections : List GatedSection
-  pub loads : ℕ
-  pub made : AllZip (IsGatedSection conf key loads) all sections
+  pub made : AllZip (IsGatedSection conf key) all sections
   pub token : is_token ≡ last_is_token sections
-  pub shows : lines ≡ section_lines sections ++ shown_loads loads
+  pub shows : lines ≡ section_lines sections ++ shown_loads (most_seen sections)
 
 -- Without a session each caller has the error of the default token chain, which finds and asks nothing.
 pub record WithoutSession (conf : Configuration) (all : List DeviceLists) (is_token : Bool) (lines : List ℕ) : Type 0 where
@@ -92,7 +100,14 @@ GatedAnswers p is_token lines = GatedBy (session_key (share_configuration p)) (s
 
 -- what a caller's section was
 abbrev pub section_of : Called CachedSsoToken Script SsoTokenProviderError → GatedSection
-section_of called = record { kept = called.answer.kept; last = called.answer.last; journal = called.world.journal; answer = called.answer.outcome }
+section_of called = record {
+  found = called.found;
+  kept = called.answer.kept;
+  last = called.answer.last;
+  journal = called.world.journal;
+  answer = called.answer.outcome;
+  seen = called.seen;
+}
 
 -- No section ran out of memory. These are the sections' lines, and this is what the last one gave.
 pub record TellsSections (sections : List GatedSection) (is_token : Bool) (lines : List ℕ) : Type 0 where

@@ -1,5 +1,6 @@
-use Rattle.std.proofs.Common.{◌≡◌, ◌≤◌, length, ap, sym, ◌∙◌, arith, rules}
-use Rattle.cfg_gate.proofs.Callers.{one_read, none_read, all_read, all_none, all_same, all_snoc, all_rest, all_first, all_up}
+use Rattle.std.proofs.Common.{◌≡◌, length, map, ap, sym, ◌∙◌, arith, rules}
+use Rattle.cfg_gate.specs.Turns.{greatest, greater}
+use Rattle.cfg_gate.proofs.Callers.{one_read, none_read, all_read, all_same, all_rest, all_first, greatest_snoc}
 use Rattle.cfg_gate.proofs.calls.join_each.Goals as goal
 
 pub loop-back-init : goal.loop-back-init
@@ -10,7 +11,7 @@ loop-back-init g c =
       of = c.requires.of;
       all_of = all_same c.args.returned.items _ (λ x. x.pass.place.table_id ≡ c.args.gate.now.table.shared.table_id) (sym all) c.requires.all_of;
       seen = all_same c.args.returned.items _ (λ x. x.called.seen ≡ x.pass.seen) (sym all) c.requires.seen;
-      most = all_none c.in_ok-calls.calls.items (λ x. x.seen ≤ c.args.pass.seen) c.in_ok-calls.ensures.items;
+      most = ap (λ xs. greatest c.args.pass.seen (map (λ x. x.seen) xs)) (sym c.in_ok-calls.ensures.items);
     }
 
 pub loop-back-preserved : goal.loop-back-preserved
@@ -21,16 +22,14 @@ loop-back-preserved g c =
     let less = c.in-Some.ensures.steps.1 in
     let len = i.len in
     let pushed = c.in_ok-push.ensures.items in
-    let rose = c.join.ensures.keeps.0 in
-    let took = c.join.ensures.keeps.1 in
     let had = all_first _ _ c.in-Some.back (λ x. x.called.seen ≡ x.pass.seen) taken i.seen in record {
       calls = one_read _ c.loop-back.calls.items c.push.new.self.items c.in-Some.back _ _ _ pushed taken i.calls;
       len = omega arith;
       of = c.join.ensures.of ∙ i.of;
       all_of = all_rest _ _ c.in-Some.back (λ x. x.pass.place.table_id ≡ c.args.gate.now.table.shared.table_id) taken i.all_of;
       seen = all_rest _ _ c.in-Some.back (λ x. x.called.seen ≡ x.pass.seen) taken i.seen;
-      most = all_snoc c.loop-back.calls.items c.push.new.self.items c.in-Some.back.called (λ x. x.seen ≤ c.join.new.self.seen) pushed
-          (all_up c.loop-back.calls.items (λ x. x.seen) _ _ rose i.most) (omega arith);
+      most = greatest_snoc (λ x. x.seen) c.args.pass.seen c.loop-back.pass.seen c.join.new.self.seen c.loop-back.calls.items c.push.new.self.items
+          c.in-Some.back.called pushed i.most (c.join.ensures.seen ∙ ap (λ n. greater c.loop-back.pass.seen n) (sym had));
     }
 
 pub returns-clause-calls : goal.returns-clause-calls
@@ -40,6 +39,4 @@ returns-clause-calls g c =
 
 pub returns-clause-loads : goal.returns-clause-loads
 returns-clause-loads g c =
-    let seen = c.seen.ensures in
-    all_same c.loop-back.calls.items c.of.result (λ x. x.seen ≤ c.seen.result) (sym c.of.ensures)
-    (all_up c.loop-back.calls.items (λ x. x.seen) c.loop-back.pass.seen c.seen.result (omega arith) c.loop-back.invariant.most)
+    c.seen.ensures ∙ c.loop-back.invariant.most ∙ ap (λ xs. greatest c.args.pass.seen (map (λ x. x.seen) xs)) (sym c.of.ensures)

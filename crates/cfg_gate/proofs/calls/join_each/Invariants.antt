@@ -1,6 +1,7 @@
 -- The callers so far were taken in, and the pass has seen what they had.
-use Rattle.std.proofs.Common.{◌≡◌, ◌++◌, ◌≤◌, All, map, length}
+use Rattle.std.proofs.Common.{◌≡◌, ◌++◌, All, map, length}
 use Rattle.std.specs.Vec.Iter.{into_iter_items, into_iter_len}
+use Rattle.cfg_gate.specs.Turns.{greatest}
 use Rattle.cfg_gate.proofs.calls.join_each.Given as goal
 
 abbrev pub invariant-loop-back : goal.invariant-loop-back
@@ -10,5 +11,5 @@ invariant-loop-back g l = record {
   of : l.pass.place.table_id ≡ l.fn.gate.table.shared.table_id;
   all_of : All (λ b. b.pass.place.table_id ≡ l.fn.gate.table.shared.table_id) (into_iter_items l.back-iterator);
   seen : All (λ b. b.called.seen ≡ b.pass.seen) (into_iter_items l.back-iterator);
-  most : All (λ c. c.seen ≤ l.pass.seen) l.calls.items;
+  most : l.pass.seen ≡ greatest l.fn.pass.seen (map (λ c. c.seen) l.calls.items);
 }

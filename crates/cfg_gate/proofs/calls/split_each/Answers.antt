@@ -16,6 +16,7 @@ loop-world-preserved g c =
       worlds = one_made _ c.loop-world.callers.items c.push.new.self.items _ c.in-Some.world _ _ _ pushed refl taken i.worlds;
       len = omega arith;
       first = c.cut-pass.ensures.of.0 ∙ i.first;
+      seen = c.cut-pass.ensures.kept.1 ∙ i.seen;
       left = omega arith;
       of = all_snoc c.loop-world.callers.items c.push.new.self.items _ (λ x. x.pass.place.table_id ≡ c.args.gate.now.table.shared.table_id) pushed i.of (c.cut-pass.ensures.of.1 ∙ i.first);
       ready = all_snoc c.loop-world.callers.items c.push.new.self.items _ (λ x. 0 < x.pass.allowance) pushed i.ready (omega arith);

@@ -8,6 +8,7 @@ invariant-loop-world g l = record {
   worlds : map (λ c. c.world) l.callers.items ++ into_iter_items l.world-iterator ≡ l.fn.worlds.items;
   len : into_iter_len l.world-iterator ≡ length (into_iter_items l.world-iterator);
   first : l.pass.place.table_id ≡ l.fn.gate.table.shared.table_id;
+  seen : l.pass.seen ≡ l.fn.pass.seen;
   left : length (into_iter_items l.world-iterator) ≤ l.pass.allowance;
   of : All (λ c. c.pass.place.table_id ≡ l.fn.gate.table.shared.table_id) l.callers.items;
   ready : All (λ c. 0 < c.pass.allowance) l.callers.items;
