@@ -1,5 +1,5 @@
 -- Calls under a name over one script of devices tell the same, where what is held and kept before them is alike.
-use Rattle.std.proofs.Common.{◌≡◌, true, false, List, [], ◌∷◌, Option, Some, None, Ok, Err, refl, sym, ap, subst, ◌∙◌, inl, inr}
+use Rattle.std.proofs.Common.{◌≡◌, true, false, List, ◌∷◌, Option, Some, None, Ok, Err, sym, ap, subst, ◌∙◌, inl, inr}
 use Rattle.std.specs.Prelude.{◌⊎◌, ◌+ℤ◌, ℤ, int_lt, Bool, if◌then◌else◌}
 use Rattle.cfg_base.specs.Instant.{number, nanos_in}
 use Rattle.cfg_base.specs.Moment.{Moment}
@@ -54,7 +54,7 @@ module _ (settings : CacheSettings) (now : Moment) where
 
   held_alike : (out : Answer) (o p n m : Option Held) → HeldAlike o p → IsHeld settings now out o n → IsHeld settings now out p m → HeldAlike n m
   held_alike (Ok keys) o p n m alike a b =
-      subst (λ x. HeldAlike x m) (sym a.2) (subst (λ x. HeldAlike (Some (record { credentials = keys; life = a.0 })) x) (sym b.2) (refl, ends_alike keys.expiry a.0 b.0 a.1 b.1))
+      subst (λ x. HeldAlike x m) (sym a.3) (subst (λ x. HeldAlike (Some a.0) x) (sym b.3) (a.1 ∙ sym b.1, ends_alike keys.expiry a.0.life b.0.life a.2 b.2))
   held_alike (Err e) o p n m alike a b = subst (λ x. HeldAlike x m) (sym a) (subst (λ x. HeldAlike o x) (sym b) alike)
 
 module _ (settings : CacheSettings) (over : ChainSetting) (lists : DeviceLists) where

@@ -1,5 +1,5 @@
 -- A shared cache, made of one; and what its calls find.
-use Rattle.std.proofs.Common.{true, false, Ok, ◌≡◌, ℕ, List, [], length, map, Option, Some, None, option_map, refl, sym, ap, subst, ◌∙◌}
+use Rattle.std.proofs.Common.{true, false, Ok, ◌≡◌, ℕ, List, [], length, map, Option, Some, None, option_map, refl, sym, ap, subst, ◌∙◌, inl, inr}
 use Rattle.std.specs.Prelude.{Result, Err, slice_get, IfOk, OnOk, OnErr}
 use Rattle.std.specs.Option.{option_and_then}
 use Rattle.std.specs.FinMap.{get}
@@ -23,7 +23,7 @@ use Rattle.cfg_identity.specs.Cached.{Breaks, Caches, CacheBreaks, HasBegun}
 use Rattle.cfg_identity.specs.Faults.{IsTold, Tells}
 use Rattle.cfg_identity.specs.Names.{at_name}
 use Rattle.cfg_identity.specs.NameStates.{NameState}
-use Rattle.cfg_identity.specs.SharedCalls.{FindsOn, IsFoundCall, IsPutBack, IsShared, IsUnknown}
+use Rattle.cfg_identity.specs.SharedCalls.{FindsBroken, FindsOn, IsFoundCall, IsPutBack, IsShared, IsUnknown, NothingFound}
 use Rattle.cfg_identity.proofs.CallSteps.{tells_from, whole_breaks}
 
 fused : {X Y Z : Type 0} (f : X → Y) (k : Y → Z) (o : Option X) → option_map (λ x. k (f x)) o ≡ option_map k (option_map f o)
@@ -54,18 +54,18 @@ on_err (Err e) p = p
 
 module _ {D : Type 0} (d : Ghosts D) where
   -- nothing was asked
-  pub nothing_breaks : (over : ChainSetting) (state : NameState) (world : World D) → Breaks d over state state world world
-  nothing_breaks over state world = ([], record { held = refl; part = []; stays = stays_here world; begins = refl })
+  pub nothing_breaks : (settings : CacheSettings) (over : ChainSetting) (state : NameState) (world : World D) → Breaks d settings over state state world world
+  nothing_breaks settings over state world = ([], record { held = refl; part = []; stays = stays_here world; begins = refl })
 
   -- memory ran out before it could be told
   pub breaks_found : (settings : CacheSettings) (over : ChainSetting) (old new : NameState) (before later : World D) (answer : CacheAnswer)
-      → answer.outcome ≡ Err fault.OutOfMemory → Breaks d over old new before later → FindsOn d settings over old new before later answer
-  breaks_found settings over old new before later answer is breaks =
-      subst (Tells (λ out. (answer.held ≡ old.held) × Caches d settings over old new (map bare answer.kept) before later out) (Breaks d over old new before later)) (sym is) breaks
+      → answer.outcome ≡ Err fault.OutOfMemory → NothingFound answer → Breaks d settings over old new before later → FindsOn d settings over old new before later answer
+  breaks_found settings over old new before later answer is nothing breaks =
+      subst (Tells (λ out. (answer.held ≡ old.held) × Caches d settings over old new (map bare answer.kept) before later out) (FindsBroken d settings over old new before later answer)) (sym is) (inr (nothing, breaks))
 
   -- the answer tells what was found
   pub found_result : {E : Type 0} (settings : CacheSettings) (over : ChainSetting) (before later : World D) (old mid new : NameState) (held : Option Held) (found : List Value) (outcome : Answer) (r : Result CacheAnswer E)
-      → held ≡ old.held → Answered outcome (Caches d settings over old mid found before later) → RanOut outcome (CacheBreaks d over old mid found before later)
+      → held ≡ old.held → Answered outcome (Caches d settings over old mid found before later) → RanOut outcome (CacheBreaks d settings over old mid found before later)
       → IfOk r (λ a. IsTold outcome a.outcome) → IfOk r (λ a. a.held ≡ held) → IfOk r (λ a. map bare a.kept ≡ found) → OnOk r (new ≡ mid)
       → IfOk r (FindsOn d settings over old new before later)
   found_result settings over before later old mid new held found outcome (Err e) same caches breaks told is finds stays = tt
@@ -73,28 +73,28 @@ module _ {D : Type 0} (d : Ghosts D) where
       subst (λ s. FindsOn d settings over old s before later a) (sym stays)
       (tells_from outcome a.outcome
       (λ out. (a.held ≡ old.held) × Caches d settings over old mid (map bare a.kept) before later out)
-      (Breaks d over old mid before later) told
+      (FindsBroken d settings over old mid before later a) told
       (λ none. (is ∙ same, subst (λ f. Caches d settings over old mid f before later outcome) (sym finds) (caches none)))
-      (λ ran_out. (found, breaks ran_out)))
+      (λ ran_out. inl (is ∙ same, subst (λ f. CacheBreaks d settings over old mid f before later) (sym finds) (breaks ran_out))))
 
   -- memory ran out in the call, and what was held, which is held still, is put back
-  put_back : (over : ChainSetting) (old mid new : NameState) (held : Option Held) (found : List Value) (before later : World D)
-      → held ≡ old.held → CacheBreaks d over old mid found before later → IsPutBack held mid new → CacheBreaks d over old new found before later
-  put_back over old mid new held found before later same breaks back = record {
+  put_back : (settings : CacheSettings) (over : ChainSetting) (old mid new : NameState) (held : Option Held) (found : List Value) (before later : World D)
+      → held ≡ old.held → CacheBreaks d settings over old mid found before later → IsPutBack held mid new → CacheBreaks d settings over old new found before later
+  put_back settings over old mid new held found before later same breaks back = record {
     held = back.0 ∙ same;
     part = breaks.part;
     stays = breaks.stays;
-    begins = subst (λ s. HasBegun over old.states s found breaks.part) (sym back.1) breaks.begins;
+    begins = subst (λ s. HasBegun settings over old s found breaks.part) (sym back.1) breaks.begins;
   }
 
   -- memory ran out behind the call, and what was held is put back
   pub broken_result : {A E : Type 0} (settings : CacheSettings) (over : ChainSetting) (before later : World D) (old mid new : NameState) (held : Option Held) (found : List Value) (outcome : Answer) (r : Result A E)
-      → held ≡ old.held → Answered outcome (Caches d settings over old mid found before later) → RanOut outcome (CacheBreaks d over old mid found before later)
-      → OnErr r (IsPutBack held mid new) → OnErr r (Breaks d over old new before later)
+      → held ≡ old.held → Answered outcome (Caches d settings over old mid found before later) → RanOut outcome (CacheBreaks d settings over old mid found before later)
+      → OnErr r (IsPutBack held mid new) → OnErr r (Breaks d settings over old new before later)
   broken_result settings over before later old mid new held found outcome (Ok a) same caches breaks back = tt
   broken_result settings over before later old mid new held found outcome (Err e) same caches breaks back =
-      elim (is_memory outcome) as (λ b. is_memory outcome ≡ b → Breaks d over old new before later) [
-        | true ↦ λ h. (found, put_back over old mid new held found before later same (breaks h) back)
+      elim (is_memory outcome) as (λ b. is_memory outcome ≡ b → Breaks d settings over old new before later) [
+        | true ↦ λ h. (found, put_back settings over old mid new held found before later same (breaks h) back)
         | false ↦ λ h. (found, whole_breaks d settings over old mid new found before later outcome (caches h) (back.0 ∙ same) back.1)
       ] refl
 

@@ -48,21 +48,24 @@ pub record Caches {D : Type 0} (d : Ghosts D) (settings : CacheSettings) (over :
   pub grows : Grows d part before later
   pub call : IsCached settings over old new found part out
 
--- A call has begun: nothing was asked; or the clock was read, and behind that the chain's call was not begun, has
--- begun, or came to its end.
-abbrev pub HasBegun : ChainSetting → States → States → List Value → List Pair → Type 0
-HasBegun over old new found [] = new ≡ old
-HasBegun over old new found (reading ∷ rest) =
-    (reading.0 ≡ Now)
-    × (((rest ≡ []) × (new ≡ old)) ⊎ (IsBegunCall over old new found rest ⊎ ((out : Answer) × IsCall over old new found rest out)))
+-- Nothing is held that lasts, and the chain's call has begun, or came to its end.
+pub record IsBegunLoad (settings : CacheSettings) (over : ChainSetting) (now : Moment) (old : NameState) (new : States) (found : List Value) (rest : List Pair) : Type 0 where
+  pub due : lasting settings old.held now ≡ None
+  pub call : IsBegunCall over old.states new found rest ⊎ ((out : Answer) × IsCall over old.states new found rest out)
+
+-- A call has begun: nothing was asked; or the clock was read, and behind that nothing was asked, or a load has begun.
+abbrev pub HasBegun : CacheSettings → ChainSetting → NameState → States → List Value → List Pair → Type 0
+HasBegun settings over old new found [] = new ≡ old.states
+HasBegun settings over old new found (reading ∷ rest) =
+    (reading.0 ≡ Now) × (((rest ≡ []) × (new ≡ old.states)) ⊎ IsBegunLoad settings over (moment_of reading.1) old new found rest)
 
 -- Memory ran out: the journal grew by the beginning of a call. What was held stays, and each kept value is as the
 -- last finished holding left it.
-pub record CacheBreaks {D : Type 0} (d : Ghosts D) (over : ChainSetting) (old new : NameState) (found : List Value) (before later : World D) : Type 0 where
+pub record CacheBreaks {D : Type 0} (d : Ghosts D) (settings : CacheSettings) (over : ChainSetting) (old new : NameState) (found : List Value) (before later : World D) : Type 0 where
   pub held : new.held ≡ old.held
   pub part : List Pair
   pub stays : Stays d part before later
-  pub begins : HasBegun over old.states new.states found part
+  pub begins : HasBegun settings over old new.states found part
 
 -- ---- whatever the chain found
 
@@ -72,16 +75,16 @@ module _ {D : Type 0} (d : Ghosts D) where
   CachesAny settings over old new before later out = (found : List Value) × Caches d settings over old new found before later out
 
   -- memory ran out in a call over what was kept and held
-  abbrev pub Breaks : ChainSetting → NameState → NameState → World D → World D → Type 0
-  Breaks over old new before later = (found : List Value) × CacheBreaks d over old new found before later
+  abbrev pub Breaks : CacheSettings → ChainSetting → NameState → NameState → World D → World D → Type 0
+  Breaks settings over old new before later = (found : List Value) × CacheBreaks d settings over old new found before later
 
 -- ---- by what is kept
 
 abbrev pub CachesOn : {D : Type 0} → Ghosts D → CacheSettings → ChainSetting → Loaded → Loaded → World D → World D → Answer → Type 0
 CachesOn d settings over old new before later out = Caches d settings over (state_of old) (state_of new) (kept_holdings new.kept).found before later out
 
-abbrev pub BreaksOn : {D : Type 0} → Ghosts D → ChainSetting → Loaded → Loaded → World D → World D → Type 0
-BreaksOn d over old new before later = CacheBreaks d over (state_of old) (state_of new) (kept_holdings new.kept).found before later
+abbrev pub BreaksOn : {D : Type 0} → Ghosts D → CacheSettings → ChainSetting → Loaded → Loaded → World D → World D → Type 0
+BreaksOn d settings over old new before later = CacheBreaks d settings over (state_of old) (state_of new) (kept_holdings new.kept).found before later
 
 -- The chain was called, and its answer is held.
 pub record LoadsOn {D : Type 0} (d : Ghosts D) (settings : CacheSettings) (over : ChainSetting) (now : Moment) (old new : Loaded) (before later : World D) (out : Answer) : Type 0 where

@@ -1,7 +1,6 @@
 -- Lists of calls of a cache, and what one call gives.
-use Rattle.std.specs.Prelude.{◌≡◌, ℕ, List, [], ◌∷◌, true, Option, Some, None, IfSome, Result, Ok, if◌then◌else◌}
+use Rattle.std.specs.Prelude.{◌≡◌, ℕ, List, [], ◌∷◌, true, Option, IfSome, Result, Ok, if◌then◌else◌}
 use Rattle.std.specs.Str.{bytes_eq}
-use Rattle.cfg_base.specs.Moment.{Moment}
 use Rattle.cfg_types.specs.Keys.{Keys}
 use Rattle.cfg_world.specs.declared.devices.Devices.{Ghosts}
 use Rattle.cfg_world.specs.Fits.{Pair}
@@ -11,7 +10,6 @@ use Rattle.cfg_kept.specs.Kinds.{Value, States}
 use Rattle.cfg_chain.specs.Provides.{IsCall}
 use Rattle.cfg_chain.specs.Settings.{ChainSetting}
 use Rattle.cfg_identity.specs.declared.fault.CacheFault.{CacheFault}
-use Rattle.cfg_identity.specs.declared.held.Held.{Held}
 use Rattle.cfg_identity.specs.declared.settings.CacheSettings.{CacheSettings}
 use Rattle.cfg_identity.specs.Entries.{Entry, Entries, IsAdded, IsResolved, OthersStay, SameEntries}
 use Rattle.cfg_identity.specs.Lives.{has_time_left}
@@ -54,17 +52,6 @@ module _ {D : Type 0} (d : Ghosts D) (settings : CacheSettings) where
 
 -- ---- what one call gives
 
--- held credentials that have an expiry are held until then
-abbrev pub EndsBy : Option Moment → Moment → Type 0
-EndsBy (Some expiry) life = life ≡ expiry
-EndsBy None life = Unit {0}
-
-abbrev pub EndsByExpiry : Held → Type 0
-EndsByExpiry held = EndsBy held.credentials.expiry held.life
-
-abbrev pub HeldByExpiry : Option Entry → Type 0
-HeldByExpiry o = IfSome o (λ entry. IfSome entry.state.held EndsByExpiry)
-
 -- Nothing but a reading of the clock was asked, by which these credentials, where they have an expiry, last for more
 -- than the buffer.
 pub record AreLasting (settings : CacheSettings) (keys : Keys) (part : List Pair) : Type 0 where
@@ -78,3 +65,7 @@ pub record AreOfChain (over : ChainSetting) (old new : States) (found : List Val
   pub rest : List Pair
   pub asks : part ≡ reading ∷ rest
   pub call : IsCall over old new found rest (Ok keys)
+
+-- the same, whatever was kept
+abbrev pub AreOfFoundChain : ChainSetting → List Value → Keys → List Pair → Type 0
+AreOfFoundChain over found keys part = (old : States) × (new : States) × AreOfChain over old new found keys part

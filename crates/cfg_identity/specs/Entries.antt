@@ -60,7 +60,7 @@ module _ {D : Type 0} (d : Ghosts D) (settings : CacheSettings) where
   -- A call under a name that is there, by its answer. The chain stays.
   pub record ResolvesOn (old new : Entry) (before later : World D) (out : Result Keys CacheFault) : Type 0 where
     pub same_chain : new.over ≡ old.over
-    pub call : Tells (CachesAny d settings old.over old.state new.state before later) (Breaks d old.over old.state new.state before later) out
+    pub call : Tells (CachesAny d settings old.over old.state new.state before later) (Breaks d settings old.over old.state new.state before later) out
 
   -- A call under a name, by what stands there: a name that is not there is told, and nothing is asked.
   abbrev pub IsResolved : List ℕ → Option Entry → Option Entry → World D → World D → Result Keys CacheFault → Type 0

@@ -27,7 +27,7 @@ lasting settings (Some held) now = if has_time_left settings held.life now then 
 -- What is held after a chain's answer to a call that began with this reading: credentials to the end of their
 -- life. After an error it is what was held.
 abbrev pub IsHeld : CacheSettings → Moment → Result Keys CredentialsError → Option Held → Option Held → Type 0
-IsHeld settings now (Ok keys) old new = (life : Moment) × IsEnd settings keys.expiry now life × (new ≡ Some (record { credentials = keys; life = life }))
+IsHeld settings now (Ok keys) old new = (held : Held) × (held.credentials ≡ keys) × IsEnd settings keys.expiry now held.life × (new ≡ Some held)
 IsHeld settings now (Err e) old new = new ≡ old
 
 -- The answer is told as it is, and held.

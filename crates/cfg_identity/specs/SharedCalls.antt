@@ -9,7 +9,7 @@ use Rattle.cfg_identity.specs.declared.fault.CacheFault.TheVariants as fault
 use Rattle.cfg_identity.specs.declared.held.Held.{Held}
 use Rattle.cfg_identity.specs.declared.settings.CacheSettings.{CacheSettings}
 use Rattle.cfg_identity.specs.declared.shared.CacheAnswer.{CacheAnswer}
-use Rattle.cfg_identity.specs.Cached.{Caches, Breaks}
+use Rattle.cfg_identity.specs.Cached.{Caches, Breaks, CacheBreaks}
 use Rattle.cfg_identity.specs.Faults.{Tells}
 use Rattle.cfg_identity.specs.NameStates.{NameState}
 
@@ -26,11 +26,17 @@ abbrev pub IsPutBack : Option Held → NameState → NameState → Type 0
 IsPutBack held old new = (new.held ≡ held) × (new.states ≡ old.states)
 
 module _ {D : Type 0} (d : Ghosts D) where
+  -- Memory ran out. The answer tells what was held, and which kept values the chain found, or nothing of either.
+  abbrev pub FindsBroken : CacheSettings → ChainSetting → NameState → NameState → World D → World D → CacheAnswer → Type 0
+  FindsBroken settings over old new before later answer =
+      ((answer.held ≡ old.held) × CacheBreaks d settings over old new (map bare answer.kept) before later)
+      ⊎ (NothingFound answer × Breaks d settings over old new before later)
+
   -- A call over what was kept and held. Its answer tells what was held, and which kept values the chain found.
   abbrev pub FindsOn : CacheSettings → ChainSetting → NameState → NameState → World D → World D → CacheAnswer → Type 0
   FindsOn settings over old new before later answer = Tells
       (λ out. (answer.held ≡ old.held) × Caches d settings over old new (map bare answer.kept) before later out)
-      (Breaks d over old new before later)
+      (FindsBroken settings over old new before later answer)
       answer.outcome
 
   -- The same, wherever it is kept and held.

@@ -9,7 +9,7 @@ ghost use Rattle.cfg_identity.specs.Cached.{Breaks, BreaksOn, CachesAny, CachesO
 ghost use Rattle.cfg_identity.specs.Lives.{Holds, HoldsNot};
 ghost use Rattle.cfg_identity.specs.NameStates.{loaded_key, state_of};
 
-use crate::held::{Held, lasting};
+use crate::held::Held;
 use crate::settings::CacheSettings;
 use cfg_chain::DefaultCredentialsChain;
 use cfg_kept::Kept;
@@ -57,7 +57,7 @@ impl Loaded {
         requires { loaded_key self.old ≡ key_of chain.now.core }
         ensures caches { Answered result (CachesAny ⟦<D as Devices>⟧ settings (chain_of value repeated chain.now)
             (state_of self.old) (state_of self.new) world.old world.new) }
-        ensures breaks { RanOut result (Breaks ⟦<D as Devices>⟧ (chain_of value repeated chain.now)
+        ensures breaks { RanOut result (Breaks ⟦<D as Devices>⟧ settings (chain_of value repeated chain.now)
             (state_of self.old) (state_of self.new) world.old world.new) }
         ensures key { loaded_key self.new ≡ loaded_key self.old }
     {
@@ -94,13 +94,13 @@ pub(crate) fn resolve_loaded<D: Devices>(
 ) -> Result<Credentials, CredentialsError>
     requires { kept_key loaded.old.kept ≡ key_of chain.now.core }
     ensures caches { Answered result (CachesOn ⟦<D as Devices>⟧ settings (chain_of value repeated chain.now) loaded.old loaded.new world.old world.new) }
-    ensures breaks { RanOut result (BreaksOn ⟦<D as Devices>⟧ (chain_of value repeated chain.now) loaded.old loaded.new world.old world.new) }
+    ensures breaks { RanOut result (BreaksOn ⟦<D as Devices>⟧ settings (chain_of value repeated chain.now) loaded.old loaded.new world.old world.new) }
     ensures key { kept_key loaded.new.kept ≡ kept_key loaded.old.kept }
 {
     loaded.kept.clear_found();
     let reading = world.ask(Question::Now)?;
     let now = reading.moment();
-    match lasting(&loaded.held, settings, now) {
+    match Held::lasting(&loaded.held, settings, now) {
         Some(held) => Ok(held.credentials.copy(alloc)?),
         None => load(alloc, settings, chain, now, loaded, world),
     }

@@ -24,14 +24,15 @@ use cfg_world::{Devices, World};
 use std::alloc::Global;
 use std::sync::{Mutex, Wait};
 
-/// What a call of a shared cache answers, and what it found.
+/// What a call of a shared cache answers, and what it found. After `OutOfMemory` it may tell nothing of what it found:
+/// neither what was held nor a value.
 #[derive(Drop)]
 pub struct CacheAnswer {
     /// The credentials, or why there are none.
     pub outcome: Result<Credentials, CacheFault>,
-    /// What was held when the call got the name's lock. After `OutOfMemory` it may be missing.
+    /// What was held when the call got the name's lock.
     pub held: Option<Held>,
-    /// The values that the chain found kept, in order, with their receipts. After `OutOfMemory` they may be missing.
+    /// The values that the chain found kept, in order, with their receipts.
     pub kept: Seq<Found>,
 }
 
@@ -100,6 +101,7 @@ impl SharedIdentityCache {
 
     /// The credentials under a name, as [`IdentityCache::resolve`] gives them over what is kept and held when the
     /// call gets the name's lock. The answer tells what it found there. A call waits for those of its own name alone.
+    /// Contracts see what the call found and asked. They name nothing that stands behind a lock.
     ///
     /// # Errors
     ///
@@ -216,7 +218,7 @@ fn found_over<D: Devices>(
     requires { kept_key loaded.old.kept ≡ key_of chain.now.core }
     ensures found { IfOk result (FindsOn ⟦<D as Devices>⟧ settings (chain_of value repeated chain.now)
         (state_of loaded.old) (state_of loaded.new) world.old world.new) }
-    ensures breaks { OnErr result (Breaks ⟦<D as Devices>⟧ (chain_of value repeated chain.now)
+    ensures breaks { OnErr result (Breaks ⟦<D as Devices>⟧ settings (chain_of value repeated chain.now)
         (state_of loaded.old) (state_of loaded.new) world.old world.new) }
 {
     let held = copy_option(alloc, &loaded.held)?;

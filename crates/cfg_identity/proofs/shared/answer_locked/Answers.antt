@@ -15,5 +15,5 @@ returns-in-Err g c =
     record {
       old = state;
       new = state;
-      call = breaks_found g.D.Devices c.args.settings over state state c.args.world.now c.args.world.now c.of_fault.result c.of_fault.ensures.fault (nothing_breaks g.D.Devices over state c.args.world.now);
+      call = breaks_found g.D.Devices c.args.settings over state state c.args.world.now c.args.world.now c.of_fault.result c.of_fault.ensures.fault c.of_fault.ensures.found (nothing_breaks g.D.Devices c.args.settings over state c.args.world.now);
     }

@@ -9,4 +9,4 @@ pub returns-in-Err : goal.returns-in-Err
 returns-in-Err g c =
     let over : ChainSetting = chain_of (λ z. (goal.ProvideCredentials-dyn g z).value z.1) (λ z. (goal.ClassifyRetry-dyn g z).repeated z.1) c.args.chain.now in
     breaks_found g.D.Devices c.args.settings over (state_of c.args.loaded.now) (state_of c.found_over.new.loaded) c.args.world.now c.found_over.new.world c.of_fault.result
-    c.of_fault.ensures.fault c.in-Err.ensures.breaks
+    c.of_fault.ensures.fault c.of_fault.ensures.found c.in-Err.ensures.breaks

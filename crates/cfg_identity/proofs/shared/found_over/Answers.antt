@@ -26,4 +26,4 @@ returns-clause-breaks g c =
 pub returns-in_err-held-clause-breaks : goal.returns-in_err-held-clause-breaks
 returns-in_err-held-clause-breaks g c =
     let over : ChainSetting = chain_of (λ z. (goal.ProvideCredentials-dyn g z).value z.1) (λ z. (goal.ClassifyRetry-dyn g z).repeated z.1) c.args.chain.now in
-    on_err _ (nothing_breaks g.D.Devices over (state_of c.args.loaded.now) c.args.world.now)
+    on_err _ (nothing_breaks g.D.Devices c.args.settings over (state_of c.args.loaded.now) c.args.world.now)

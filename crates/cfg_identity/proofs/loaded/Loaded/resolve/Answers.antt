@@ -18,5 +18,5 @@ pub returns-clause-breaks : goal.returns-clause-breaks
 returns-clause-breaks g c = λ ran_out.
     let over : ChainSetting = chain_of (λ z. (goal.ProvideCredentials-dyn g z).value z.1) (λ z. (goal.ClassifyRetry-dyn g z).repeated z.1) c.args.chain.now in
     let made = c.resolve_loaded-outcome in
-    subst (λ s. Breaks g.D.Devices over (state_of c.args.self.now) s c.args.world.now made.new.world) (sym c.trim.ensures.state)
+    subst (λ s. Breaks g.D.Devices c.args.settings over (state_of c.args.self.now) s c.args.world.now made.new.world) (sym c.trim.ensures.state)
     ((kept_holdings made.new.loaded.kept).found, made.ensures.breaks ran_out)
