@@ -1,11 +1,12 @@
 -- Exchanges, one after another, and where they stop.
-use Rattle.std.proofs.Common.{◌≡◌, ℕ, ◌+◌, ◌≤◌, List, [], ◌∷◌, ◌++◌, length, map, Option, Some, None, Result, Ok, Err, refl, sym, ap, subst, ◌∙◌, append_assoc, length-append, arith}
+use Rattle.std.proofs.Common.{◌≡◌, ℕ, ◌+◌, ◌≤◌, List, [], ◌∷◌, ◌++◌, length, map, inl, inr, Option, Some, None, Result, Ok, Err, refl, sym, ap, subst, ◌∙◌, append_assoc, length-append, arith}
 use Rattle.std.proofs.lemmas.List.{append-nil, map-append}
 use Rattle.std.proofs.lemmas.List.Elements.{All-nil, All-push}
 use Rattle.std.proofs.lemmas.Grind.{flat_map-append}
 use Rattle.std.specs.Prelude.{All, IsErrAnd, MatchResult}
 use Rattle.std.specs.List.{flat_map}
-use Rattle.std.specs.Io.KnownBytes.{Appends, Consumes}
+use Rattle.std.specs.Io.KnownBytes.{Appends, Consumes, Keeps}
+use Rattle.std.proofs.KnownBytes.{Appends-kept}
 use Rattle.cfg_world.specs.Faults.{Rose}
 use Rattle.cfg_world.specs.Fits.{Pair}
 use Rattle.cfg_world.specs.declared.ask.Question.{Question}
@@ -22,8 +23,9 @@ use Rattle.cfg_drive.specs.declared.driven.Cause.{Cause}
 use Rattle.cfg_drive.specs.declared.driven.Cause.TheVariants as cause
 use Rattle.cfg_drive.specs.declared.driven.Stopped.{Stopped}
 use Rattle.cfg_drive.specs.declared.driven.Stopped.TheVariants as stopped
-use Rattle.cfg_drive.specs.Conversations.{Exchange, IsExchange, Exchanges, IsCallOver, IsOpenCall, asked_lines, said_lines, journal_of, ended}
-use Rattle.cfg_drive.specs.Breaks.{IsUnread, IsUnanswered, Answers, StopsAnswer, Puts, StopsPut, StopsCall, EndsCall, from}
+use Rattle.cfg_drive.specs.Conversations.{Exchange, IsExchange, Exchanges, IsCallOver, IsOpenCall, AreAskedLines, asked_lines, said_lines, journal_of, ended}
+use Rattle.cfg_drive.specs.Breaks.{IsUnread, IsUnanswered, Answers, StopsAnswer, Puts, StopsPut, StopsCall, EndsCall, WritesPart, from}
+use Rattle.cfg_drive.proofs.Endings.{kept_refl, kept_trans}
 
 -- ---- known bytes
 
@@ -62,19 +64,31 @@ told a f b g = record { written = a; written_after = b; faults = f; faults_after
 pub rose_before : (f g h : ℕ) → f ≤ g → Rose g h → Rose f h
 rose_before f g h le r = omega arith
 
+-- ---- a part of what is written
+
+pub part_kept : (lines : List ℕ → Type 0) (v w w' : Option (List ℕ)) (k l m : ℕ) → WritesPart (told v k w l) lines → Keeps w w' → WritesPart (told v k w' m) lines
+part_kept lines v w w' k l m (inl kept) q = inl (kept_trans v w w' kept q)
+part_kept lines v w w' k l m (inr h) q = inr (h.0, h.1, (h.2.0, h.2.1, h.2.2, Appends-kept v w w' h.2.0 h.2.3 q))
+
+abbrev asked_on : (over : ChainSetting) (exchanges : List Exchange) (question : Question) (asked : List ℕ) → All IsExchange exchanges → IsOpenCall over exchanges question
+    → IsQuestionLine question asked → AreAskedLines over (asked_lines exchanges ++ asked)
+asked_on over exchanges question asked each is_next asks = record { exchanges = exchanges; each = each; question = question; next = is_next; asked = asked; asks = asks; all = refl }
+
 -- ---- exchanges
 
 -- the entries so far are those of exchanges, of which the next answer is the line of this number
-pub record Exchanged (source : SourceSeen) (sink : SinkSeen) (number : ℕ) (journal : List Pair) : Type 0 where
+pub record Exchanged (over : ChainSetting) (source : SourceSeen) (sink : SinkSeen) (number : ℕ) (journal : List Pair) : Type 0 where
   pub exchanges : List Exchange
   pub all : Exchanges source sink exchanges
+  pub part : WritesPart sink (λ lines. AreAskedLines over lines)
   pub is_journal : journal ≡ journal_of exchanges
   pub counted : number ≡ length exchanges + 2
 
-pub none_exchanged : (a w : Option (List ℕ)) (f g f' g' : ℕ) → Exchanged (seen a f a f') (told w g w g') 2 []
-none_exchanged a w f g f' g' = record {
+pub none_exchanged : (over : ChainSetting) (a w : Option (List ℕ)) (f g f' g' : ℕ) → Exchanged over (seen a f a f') (told w g w g') 2 []
+none_exchanged over a w f g f' g' = record {
   exchanges = [];
   all = record { each = All-nil IsExchange; read = read_nothing a; written = wrote_nothing w };
+  part = inl (kept_refl w);
   is_journal = refl;
   counted = omega arith;
 }
@@ -85,10 +99,18 @@ said_more xs x = ap (λ (t : List ℕ). said_lines xs ++ t) (sym (append-nil (en
 asked_more : (xs : List Exchange) (x : Exchange) → asked_lines xs ++ x.asked ≡ asked_lines (xs ++ x ∷ [])
 asked_more xs x = ap (λ (t : List ℕ). asked_lines xs ++ t) (sym (append-nil x.asked)) ∙ sym (flat_map-append (λ (y : Exchange). y.asked) xs (x ∷ []))
 
-pub one_exchanged : (a b c v w w' : Option (List ℕ)) (f g h k l m n : ℕ) (journal asked : List Pair) (question : Question) (receipt : Pair)
-    → Exchanged (seen a f b g) (told v k w l) n journal → asked ≡ journal → Puts (told w l w' m) question → Answers (seen b g c h) question receipt
-    → Exchanged (seen a f c h) (told v k w' m) (n + 1) (asked ++ receipt ∷ [])
-one_exchanged a b c v w w' f g h k l m n journal asked question receipt e is puts answers =
+-- the line of the question that is next was written
+pub part_put : (over : ChainSetting) (source : SourceSeen) (v w w' : Option (List ℕ)) (k l m n : ℕ) (journal : List Pair) (question : Question)
+    → (e : Exchanged over source (told v k w l) n journal) → IsOpenCall over e.exchanges question → Puts (told w l w' m) question
+    → WritesPart (told v k w' m) (λ lines. AreAskedLines over lines)
+part_put over source v w w' k l m n journal question e is_next puts =
+    let lines : List ℕ = asked_lines e.exchanges ++ puts.line in
+    inr (lines, asked_on over e.exchanges question puts.line e.all.each is_next puts.asks, (lines, [], sym (append-nil lines), wrote_then v w w' (asked_lines e.exchanges) puts.line e.all.written puts.written))
+
+pub one_exchanged : (over : ChainSetting) (a b c v w w' : Option (List ℕ)) (f g h k l m n : ℕ) (journal asked : List Pair) (question : Question) (receipt : Pair)
+    → (e : Exchanged over (seen a f b g) (told v k w l) n journal) → asked ≡ journal → IsOpenCall over e.exchanges question → Puts (told w l w' m) question
+    → Answers (seen b g c h) question receipt → Exchanged over (seen a f c h) (told v k w' m) (n + 1) (asked ++ receipt ∷ [])
+one_exchanged over a b c v w w' f g h k l m n journal asked question receipt e is is_next puts answers =
     let x : Exchange = record { entry = receipt; asked = puts.line; said = answers.line } in
     record {
       exchanges = e.exchanges ++ x ∷ [];
@@ -101,6 +123,7 @@ one_exchanged a b c v w w' f g h k l m n journal asked question receipt e is put
         read = subst (λ (t : List ℕ). Consumes a c t) (said_more e.exchanges x) (read_then a b c (said_lines e.exchanges) (ended answers.line) e.all.read answers.reads.read);
         written = subst (λ (t : List ℕ). Appends v w' t) (asked_more e.exchanges x) (wrote_then v w w' (asked_lines e.exchanges) puts.line e.all.written puts.written);
       };
+      part = part_put over (seen a f b g) v w w' k l m n journal question e is_next puts;
       is_journal = ap (λ (j : List Pair). j ++ receipt ∷ []) (is ∙ e.is_journal) ∙ sym (map-append (λ (y : Exchange). y.entry) e.exchanges (x ∷ []));
       counted = omega (arith, e.counted, length-append e.exchanges (x ∷ []));
     }
@@ -121,21 +144,19 @@ open_call over s question exchanges way e base is = record {
 -- ---- where a call stops
 
 pub stops_put : (over : ChainSetting) (a b v w w' : Option (List ℕ)) (f g k l m n : ℕ) (journal : List Pair) (question : Question) (s : Stopped)
-    → (e : Exchanged (seen a f b g) (told v k w l) n journal) → IsOpenCall over e.exchanges question → k ≤ l → StopsPut (told w l w' m) question s
+    → (e : Exchanged over (seen a f b g) (told v k w l) n journal) → IsOpenCall over e.exchanges question → k ≤ l → StopsPut (told w l w' m) question s
     → StopsCall over (seen a f b g) (told v k w' m) s
 stops_put over a b v w w' f g k l m n journal question (stopped.Broken broken) e is_next le h = absurd h
 stops_put over a b v w w' f g k l m n journal question stopped.Unwritten e is_next le h = record {
-  exchanges = e.exchanges;
-  each = e.all.each;
-  question = question;
-  next = is_next;
-  asked = h.line;
-  asks = h.asks;
+  lines = asked_lines e.exchanges ++ h.line;
+  call = asked_on over e.exchanges question h.line e.all.each is_next h.asks;
   written = wrote_part v w w' (asked_lines e.exchanges) h.line e.all.written h.written;
   failed = rose_before k l m le h.failed;
   read = e.all.read;
 }
-stops_put over a b v w w' f g k l m n journal question stopped.OutOfMemory e is_next le h = tt
+stops_put over a b v w w' f g k l m n journal question stopped.OutOfMemory e is_next le (inl kept) = part_kept (λ lines. AreAskedLines over lines) v w w' k l m e.part kept
+stops_put over a b v w w' f g k l m n journal question stopped.OutOfMemory e is_next le (inr h) =
+    inr (asked_lines e.exchanges ++ h.0, asked_on over e.exchanges question h.0 e.all.each is_next h.1, wrote_part v w w' (asked_lines e.exchanges) h.0 e.all.written h.2)
 
 unanswered_from : (a b c : Option (List ℕ)) (f g h : ℕ) (question : Question) (why : Cause) → f ≤ g → IsUnanswered (seen b g c h) question why → IsUnanswered (from (seen a f c h) b) question why
 unanswered_from a b c f g h question (cause.NoConfiguration reason) le u = u
@@ -145,15 +166,11 @@ unanswered_from a b c f g h question cause.Failed le u = rose_before f g h le u
 unanswered_from a b c f g h question cause.TooLong le u = u
 
 pub stops_answer : (over : ChainSetting) (a b c v w w' : Option (List ℕ)) (f g h k l m n : ℕ) (journal : List Pair) (question : Question) (s : Stopped)
-    → (e : Exchanged (seen a f b g) (told v k w l) n journal) → IsOpenCall over e.exchanges question → f ≤ g → Puts (told w l w' m) question → StopsAnswer (seen b g c h) question n s
+    → (e : Exchanged over (seen a f b g) (told v k w l) n journal) → IsOpenCall over e.exchanges question → f ≤ g → Puts (told w l w' m) question → StopsAnswer (seen b g c h) question n s
     → StopsCall over (seen a f c h) (told v k w' m) s
 stops_answer over a b c v w w' f g h k l m n journal question (stopped.Broken broken) e is_next le puts u = record {
-  exchanges = e.exchanges;
-  each = e.all.each;
-  question = question;
-  next = is_next;
-  asked = puts.line;
-  asks = puts.asks;
+  lines = asked_lines e.exchanges ++ puts.line;
+  call = asked_on over e.exchanges question puts.line e.all.each is_next puts.asks;
   written = wrote_then v w w' (asked_lines e.exchanges) puts.line e.all.written puts.written;
   rest = b;
   read = e.all.read;
@@ -161,16 +178,17 @@ stops_answer over a b c v w w' f g h k l m n journal question (stopped.Broken br
   why = unanswered_from a b c f g h question broken.cause le u.1;
 }
 stops_answer over a b c v w w' f g h k l m n journal question stopped.Unwritten e is_next le puts u = absurd u
-stops_answer over a b c v w w' f g h k l m n journal question stopped.OutOfMemory e is_next le puts u = tt
+stops_answer over a b c v w w' f g h k l m n journal question stopped.OutOfMemory e is_next le puts u = part_put over (seen a f b g) v w w' k l m n journal question e is_next puts
 
 -- ---- a whole call
 
 pub ends_call : (over : ChainSetting) (source : SourceSeen) (sink : SinkSeen) (s : CallSoFar) (n : ℕ) (journal before : List Pair) (out : Answer)
-    → (e : Exchanged source sink n before) → s.asked ≡ before → s.base ≡ no_states → IsCall over s.base s.kept s.found s.asked out → journal ≡ s.asked
+    → (e : Exchanged over source sink n before) → s.asked ≡ before → s.base ≡ no_states → IsCall over s.base s.kept s.found s.asked out → journal ≡ s.asked
     → EndsCall over source sink journal out
 ends_call over source sink s n journal before out e is base call whole = record {
   exchanges = e.exchanges;
   all = e.all;
+  part = e.part;
   is_journal = whole ∙ is ∙ e.is_journal;
   call = record {
     found = s.found;
@@ -182,8 +200,8 @@ ends_call over source sink s n journal before out e is base call whole = record 
 
 -- ---- the start of a call, and an error that a call hands on
 
-pub start_exchanged : (a w : Option (List ℕ)) (f k : ℕ) (asked : List Pair) → asked ≡ [] → Exchanged (seen a f a f) (told w k w k) 2 (asked ++ [])
-start_exchanged a w f k asked e = subst (λ (j : List Pair). Exchanged (seen a f a f) (told w k w k) 2 j) (sym (ap (λ (j : List Pair). j ++ []) e)) (none_exchanged a w f k f k)
+pub start_exchanged : (over : ChainSetting) (a w : Option (List ℕ)) (f k : ℕ) (asked : List Pair) → asked ≡ [] → Exchanged over (seen a f a f) (told w k w k) 2 (asked ++ [])
+start_exchanged over a w f k asked e = subst (λ (j : List Pair). Exchanged over (seen a f a f) (told w k w k) 2 j) (sym (ap (λ (j : List Pair). j ++ []) e)) (none_exchanged over a w f k f k)
 
 pub match_err : {A E : Type 0} (r : Result A E) (e : E) (P : A → Type 0) (Q : E → Type 0) → IsErrAnd r (λ f. f ≡ e) → Q e → MatchResult r P Q
 match_err (Ok x) e P Q h q = absurd h

@@ -1,5 +1,5 @@
 -- A conversation from its first line to its last.
-use Rattle.std.proofs.Common.{◌≡◌, ℕ, ◌≤◌, List, [], Bool, ◌⊎◌, inl, inr, Option, Some, None, option_map, refl, sym, ap, subst, ◌∙◌}
+use Rattle.std.proofs.Common.{◌≡◌, ℕ, ◌≤◌, List, [], ◌++◌, Bool, ◌⊎◌, inl, inr, Option, Some, None, option_map, refl, sym, ap, subst, ◌∙◌}
 use Rattle.std.specs.Io.KnownBytes.{Appends, prepend_known}
 use Rattle.cfg_world.specs.Faults.{Rose}
 use Rattle.cfg_world.specs.Fits.{Pair}
@@ -19,12 +19,12 @@ use Rattle.cfg_drive.specs.declared.driven.Driven.TheVariants as driven
 use Rattle.cfg_drive.specs.declared.driven.Stopped.{Stopped}
 use Rattle.cfg_drive.specs.declared.driven.Stopped.TheVariants as stopped
 use Rattle.cfg_drive.specs.Configured.{IsConfiguration, IsCauseOf, Misconfigures, setting_of}
-use Rattle.cfg_drive.specs.Conversations.{asked_lines}
-use Rattle.cfg_drive.specs.Breaks.{BreaksCall, FailsInCall, EndsCall, StopsCall, StopsLine, IsUnread, IsUnanswered, Reads, from}
+use Rattle.cfg_drive.specs.Conversations.{AreAskedLines, asked_lines}
+use Rattle.cfg_drive.specs.Breaks.{BreaksCall, FailsInCall, EndsCall, StopsCall, StopsLine, IsUnread, IsUnanswered, Reads, WritesPart, from}
 use Rattle.cfg_drive.specs.Outcomes.{IsBrokenLine, IsOutcomeLine, WritesOutcome, FailsOutcome, StopsOutcome}
-use Rattle.cfg_drive.specs.Driven.{EndsDriven, Stops, StopsBehind, Fails, Tells, TellsCall, FailsAtEnd, TellsBreak, TellsWhy, Breaks, Configures, IsUnconfigured, with_ahead}
+use Rattle.cfg_drive.specs.Driven.{EndsDriven, Stops, StopsBehind, Fails, Tells, TellsCall, AreToldLines, AreCallLines, FailsAtEnd, TellsBreak, TellsWhy, Breaks, Configures, IsUnconfigured, with_ahead}
 use Rattle.cfg_drive.proofs.Endings.{kept_refl}
-use Rattle.cfg_drive.proofs.Exchanging.{seen, told, rose_before, wrote_then, wrote_part}
+use Rattle.cfg_drive.proofs.Exchanging.{seen, told, part_kept, rose_before, wrote_then, wrote_part}
 
 -- ---- the first line
 
@@ -38,7 +38,7 @@ unread_first source cause.TooLong u = u
 pub stops_line : (source : SourceSeen) (w : Option (List ℕ)) (k : ℕ) (s : Stopped) → StopsLine source 1 s → Stops source (told w k w k) s
 stops_line source w k (stopped.Broken broken) h = inl (record { number = h.0; why = unread_first source broken.cause h.1; written = kept_refl w })
 stops_line source w k stopped.Unwritten h = absurd h
-stops_line source w k stopped.OutOfMemory h = tt
+stops_line source w k stopped.OutOfMemory h = inl (kept_refl w)
 
 misread : (source : SourceSeen) (line : List ℕ) (why : Cause) → Reads source line → IsCauseOf line why → IsUnconfigured source why
 misread source line (cause.NoConfiguration reason) r h = (line, r, h)
@@ -50,7 +50,7 @@ misread source line cause.TooLong r h = absurd h
 pub stops_configured : (source : SourceSeen) (w : Option (List ℕ)) (k : ℕ) (line : List ℕ) (s : Stopped) → Reads source line → Misconfigures line s → Stops source (told w k w k) s
 stops_configured source w k line (stopped.Broken broken) r h = inl (record { number = h.0; why = misread source line broken.cause r h.1; written = kept_refl w })
 stops_configured source w k line stopped.Unwritten r h = absurd h
-stops_configured source w k line stopped.OutOfMemory r h = tt
+stops_configured source w k line stopped.OutOfMemory r h = inl (kept_refl w)
 
 -- ---- behind the first line
 
@@ -68,36 +68,32 @@ unanswered_later a b f g h asked cause.TooLong le u = u
 
 breaks_later : (over : ChainSetting) (a b : Option (List ℕ)) (f g h : ℕ) (sink : SinkSeen) (broken : Break) → f ≤ g → BreaksCall over (seen a g b h) sink broken → BreaksCall over (seen a f b h) sink broken
 breaks_later over a b f g h sink broken le c = record {
-  exchanges = c.exchanges;
-  each = c.each;
-  question = c.question;
-  next = c.next;
-  asked = c.asked;
-  asks = c.asks;
+  lines = c.lines;
+  call = c.call;
   written = c.written;
   rest = c.rest;
   read = c.read;
   number = c.number;
-  why = unanswered_later c.rest b f g h c.question broken.cause le c.why;
+  why = unanswered_later c.rest b f g h c.call.question broken.cause le c.why;
 }
 
 fails_later : (over : ChainSetting) (a b : Option (List ℕ)) (f g h : ℕ) (sink : SinkSeen) → FailsInCall over (seen a g b h) sink → FailsInCall over (seen a f b h) sink
 fails_later over a b f g h sink c = record {
-  exchanges = c.exchanges;
-  each = c.each;
-  question = c.question;
-  next = c.next;
-  asked = c.asked;
-  asks = c.asks;
+  lines = c.lines;
+  call = c.call;
   written = c.written;
   failed = c.failed;
   read = c.read;
 }
 
+part_as : (sink : SinkSeen) (some others : List ℕ → Type 0) → ((lines : List ℕ) → some lines → others lines) → WritesPart sink some → WritesPart sink others
+part_as sink some others each (inl kept) = inl kept
+part_as sink some others each (inr h) = inr (h.0, each h.0 h.1, h.2)
+
 pub call_stops : (over : ChainSetting) (source : SourceSeen) (sink : SinkSeen) (s : Stopped) → StopsCall over source sink s → StopsBehind over source sink s
 call_stops over source sink (stopped.Broken broken) h = h
 call_stops over source sink stopped.Unwritten h = inl h
-call_stops over source sink stopped.OutOfMemory h = tt
+call_stops over source sink stopped.OutOfMemory h = part_as sink (λ lines. AreAskedLines over lines) (λ lines. AreCallLines over lines) (λ lines asked. inl asked) h
 
 pub tells_call : (over : ChainSetting) (source : SourceSeen) (v w w' : Option (List ℕ)) (k l m : ℕ) (journal : List Pair) (out : Answer) (is_credentials : Bool)
     → EndsCall over source (told v k w l) journal out → WritesOutcome over (told w l w' m) out journal is_credentials → TellsCall over source (told v k w' m) is_credentials
@@ -113,15 +109,23 @@ tells_call over source v w w' k l m journal out is_credentials e o = record {
   written = wrote_then v w w' (asked_lines e.exchanges) o.line e.all.written o.written;
 }
 
-fails_at_end : (over : ChainSetting) (source : SourceSeen) (v w w' : Option (List ℕ)) (k l m : ℕ) (journal : List Pair) (out : Answer)
-    → k ≤ l → EndsCall over source (told v k w l) journal out → FailsOutcome over (told w l w' m) out journal → FailsAtEnd over source (told v k w' m)
-fails_at_end over source v w w' k l m journal out le e o = record {
+abbrev told_lines : (over : ChainSetting) (source : SourceSeen) (sink : SinkSeen) (journal : List Pair) (out : Answer) (line : List ℕ)
+    → (e : EndsCall over source sink journal out) → IsOutcomeLine over out journal line → AreToldLines over (asked_lines e.exchanges ++ line)
+told_lines over source sink journal out line e tells = record {
   exchanges = e.exchanges;
   each = e.all.each;
   out = out;
   call = e.call;
-  line = o.line;
-  tells = subst (λ (j : List Pair). IsOutcomeLine over out j o.line) e.is_journal o.tells;
+  line = line;
+  tells = subst (λ (j : List Pair). IsOutcomeLine over out j line) e.is_journal tells;
+  all = refl;
+}
+
+fails_at_end : (over : ChainSetting) (source : SourceSeen) (v w w' : Option (List ℕ)) (k l m : ℕ) (journal : List Pair) (out : Answer)
+    → k ≤ l → EndsCall over source (told v k w l) journal out → FailsOutcome over (told w l w' m) out journal → FailsAtEnd over source (told v k w' m)
+fails_at_end over source v w w' k l m journal out le e o = record {
+  lines = asked_lines e.exchanges ++ o.line;
+  call = told_lines over source (told v k w l) journal out o.line e o.tells;
   read = e.all.read;
   written = wrote_part v w w' (asked_lines e.exchanges) o.line e.all.written o.written;
   failed = rose_before k l m le o.failed;
@@ -131,7 +135,10 @@ pub outcome_stops : (over : ChainSetting) (source : SourceSeen) (v w w' : Option
     → k ≤ l → EndsCall over source (told v k w l) journal out → StopsOutcome over (told w l w' m) out journal s → StopsBehind over source (told v k w' m) s
 outcome_stops over source v w w' k l m journal out (stopped.Broken broken) le e o = absurd o
 outcome_stops over source v w w' k l m journal out stopped.Unwritten le e o = inr (fails_at_end over source v w w' k l m journal out le e o)
-outcome_stops over source v w w' k l m journal out stopped.OutOfMemory le e o = tt
+outcome_stops over source v w w' k l m journal out stopped.OutOfMemory le e (inl kept) =
+    call_stops over source (told v k w' m) stopped.OutOfMemory (part_kept (λ lines. AreAskedLines over lines) v w w' k l m e.part kept)
+outcome_stops over source v w w' k l m journal out stopped.OutOfMemory le e (inr h) =
+    inr (asked_lines e.exchanges ++ h.0, inr (told_lines over source (told v k w l) journal out h.0 e h.1), wrote_part v w w' (asked_lines e.exchanges) h.0 e.all.written h.2)
 
 tells_later : (over : ChainSetting) (b c : Option (List ℕ)) (f g h : ℕ) (sink : SinkSeen) (is_credentials : Bool) → TellsCall over (seen b g c h) sink is_credentials → TellsCall over (seen b f c h) sink is_credentials
 tells_later over b c f g h sink is_credentials t = record {
@@ -147,17 +154,7 @@ tells_later over b c f g h sink is_credentials t = record {
 }
 
 fails_end_later : (over : ChainSetting) (b c : Option (List ℕ)) (f g h : ℕ) (sink : SinkSeen) → FailsAtEnd over (seen b g c h) sink → FailsAtEnd over (seen b f c h) sink
-fails_end_later over b c f g h sink t = record {
-  exchanges = t.exchanges;
-  each = t.each;
-  out = t.out;
-  call = t.call;
-  line = t.line;
-  tells = t.tells;
-  read = t.read;
-  written = t.written;
-  failed = t.failed;
-}
+fails_end_later over b c f g h sink t = record { lines = t.lines; call = t.call; read = t.read; written = t.written; failed = t.failed }
 
 pub tells : (a b c : Option (List ℕ)) (f g h : ℕ) (sink : SinkSeen) (line : List ℕ) (p : Plain) (is_credentials : Bool)
     → Reads (seen a f b g) line → IsConfiguration line p → TellsCall (setting_of p) (seen b g c h) sink is_credentials → Tells (seen a f c h) sink is_credentials
@@ -176,7 +173,9 @@ pub stops_behind : (a b c : Option (List ℕ)) (f g h : ℕ) (sink : SinkSeen) (
 stops_behind a b c f g h sink line p (stopped.Broken broken) r is le u =
     inr (configures a b c f g h line p (λ over later. BreaksCall over later sink broken) r is (breaks_later (setting_of p) b c f g h sink broken le u))
 stops_behind a b c f g h sink line p stopped.Unwritten r is le u = fails a b c f g h sink line p r is u
-stops_behind a b c f g h sink line p stopped.OutOfMemory r is le u = tt
+stops_behind a b c f g h sink line p stopped.OutOfMemory r is le u =
+    part_as sink (λ lines. AreCallLines (setting_of p) lines) (λ lines. Configures (seen a f c h) (λ over later. AreCallLines over lines))
+    (λ lines call. configures a b c f g h line p (λ over later. AreCallLines over lines) r is call) u
 
 -- ---- the end
 
@@ -186,12 +185,8 @@ none_ahead (Some bytes) = refl
 
 breaks_call_to : (over : ChainSetting) (source : SourceSeen) (v w : Option (List ℕ)) (k l m : ℕ) (broken : Break) → BreaksCall over source (told v k w l) broken → BreaksCall over source (told v k w m) broken
 breaks_call_to over source v w k l m broken c = record {
-  exchanges = c.exchanges;
-  each = c.each;
-  question = c.question;
-  next = c.next;
-  asked = c.asked;
-  asks = c.asks;
+  lines = c.lines;
+  call = c.call;
   written = c.written;
   rest = c.rest;
   read = c.read;
@@ -233,7 +228,7 @@ ends_broken source v w w' k l m broken driven.Refused le b h = absurd h
 ends_broken source v w w' k l m broken (driven.Broken told_break) le b h =
     subst (λ (x : Break). TellsBreak source (told v k w' m) x) (sym h.0) (tells_break source v w w' k l m broken le b h.1)
 ends_broken source v w w' k l m broken driven.Unwritten le b h = absurd h
-ends_broken source v w w' k l m broken driven.OutOfMemory le b h = tt
+ends_broken source v w w' k l m broken driven.OutOfMemory le b h = inr (broken, w, breaks_to source v w k l m broken b, h)
 
 -- ---- the chain
 
@@ -244,15 +239,10 @@ setting_is over conf own p e f h =
 
 -- ---- what was read ahead
 
-pub ends_told : (a b : Option (List ℕ)) (f h : ℕ) (sink : SinkSeen) (reader ahead : List ℕ) (is_credentials : Bool) → reader ≡ []
-    → Tells (seen (prepend_known reader a) f (prepend_known ahead b) h) sink is_credentials → (x : List ℕ) × Tells (with_ahead x (seen a f b h)) sink is_credentials
-ends_told a b f h sink reader ahead is_credentials e t =
-    (ahead, subst (λ (z : Option (List ℕ)). Tells (seen z f (prepend_known ahead b) h) sink is_credentials) (ap (λ (l : List ℕ). prepend_known l a) e ∙ none_ahead a) t)
-
-pub ends_failed : (a b : Option (List ℕ)) (f h : ℕ) (sink : SinkSeen) (reader ahead : List ℕ) → reader ≡ []
-    → Fails (seen (prepend_known reader a) f (prepend_known ahead b) h) sink → (x : List ℕ) × Fails (with_ahead x (seen a f b h)) sink
-ends_failed a b f h sink reader ahead e t =
-    (ahead, subst (λ (z : Option (List ℕ)). Fails (seen z f (prepend_known ahead b) h) sink) (ap (λ (l : List ℕ). prepend_known l a) e ∙ none_ahead a) t)
+pub ends_as : (ends : SourceSeen → Type 0) (a b : Option (List ℕ)) (f h : ℕ) (reader ahead : List ℕ) → reader ≡ []
+    → ends (seen (prepend_known reader a) f (prepend_known ahead b) h) → (x : List ℕ) × ends (with_ahead x (seen a f b h))
+ends_as ends a b f h reader ahead e t =
+    (ahead, subst (λ (z : Option (List ℕ)). ends (seen z f (prepend_known ahead b) h)) (ap (λ (l : List ℕ). prepend_known l a) e ∙ none_ahead a) t)
 
 pub ends_by_break : (a b v w w' : Option (List ℕ)) (f h k l m : ℕ) (reader ahead : List ℕ) (broken : Break) (d : Driven) → reader ≡ [] → k ≤ l
     → Breaks (seen (prepend_known reader a) f (prepend_known ahead b) h) (told v k w l) broken → TellsWhy (told w l w' m) broken d

@@ -1,6 +1,6 @@
 -- Why a conversation stops.
-use Rattle.std.specs.Prelude.{◌≡◌, ℕ, ◌+◌, List, ◌++◌, All, length, Option, Some, IfSome, ⊤}
-use Rattle.std.specs.Io.KnownBytes.{Appends, Consumes}
+use Rattle.std.specs.Prelude.{◌≡◌, ℕ, ◌+◌, List, length, Option, Some, IfSome, ◌⊎◌, ⊤}
+use Rattle.std.specs.Io.KnownBytes.{Appends, Consumes, Keeps}
 use Rattle.cfg_world.specs.Faults.{Rose}
 use Rattle.cfg_world.specs.Fits.{Pair}
 use Rattle.cfg_world.specs.declared.ask.Question.{Question}
@@ -15,8 +15,13 @@ use Rattle.cfg_drive.specs.declared.driven.Cause.{Cause}
 use Rattle.cfg_drive.specs.declared.driven.Cause.TheVariants as cause
 use Rattle.cfg_drive.specs.declared.driven.Stopped.{Stopped}
 use Rattle.cfg_drive.specs.declared.driven.Stopped.TheVariants as stopped
-use Rattle.cfg_drive.specs.Conversations.{Exchange, IsExchange, Exchanges, IsCallOver, IsOpenCall, asked_lines, said_lines, journal_of, ended}
+use Rattle.cfg_drive.specs.Conversations.{Exchange, Exchanges, AreAskedLines, IsCallOver, said_lines, journal_of, ended}
 use Rattle.cfg_drive.specs.Lines.{HasNoEnd, IsLine, IsTooLong}
+
+-- nothing was written, or a prefix of such lines
+abbrev pub WritesPart : SinkSeen → (List ℕ → Type 0) → Type 0
+WritesPart sink AreLines = Keeps sink.written sink.written_after
+    ⊎ ((lines : List ℕ) × AreLines lines × GrowsByPrefix sink.written sink.written_after lines)
 
 -- no line was read of what was left: the input ended, failed, or has no end of a line where one may be
 abbrev pub IsUnread : SourceSeen → Cause → Type 0
@@ -74,11 +79,11 @@ pub record FailsAt (sink : SinkSeen) (question : Question) : Type 0 where
   pub written : GrowsByPrefix sink.written sink.written_after line
   pub failed : Rose sink.faults sink.faults_after
 
--- the question's line was not written; or memory ran out
+-- the question's line was not written, or in part: the sink failed, or memory ran out
 abbrev pub StopsPut : SinkSeen → Question → Stopped → Type 0
 StopsPut sink question (stopped.Broken broken) = ⊥
 StopsPut sink question stopped.Unwritten = FailsAt sink question
-StopsPut sink question stopped.OutOfMemory = ⊤
+StopsPut sink question stopped.OutOfMemory = WritesPart sink (λ line. IsQuestionLine question line)
 
 -- what was seen of the source behind a place
 abbrev pub from : SourceSeen → Option (List ℕ) → SourceSeen
@@ -86,39 +91,33 @@ from source rest = record source { left = rest }
 
 -- A call of a chain of this setting broke off at its open question, which was written, since no answer was read.
 pub record BreaksCall (over : ChainSetting) (source : SourceSeen) (sink : SinkSeen) (broken : Broken) : Type 0 where
-  pub exchanges : List Exchange
-  pub each : All IsExchange exchanges
-  pub question : Question
-  pub next : IsOpenCall over exchanges question
-  pub asked : List ℕ
-  pub asks : IsQuestionLine question asked
-  pub written : Appends sink.written sink.written_after (asked_lines exchanges ++ asked)
+  pub lines : List ℕ
+  pub call : AreAskedLines over lines
+  pub written : Appends sink.written sink.written_after lines
   pub rest : Option (List ℕ)
-  pub read : Consumes source.left rest (said_lines exchanges)
-  pub number : broken.line ≡ length exchanges + 2
-  pub why : IsUnanswered (from source rest) question broken.cause
+  pub read : Consumes source.left rest (said_lines call.exchanges)
+  pub number : broken.line ≡ length call.exchanges + 2
+  pub why : IsUnanswered (from source rest) call.question broken.cause
 
 -- The sink failed in the line of the question that such a call asks next.
 pub record FailsInCall (over : ChainSetting) (source : SourceSeen) (sink : SinkSeen) : Type 0 where
-  pub exchanges : List Exchange
-  pub each : All IsExchange exchanges
-  pub question : Question
-  pub next : IsOpenCall over exchanges question
-  pub asked : List ℕ
-  pub asks : IsQuestionLine question asked
-  pub written : GrowsByPrefix sink.written sink.written_after (asked_lines exchanges ++ asked)
+  pub lines : List ℕ
+  pub call : AreAskedLines over lines
+  pub written : GrowsByPrefix sink.written sink.written_after lines
   pub failed : Rose sink.faults sink.faults_after
-  pub read : Consumes source.left source.left_after (said_lines exchanges)
+  pub read : Consumes source.left source.left_after (said_lines call.exchanges)
 
 -- how a call stops before its end
 abbrev pub StopsCall : ChainSetting → SourceSeen → SinkSeen → Stopped → Type 0
 StopsCall over source sink (stopped.Broken broken) = BreaksCall over source sink broken
 StopsCall over source sink stopped.Unwritten = FailsInCall over source sink
-StopsCall over source sink stopped.OutOfMemory = ⊤
+StopsCall over source sink stopped.OutOfMemory = WritesPart sink (λ lines. AreAskedLines over lines)
 
--- the call answered this over these entries, and all that was read and written are its exchanges
+-- the call answered this over these entries, and all that was read and written are its exchanges; what was written are the
+-- lines of the questions that it asked, in turn
 pub record EndsCall (over : ChainSetting) (source : SourceSeen) (sink : SinkSeen) (journal : List Pair) (out : Answer) : Type 0 where
   pub exchanges : List Exchange
   pub all : Exchanges source sink exchanges
+  pub part : WritesPart sink (λ lines. AreAskedLines over lines)
   pub is_journal : journal ≡ journal_of exchanges
   pub call : IsCallOver over exchanges out

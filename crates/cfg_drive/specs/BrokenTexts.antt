@@ -24,3 +24,7 @@ cause_text cause.TooLong = Some (codes "more than 1048576 bytes")
 -- the number of the line, and why
 abbrev pub broken_text : Broken → Option (List ℕ)
 broken_text b = Some (codes "line " ++ (decimal b.line ++ codes ": ")) ++? cause_text b.cause
+
+-- the same, where this is told of why
+abbrev pub reason_text : ℕ → List ℕ → List ℕ
+reason_text line why = codes "line " ++ decimal line ++ codes ": " ++ why

@@ -69,3 +69,13 @@ pub record IsOpenCall (over : ChainSetting) (exchanges : List Exchange) (questio
   pub kept : States
   pub member : Option Member
   pub waits : IsWaitingCall over no_states kept found (journal_of exchanges) question member
+
+-- They are the lines of such an open call: those of its exchanges, and that of the question that it asks next.
+pub record AreAskedLines (over : ChainSetting) (lines : List ℕ) : Type 0 where
+  pub exchanges : List Exchange
+  pub each : All IsExchange exchanges
+  pub question : Question
+  pub next : IsOpenCall over exchanges question
+  pub asked : List ℕ
+  pub asks : IsQuestionLine question asked
+  pub all : lines ≡ asked_lines exchanges ++ asked

@@ -1,5 +1,5 @@
 -- The lines of outcomes.
-use Rattle.std.specs.Prelude.{◌≡◌, ℕ, List, [], ◌∷◌, ◌++◌, Bool, is_ok, Some, IfSome, Ok, Err, ⊤, codes}
+use Rattle.std.specs.Prelude.{◌≡◌, ℕ, List, [], ◌∷◌, ◌++◌, Bool, is_ok, Some, IfSome, Ok, Err, codes}
 use Rattle.std.specs.Str.{encode_utf8_all}
 use Rattle.std.specs.Io.KnownBytes.{Appends}
 use Rattle.serde_json.specs.Data.{Data, string}
@@ -20,7 +20,8 @@ use Rattle.cfg_error_report.specs.Lines.{Line, one_line}
 use Rattle.cfg_lines.specs.Members.{object_with, text_value, whole, signed, list_value, has, may_have}
 use Rattle.cfg_program.specs.Lines.{shown}
 use Rattle.cfg_program.specs.Streams.{SinkSeen, GrowsByPrefix}
-use Rattle.cfg_drive.specs.BrokenTexts.{broken_text}
+use Rattle.cfg_drive.specs.BrokenTexts.{cause_text, reason_text}
+use Rattle.cfg_drive.specs.Breaks.{WritesPart}
 use Rattle.cfg_drive.specs.Lines.{HasNoEnd}
 use Rattle.cfg_drive.specs.declared.driven.Broken.{Broken}
 use Rattle.cfg_drive.specs.declared.driven.Stopped.{Stopped}
@@ -94,11 +95,11 @@ pub record IsOutcomeLine (over : ChainSetting) (out : Answer) (journal : List Pa
   pub shows : shown out journal ≡ resolved ++ codes "\n"
   pub tells : IsJsonLine (outcome_value over out resolved) line
 
--- the line of a conversation that broke off
+-- the line of a conversation that broke off, with the number of the line there
 pub record IsBrokenLine (broken : Broken) (line : List ℕ) : Type 0 where
-  pub reason : List ℕ
-  pub says : IfSome (broken_text broken) (λ text. reason ≡ text)
-  pub tells : IsJsonLine (broken_value reason) line
+  pub why : List ℕ
+  pub says : IfSome (cause_text broken.cause) (λ text. why ≡ text)
+  pub tells : IsJsonLine (broken_value (reason_text broken.line why)) line
 
 -- the line of the outcome was written, and this is whether it is credentials
 pub record WritesOutcome (over : ChainSetting) (sink : SinkSeen) (out : Answer) (journal : List Pair) (is_credentials : Bool) : Type 0 where
@@ -117,4 +118,4 @@ pub record FailsOutcome (over : ChainSetting) (sink : SinkSeen) (out : Answer) (
 abbrev pub StopsOutcome : ChainSetting → SinkSeen → Answer → List Pair → Stopped → Type 0
 StopsOutcome over sink out journal (stopped.Broken broken) = ⊥
 StopsOutcome over sink out journal stopped.Unwritten = FailsOutcome over sink out journal
-StopsOutcome over sink out journal stopped.OutOfMemory = ⊤
+StopsOutcome over sink out journal stopped.OutOfMemory = WritesPart sink (λ line. IsOutcomeLine over out journal line)

@@ -24,7 +24,8 @@ use std::alloc::Global;
 /// One call of the default chain over a conversation of lines: reads the configuration from the source, writes each
 /// question of the call to the sink, and reads its answer from the source, and last writes the outcome. Where the
 /// conversation breaks off it asks nothing more, tells no credentials, and writes why, unless it is the sink that failed.
-/// Bytes that the source gives behind a line's end may be read ahead.
+/// Where memory runs out, what was written is the beginning of the lines of such a conversation, and what was read may be
+/// lost. Bytes that the source gives behind a line's end may be read ahead.
 pub fn drive<S: Source, K: Sink>(alloc: Global, source: &mut S, sink: &mut K) -> Driven
     ensures { (ahead : List ℕ) × EndsDriven (with_ahead ahead (source_seen ⟦<S as Source>⟧ source.old source.new))
         (sink_seen ⟦<K as Sink>⟧ sink.old sink.new) result }

@@ -10,6 +10,7 @@ ghost use Rattle.cfg_error_report.specs.CredentialsCauses.{causes_of as causes_o
 ghost use Rattle.cfg_error_report.specs.Lines.{one_line};
 ghost use Rattle.cfg_lines.specs.Members.{put_or_keep, text_value, list_value};
 ghost use Rattle.cfg_program.specs.Lines.{shown};
+ghost use Rattle.cfg_drive.specs.BrokenTexts.{reason_text};
 ghost use Rattle.cfg_drive.specs.Objects.{told_in};
 ghost use Rattle.cfg_drive.specs.Outcomes.{moment_value, cause_value, causes_value, passed_over_value, credentials_value, error_value, outcome_value, broken_value, IsJsonLine, IsOutcomeLine, IsBrokenLine};
 
@@ -43,9 +44,17 @@ pub(crate) fn outcome_line(
 pub(crate) fn broken_line(alloc: Global, broken: &Broken) -> Result<Vec<u8>, OutOfMemory>
     ensures { IfOk result (λ line. IsBrokenLine broken.now line.items) }
 {
-    let reason = broken.to_string(alloc)?;
+    let why = broken.cause.to_string(alloc)?;
+    let reason = reason_of(alloc, broken.line, why.as_str())?;
     let value = broken_as_value(alloc, reason.as_str())?;
     json_line(alloc, &value)
+}
+
+// The number of the line, and why.
+fn reason_of(alloc: Global, line: u64, why: &str) -> Result<String, OutOfMemory>
+    ensures { IfOk result (λ reason. string_bytes reason ≡ reason_text line why.now) }
+{
+    Ok(format!(in alloc; "line {line}: {why}")?)
 }
 
 #[tactic(auto, unfolding(cfg_lines::specs::Members::object_with, crate::specs::Outcomes::broken_value))]

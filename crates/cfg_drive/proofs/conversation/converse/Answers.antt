@@ -1,8 +1,12 @@
 -- The first line configures the call.
 use Rattle.std.proofs.lemmas.Result.{MatchResult-weaker}
 use Rattle.cfg_drive.proofs.Exchanging.{match_err}
-use Rattle.cfg_drive.proofs.Telling.{stops_configured, tells, stops_behind}
+use Rattle.cfg_drive.proofs.Telling.{stops_line, stops_configured, tells, stops_behind}
 use Rattle.cfg_drive.proofs.conversation.converse.Goals as goal
+
+pub returns-in_err-first-clause-ends : goal.returns-in_err-first-clause-ends
+returns-in_err-first-clause-ends g c =
+    match_err _ c.in_err-first.field-0.0 _ _ c.from_residual.ensures.1 (stops_line _ _ _ c.in_err-first.field-0.0 c.in_err-first.ensures.line)
 
 pub returns-in_err-script-clause-ends : goal.returns-in_err-script-clause-ends
 returns-in_err-script-clause-ends g c =

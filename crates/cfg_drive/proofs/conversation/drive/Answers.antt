@@ -1,17 +1,22 @@
 -- What was read ahead is what the reader holds at the end.
+use Rattle.std.proofs.Common.{true, false, inl}
 use Rattle.cfg_program.specs.Streams.{sink_seen}
-use Rattle.cfg_drive.proofs.Telling.{ends_told, ends_failed, ends_by_break}
+use Rattle.cfg_drive.specs.Driven.{EndsDriven, Fails, Tells}
+use Rattle.cfg_drive.specs.declared.driven.Driven.TheVariants.{OutOfMemory}
+use Rattle.cfg_drive.proofs.Telling.{ends_as, ends_by_break}
 use Rattle.cfg_drive.proofs.conversation.drive.Goals as goal
 
 pub returns-in-Ok-true : goal.returns-in-Ok-true
 returns-in-Ok-true g c =
-    ends_told (g.S.Source.left c.args.source.now) (g.S.Source.left c.converse.new.source) (g.S.Source.faults c.args.source.now) (g.S.Source.faults c.converse.new.source)
-    (sink_seen g.K.Sink c.args.sink.now c.converse.new.sink) c.new-reader.result c.converse.new.reader _ c.new-reader.ensures (rw c.in-Ok-true.field-0-test at c.in-Ok-true.ensures.ends)
+    let sink = sink_seen g.K.Sink c.args.sink.now c.converse.new.sink in
+    ends_as (λ source. Tells source sink true) (g.S.Source.left c.args.source.now) (g.S.Source.left c.converse.new.source) (g.S.Source.faults c.args.source.now) (g.S.Source.faults c.converse.new.source)
+    c.new-reader.result c.converse.new.reader c.new-reader.ensures (rw c.in-Ok-true.field-0-test at c.in-Ok-true.ensures.ends)
 
 pub returns-in-Ok-false : goal.returns-in-Ok-false
 returns-in-Ok-false g c =
-    ends_told (g.S.Source.left c.args.source.now) (g.S.Source.left c.converse.new.source) (g.S.Source.faults c.args.source.now) (g.S.Source.faults c.converse.new.source)
-    (sink_seen g.K.Sink c.args.sink.now c.converse.new.sink) c.new-reader.result c.converse.new.reader _ c.new-reader.ensures (rw c.in-Ok-false.field-0-test at c.in-Ok-false.ensures.ends)
+    let sink = sink_seen g.K.Sink c.args.sink.now c.converse.new.sink in
+    ends_as (λ source. Tells source sink false) (g.S.Source.left c.args.source.now) (g.S.Source.left c.converse.new.source) (g.S.Source.faults c.args.source.now) (g.S.Source.faults c.converse.new.source)
+    c.new-reader.result c.converse.new.reader c.new-reader.ensures (rw c.in-Ok-false.field-0-test at c.in-Ok-false.ensures.ends)
 
 pub returns-in-Err-Broken : goal.returns-in-Err-Broken
 returns-in-Err-Broken g c =
@@ -22,5 +27,12 @@ returns-in-Err-Broken g c =
 
 pub returns-in-Err-Unwritten : goal.returns-in-Err-Unwritten
 returns-in-Err-Unwritten g c =
-    ends_failed (g.S.Source.left c.args.source.now) (g.S.Source.left c.converse.new.source) (g.S.Source.faults c.args.source.now) (g.S.Source.faults c.converse.new.source)
-    (sink_seen g.K.Sink c.args.sink.now c.converse.new.sink) c.new-reader.result c.converse.new.reader c.new-reader.ensures (rw c.in-Err-Unwritten.field-0-is at c.in-Err-Unwritten.ensures.ends)
+    let sink = sink_seen g.K.Sink c.args.sink.now c.converse.new.sink in
+    ends_as (λ source. Fails source sink) (g.S.Source.left c.args.source.now) (g.S.Source.left c.converse.new.source) (g.S.Source.faults c.args.source.now) (g.S.Source.faults c.converse.new.source)
+    c.new-reader.result c.converse.new.reader c.new-reader.ensures (rw c.in-Err-Unwritten.field-0-is at c.in-Err-Unwritten.ensures.ends)
+
+pub returns : goal.returns
+returns g c =
+    let sink = sink_seen g.K.Sink c.args.sink.now c.converse.new.sink in
+    ends_as (λ source. EndsDriven source sink OutOfMemory) (g.S.Source.left c.args.source.now) (g.S.Source.left c.converse.new.source) (g.S.Source.faults c.args.source.now) (g.S.Source.faults c.converse.new.source)
+    c.new-reader.result c.converse.new.reader c.new-reader.ensures (inl (rw c.in-Err-OutOfMemory.field-0-is at c.in-Err-OutOfMemory.ensures.ends))

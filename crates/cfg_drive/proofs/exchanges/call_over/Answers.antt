@@ -13,7 +13,7 @@ loop-line-init g c = record {
   under_way = c.start-run.ensures.under_way;
   base = ap (λ p. p.base) c.start-run.ensures.nothing ∙ c.in_ok-new_kept.ensures.nothing;
   fits = tt;
-  exchanged = start_exchanged _ _ _ _ _ (ap (λ p. p.asked) c.start-run.ensures.nothing);
+  exchanged = start_exchanged _ _ _ _ _ _ (ap (λ p. p.asked) c.start-run.ensures.nothing);
   source_counted = omega arith;
   sink_counted = omega arith;
 }
@@ -62,12 +62,15 @@ loop-line-preserved g c =
     let comes = rw c.in-Pending.is at c.in_ok-poll.ensures.comes in
     let shown = sym c.question.ensures ∙ ap option_copied c.unwrap.ensures ∙ ap Some (sym c.in_ok-question-in-Pending.ensures) in
     let answers = c.in_ok-answer-in-Pending.ensures.answer in
+    let so_far = c.loop-line.invariant.exchanged in
+    let way = subst (λ over. IsUnderWay over c.poll.new.self.progress) is_over comes.1 in
+    let next = open_call _ c.poll.new.self.progress c.in_ok-question-in-Pending.question so_far.exchanges way shown (c.poll.ensures.start.0 ∙ c.loop-line.invariant.base) (c.in_ok-poll.ensures.asked ∙ so_far.is_journal) in
     record {
       chain = c.poll.ensures.chain ∙ c.loop-line.invariant.chain;
-      under_way = subst (λ over. IsUnderWay over c.poll.new.self.progress) is_over comes.1;
+      under_way = way;
       base = c.poll.ensures.start.0 ∙ c.loop-line.invariant.base;
       fits = shown ∙ ap Some (sym answers.asked);
-      exchanged = one_exchanged _ _ _ _ _ _ _ _ _ _ _ _ _ _ _ _ _ c.loop-line.invariant.exchanged c.in_ok-poll.ensures.asked c.in_ok-put-in-Pending.ensures.put answers;
+      exchanged = one_exchanged _ _ _ _ _ _ _ _ _ _ _ _ _ _ _ _ _ _ so_far c.in_ok-poll.ensures.asked next c.in_ok-put-in-Pending.ensures.put answers;
       source_counted = omega (arith, c.loop-line.invariant.source_counted, c.answer.ensures.counted);
       sink_counted = omega (arith, c.loop-line.invariant.sink_counted, c.put.ensures.counted);
     }

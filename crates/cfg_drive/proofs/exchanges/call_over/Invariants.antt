@@ -17,7 +17,7 @@ invariant-loop-line g l =
       under_way : IsUnderWay over l.run.progress;
       base : l.run.progress.base ≡ no_states;
       fits : IfSome l.receipt (λ e. l.run.progress.question ≡ Some e.0);
-      exchanged : Exchanged (heard g.S.Source l.fn.reader l.fn.source l.reader l.source) (sink_seen g.K.Sink l.fn.sink l.sink) l.line (l.run.progress.asked ++ option_to_list l.receipt);
+      exchanged : Exchanged over (heard g.S.Source l.fn.reader l.fn.source l.reader l.source) (sink_seen g.K.Sink l.fn.sink l.sink) l.line (l.run.progress.asked ++ option_to_list l.receipt);
       source_counted : g.S.Source.faults l.fn.source ≤ g.S.Source.faults l.source;
       sink_counted : g.K.Sink.faults l.fn.sink ≤ g.K.Sink.faults l.sink;
     }

@@ -1,5 +1,5 @@
 -- The value is shallow, and has no floats.
-use Rattle.std.proofs.Common.{sym, subst}
+use Rattle.std.proofs.Common.{sym, subst, ◌∙◌}
 use Rattle.std.proofs.lemmas.Result.{IfOk-weaker}
 use Rattle.std.specs.Prelude.{string_bytes}
 use Rattle.serde_json.specs.Read.{max_depth}
@@ -17,7 +17,7 @@ json_line-requires-clause-no_float c = (subst (IsPlain max_depth) (sym c.in_ok-v
 pub returns : goal.returns
 returns c = IfOk-weaker c.json_line.result _ _
     (λ line j. record {
-      reason = string_bytes c.in_ok-reason.reason;
-      says = c.in_ok-reason.ensures.ok;
-      tells = subst (λ v. IsJsonLine v line.items) (rw c.as_str.ensures.value at c.in_ok-value.ensures) j;
+      why = string_bytes c.in_ok-why.why;
+      says = c.in_ok-why.ensures.ok;
+      tells = subst (λ v. IsJsonLine v line.items) (rw (c.as_str-2.ensures.value ∙ rw c.as_str.ensures.value at c.in_ok-reason.ensures) at c.in_ok-value.ensures) j;
     }) c.json_line.ensures
