@@ -4,7 +4,7 @@ use Rattle.std.proofs.lemmas.List.{append-nil, take-append-drop, take-append-le,
 use Rattle.std.proofs.lemmas.List.Elements.{All-nil}
 use Rattle.std.specs.Prelude.{All, IfSome, codes}
 use Rattle.std.specs.Io.KnownBytes.{Consumes, IsAtEnd, Keeps, prepend_known}
-use Rattle.cfg_drive.specs.Lines.{most_bytes, line_feed, HasNoEnd, IsLine, IsTooLong}
+use Rattle.cfg_drive.specs.Lines.{most_bytes, line_feed, HasNoEnd, IsLine, IsTooLong, IsUnended}
 
 pub kept_refl : (a : Option (List ℕ)) → Keeps a a
 kept_refl None = tt
@@ -33,11 +33,13 @@ line_taken (Some x) (Some y) at held line rest p e f g =
     sym p ∙ ap (λ (l : List ℕ). l ++ y) (parts at held e ∙ ap (λ (l : List ℕ). (l ++ codes "\n") ++ drop (at + 1) held) (sym f) ∙ ap (λ (l : List ℕ). (line ++ codes "\n") ++ l) (sym g)) ∙ append_assoc (line ++ codes "\n") rest y
 
 -- the input ended where no line did
-pub endless_end : (a left : Option (List ℕ)) (seen : ℕ) (held : List ℕ) → Keeps a (prepend_known held left) → IsAtEnd left → length held ≡ seen → HasNoEnd (take seen held) → IfSome a HasNoEnd
-endless_end None left seen held p e l h = tt
-endless_end (Some x) None seen held p e l h = absurd p
-endless_end (Some x) (Some y) seen held p e l h =
-    subst HasNoEnd (take_all seen held (omega (arith, l)) ∙ sym (append-nil held) ∙ ap (λ (t : List ℕ). held ++ t) (sym e) ∙ p) h
+pub endless_end : (a left : Option (List ℕ)) (seen : ℕ) (held : List ℕ) → Keeps a (prepend_known held left) → IsAtEnd left → length held ≡ seen → seen < most_bytes
+    → HasNoEnd (take seen held) → IfSome a IsUnended
+endless_end None left seen held p e l s h = tt
+endless_end (Some x) None seen held p e l s h = absurd p
+endless_end (Some x) (Some y) seen held p e l s h =
+    let all : take seen held ≡ x = take_all seen held (omega (arith, l)) ∙ sym (append-nil held) ∙ ap (λ (t : List ℕ). held ++ t) (sym e) ∙ p in
+    record { short = omega (arith, l, s, ap length p, length-append held y, ap length e); endless = subst HasNoEnd all h }
 
 pub endless_long : (a left : Option (List ℕ)) (seen : ℕ) (held : List ℕ) → Keeps a (prepend_known held left) → seen ≤ length held → seen ≤ most_bytes → most_bytes ≤ seen → HasNoEnd (take seen held) → IfSome a IsTooLong
 endless_long None left seen held p w s m h = tt

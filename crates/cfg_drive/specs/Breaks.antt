@@ -16,7 +16,7 @@ use Rattle.cfg_drive.specs.declared.driven.Cause.TheVariants as cause
 use Rattle.cfg_drive.specs.declared.driven.Stopped.{Stopped}
 use Rattle.cfg_drive.specs.declared.driven.Stopped.TheVariants as stopped
 use Rattle.cfg_drive.specs.Conversations.{Exchange, Exchanges, AreAskedLines, IsCallOver, said_lines, journal_of, ended}
-use Rattle.cfg_drive.specs.Lines.{HasNoEnd, IsLine, IsTooLong}
+use Rattle.cfg_drive.specs.Lines.{IsLine, IsTooLong, IsUnended}
 
 -- nothing was written, or a prefix of such lines
 abbrev pub WritesPart : SinkSeen → (List ℕ → Type 0) → Type 0
@@ -25,7 +25,7 @@ WritesPart sink AreLines = Keeps sink.written sink.written_after
 
 -- no line was read of what was left: the input ended, failed, or has no end of a line where one may be
 abbrev pub IsUnread : SourceSeen → Cause → Type 0
-IsUnread source cause.Ended = IfSome source.left HasNoEnd
+IsUnread source cause.Ended = IfSome source.left IsUnended
 IsUnread source cause.Failed = Rose source.faults source.faults_after
 IsUnread source cause.TooLong = IfSome source.left IsTooLong
 IsUnread source _ = ⊥

@@ -18,6 +18,11 @@ pub record IsLine (line : List ℕ) : Type 0 where
   pub one : HasNoEnd line
   pub short : length line < most_bytes
 
+-- no line ends in these bytes, which are fewer than one may have
+pub record IsUnended (bytes : List ℕ) : Type 0 where
+  pub short : length bytes < most_bytes
+  pub endless : HasNoEnd bytes
+
 -- no line ends in so many bytes as one may have
 pub record IsTooLong (bytes : List ℕ) : Type 0 where
   pub long : most_bytes ≤ length bytes

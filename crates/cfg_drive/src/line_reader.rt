@@ -2,7 +2,7 @@
 ghost use Rattle.std.specs.Prelude.{◌≡◌, ◌<◌, ◌≤◌, ◌+◌, ◌++◌, ◌∷◌, [], codes, drop, take, length, IfNone, IfOk, IfSome, OnOk, OnErr, Err, ◌≢◌};
 ghost use Rattle.std.specs.Io.KnownBytes.{Consumes, IsAtEnd, Keeps, prepend_known};
 ghost use Rattle.cfg_world.specs.Faults.{Rose};
-ghost use Rattle.cfg_drive.specs.Lines.{most_bytes, line_feed, HasNoEnd, IsLine, IsTooLong};
+ghost use Rattle.cfg_drive.specs.Lines.{most_bytes, line_feed, HasNoEnd, IsLine, IsTooLong, IsUnended};
 
 use cfg_world::{Source, StreamFault};
 use std::alloc::{AllocError, Global};
@@ -83,7 +83,7 @@ impl LineReader {
     ///
     /// # Errors
     ///
-    /// - `Ended`: the input ends before a line does.
+    /// - `Ended`: the input ends before a line does, and within [`LONGEST`] bytes.
     /// - `Failed`: the source failed, and its count of faults rose.
     /// - `TooLong`: no line ends within [`LONGEST`] bytes.
     /// - `OutOfMemory` where memory runs out. What was read then may be lost.
@@ -91,7 +91,7 @@ impl LineReader {
         ensures line { IfOk result (λ line. IsLine line.items) }
         ensures taken { IfOk result (λ line. Consumes (prepend_known self.old (S.left source.old))
             (prepend_known self.new (S.left source.new)) (line.items ++ codes "\n")) }
-        ensures ended { result ≡ Err LineError.Ended → IfSome (prepend_known self.old (S.left source.old)) HasNoEnd }
+        ensures ended { result ≡ Err LineError.Ended → IfSome (prepend_known self.old (S.left source.old)) IsUnended }
         ensures long { result ≡ Err LineError.TooLong → IfSome (prepend_known self.old (S.left source.old)) IsTooLong }
         ensures failed { result ≡ Err LineError.Failed → Rose (S.faults source.old) (S.faults source.new) }
         ensures counted { S.faults source.old ≤ S.faults source.new }
