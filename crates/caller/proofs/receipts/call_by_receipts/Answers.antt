@@ -5,6 +5,11 @@ use Rattle.cfg_run.specs.Runs.{IsUnderWay}
 use Rattle.caller.proofs.Polling.{provides_by, grows_more}
 use Rattle.caller.proofs.receipts.call_by_receipts.Goals as goal
 
+pub poll-requires-clause-under_way : goal.poll-requires-clause-under_way
+poll-requires-clause-under_way g c =
+    let is_over = ap (λ chain. chain_of (λ z. (goal.ProvideCredentials-dyn g z).value z.1) (λ z. (goal.ClassifyRetry-dyn g z).repeated z.1) chain) c.loop.invariant.chain in
+    subst (λ over. IsUnderWay over c.loop.run.progress) (sym is_over) c.loop.invariant.under_way
+
 pub returns-in-Ready : goal.returns-in-Ready
 returns-in-Ready g c =
     let is_over = ap (λ chain. chain_of (λ z. (goal.ProvideCredentials-dyn g z).value z.1) (λ z. (goal.ClassifyRetry-dyn g z).repeated z.1) chain) c.loop.invariant.chain in
