@@ -156,8 +156,8 @@ impl LoginCredentialsProvider {
     /// else in `.aws/login/cache` below `HOME`.
     ///
     /// A kept token is handed out while more than 300 seconds of it are left. Else its file is read, and
-    /// the token there is refreshed where at most 300 seconds of it are left, unless a refresh was granted
-    /// less than 30 seconds ago.
+    /// the token there is refreshed where at most 300 seconds of it are left, unless a refresh was granted,
+    /// or failed, less than 30 seconds ago.
     ///
     /// The credentials are named `Login`, and have the token's expiry, session token and account. That
     /// a new token could not be written to its file is no error.
@@ -171,7 +171,7 @@ impl LoginCredentialsProvider {
     ///   where the refusal tells it.
     /// - `Unhandled`: no folder is known (`NoHomeDirectory`), the file could not be read (`IoError`)
     ///   or holds no token (`JsonError`, `Other`), or the token has expired and the last refresh that
-    ///   was granted is less than 30 seconds ago (`ExpiredToken`).
+    ///   was granted, or failed, is less than 30 seconds ago (`ExpiredToken`).
     /// - `OutOfMemory` where memory runs out. The journal then has gained the beginning of such a part,
     ///   and what is kept is as it was, or as the finished section left it.
     pub fn provide_credentials<P: Keeper, D: Devices>(

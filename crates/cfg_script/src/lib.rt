@@ -1,7 +1,8 @@
 //! The program's script: one JSON object that says what the outside world answers. It stands on
-//! cfg_types, cfg_world, serde_json, hex and http_header. The layer above reads bytes with
-//! `read_script` alone, and its contract says what they are by one definition over the value that
-//! serde_json reads. Where they are no script, `find_fault` tells the place and what is wanted there.
+//! cfg_types, cfg_world, serde_json, hex and http_header. The layers above read bytes with
+//! `read_script`, `read_share`, `read_audit` and `read_endpoint`, whose contracts say what they are by one
+//! definition each over the value that serde_json reads. Where they are no script, `find_fault` and its
+//! like tell the place and what is wanted there.
 //!
 //! Each form of a value has one function, which gives what the value says or its first fault, and one
 //! definition of the same (`specs/Forms`). The members of an object are, for the code, a type of pairs,
