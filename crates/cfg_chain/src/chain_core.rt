@@ -1,8 +1,9 @@
 //! A chain without what its caller brings.
 ghost use Rattle.std.specs.Option.{option_copied};
-ghost use Rattle.std.specs.Prelude.{◌≡◌, IfOk, OnErr, option_map};
+ghost use Rattle.std.specs.Prelude.{◌≡◌, [], IfOk, IfSome, OnErr, option_map};
 ghost use Rattle.cfg_kept.specs.Kinds.{no_states};
 ghost use Rattle.cfg_kept.specs.KeptStates.{kept_key, states_of};
+ghost use Rattle.cfg_kept.specs.KeyedStates.{HasNoLoads};
 ghost use Rattle.cfg_region.specs.Calls.{RegionSet, RegionBreaks};
 ghost use Rattle.cfg_region.specs.Sources.{region_source};
 ghost use Rattle.cfg_chain.specs.Settled.{IsSettled};
@@ -109,6 +110,8 @@ impl ChainCore {
     /// What the chain keeps between calls, with nothing kept. `OutOfMemory` where memory runs out.
     pub fn new_kept(&self) -> Result<Kept, OutOfMemory>
         ensures nothing { IfOk result (λ kept. states_of kept ≡ no_states) }
+        ensures loads { IfOk result (λ kept. IfSome kept.token HasNoLoads) }
+        ensures found { IfOk result (λ kept. kept.found.items ≡ []) }
         ensures key { IfOk result (λ kept. kept_key kept ≡ key_of self.now) }
     {
         let key = copy_option(self.alloc, &self.settled.token_key)?;

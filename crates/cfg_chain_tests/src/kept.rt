@@ -65,6 +65,14 @@ fn call_words(
     Ok(format!(in alloc; "{answer} {asked} {found} {fallback:?}\n")?)
 }
 
+// How many loads of the chain's token are on record.
+fn loads_of(kept: &Kept) -> usize {
+    let session = kept.sso_state().map(|state| state.records().len());
+    let sign_in = kept.login_state().map(|state| state.records().len());
+    session.or(sign_in).unwrap_or(0)
+}
+
+// Two calls, a line each, and how many loads are on record then.
 fn calls_by(
     alloc: Global,
     setup: Setup,
@@ -76,7 +84,7 @@ fn calls_by(
     let mut kept = chain.new_kept()?;
     let first = call_words(alloc, &chain, &mut kept, &mut world)?;
     let second = call_words(alloc, &chain, &mut kept, &mut world)?;
-    Ok(format!(in alloc; "{first}{second}")?)
+    Ok(format!(in alloc; "{first}{second}loads {}", loads_of(&kept))?)
 }
 
 // The same over kept states that are shared.
@@ -100,7 +108,7 @@ fn shared_call_words<R: Wait>(
     Ok(format!(in alloc; "{answer} {asked} {found} {fallback:?}\n")?)
 }
 
-// Two calls over kept states that are shared, and one more on what comes back of them.
+// Two calls over kept states that are shared, whose records are given up between them, and what comes back of them.
 fn shared_calls_by<R: Wait>(
     rt: &R,
     alloc: Global,
@@ -117,7 +125,8 @@ fn shared_calls_by<R: Wait>(
     let kept = shared.into_kept();
     let fits = kept.fits(chain.token_key());
     let found = kept.found().len();
-    Ok(format!(in alloc; "{first}{second}{fits} {found}")?)
+    let loads = loads_of(&kept);
+    Ok(format!(in alloc; "{first}{second}{fits} {found} loads {loads}")?)
 }
 
 // A client of this endpoint, none for an empty text. No client for what is no address.
@@ -152,31 +161,38 @@ fn shared_calls_of<R: Wait>(
 
 #[test]
 fn two_calls(rt: HostRuntime) -> Result<(), Fail> {
-    let table: &[(&str, &str, &str)] = &[
+    let table: &[(&str, &str, &str, usize, usize)] = &[
         // Metadata, and then a refusal.
         (
             "http://lent",
             r#"{"variables":[["AWS_EC2_METADATA_SERVICE_ENDPOINT","no host"]],"clock":[100],"replies":{"imds-token":[[200,[["x-aws-ec2-metadata-token-ttl-seconds","21600"]],"tok"]],"imds-get":[[200,[],"role"],[200,[],"{\"AccessKeyId\":\"M\",\"SecretAccessKey\":\"S\",\"Token\":\"T\",\"Expiration\":\"2016-02-25T06:03:31Z\"}"],[404,[],""]]}}"#,
             "Credentials { provider_name: \"IMDSv2\", access_key_id: \"M\", secret_access_key: \"** redacted **\", expires_after: 1456380211 s 0 ns } S Some(\"T\") [CredentialsImds] 7 2 Some(Credentials { provider_name: \"IMDSv2\", access_key_id: \"M\", secret_access_key: \"** redacted **\", expires_after: 1456380211 s 0 ns })\nCredentials { provider_name: \"IMDSv2\", access_key_id: \"M\", secret_access_key: \"** redacted **\", expires_after: 1456380211 s 0 ns } S Some(\"T\") [] 2 2 Some(Credentials { provider_name: \"IMDSv2\", access_key_id: \"M\", secret_access_key: \"** redacted **\", expires_after: 1456380211 s 0 ns })\n",
+            0,
+            0,
         ),
         // A session of IAM Identity Center, whose token is refreshed.
         (
             "",
             r#"{"variables":[["HOME","/home/u"]],"profiles":[["default",[["sso_session","abc"],["sso_account_id","1"],["sso_role_name","r"]]]],"sessions":[["abc",[["sso_region","us-east-1"],["sso_start_url","u"]]]],"files":[["/home/u/.aws/sso/cache/a9993e364706816aba3e25717850c26c9cd0d89d.json","{\"accessToken\":\"t\",\"expiresAt\":\"1970-01-01T00:15:00Z\",\"clientId\":\"i\",\"clientSecret\":\"s\",\"refreshToken\":\"r\",\"registrationExpiresAt\":\"1970-01-02T00:00:00Z\"}"]],"clock":[700],"replies":{"create-token":[{"access":"t2","expires_in":3600}],"role-credentials":[{"id":"R","secret":"S","token":"T","expires_ms":5000000},"dispatch"]}}"#,
             "Credentials { provider_name: \"SSO\", access_key_id: \"R\", secret_access_key: \"** redacted **\", expires_after: 5000 s 0 ns, account_id: \"1\" } S Some(\"T\") [CredentialsSso, CredentialsProfile] 6 1 None\nProviderError(Base(ProviderError(Sent(Dispatch)))) 2 1 None\n",
+            1,
+            0,
         ),
         // A sign-in session, whose refresh is granted at the second call, half a minute after a failed one.
         (
             "",
             r#"{"variables":[["AWS_LOGIN_CACHE_DIRECTORY","/c"]],"profiles":[["default",[["login_session","abc"]]]],"files":[["/c/ba7816bf8f01cfea414140de5dae2223b00361a396177a9cb410ff61f20015ad.json","{\"accessToken\":{\"accessKeyId\":\"AK\",\"secretAccessKey\":\"SK\",\"sessionToken\":\"ST\",\"accountId\":\"012345678901\",\"expiresAt\":\"1970-01-01T00:15:00Z\"},\"refreshToken\":\"rt\",\"clientId\":\"ci\",\"dpopKey\":\"dk\"}"]],"clock":[1000,1000,1030],"replies":{"sign-in":["dispatch",{"id":"AK2","secret":"SK2","token":"ST2","refresh":"rt2","expires_in":900}]}}"#,
             "ProviderError(Base(ProviderError(LoginToken(RefreshFailed { message: None })))) 4 1 None\nCredentials { provider_name: \"Login\", access_key_id: \"AK2\", secret_access_key: \"** redacted **\", expires_after: 1930 s 0 ns, account_id: \"012345678901\" } SK2 Some(\"ST2\") [CredentialsProfileLogin, CredentialsProfile] 5 1 None\n",
+            2,
+            1,
         ),
     ];
-    for (endpoint, script, want) in table {
+    for (endpoint, script, calls, loads, last_loads) in table {
         let words = calls_of(rt.alloc(), endpoint, script)?;
-        assert_eq!(rt; words.as_str(), *want, "{script}");
+        let want = format!(in rt.alloc(); "{calls}loads {loads}")?;
+        assert_eq!(rt; words.as_str(), want.as_str(), "{script}");
         let shared = shared_calls_of(&rt, rt.alloc(), endpoint, script)?;
-        let want = format!(in rt.alloc(); "{want}true 0")?;
+        let want = format!(in rt.alloc(); "{calls}true 0 loads {last_loads}")?;
         assert_eq!(rt; shared.as_str(), want.as_str(), "shared {script}");
     }
     Ok(())

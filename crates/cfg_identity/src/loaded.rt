@@ -1,7 +1,8 @@
 //! What a chain keeps between calls with the credentials that are held of it, and a call over it.
-ghost use Rattle.std.specs.Prelude.{◌≡◌, None};
+ghost use Rattle.std.specs.Prelude.{◌≡◌, IfSome, None};
 ghost use Rattle.std.specs.Option.{option_copied};
 ghost use Rattle.cfg_kept.specs.KeptStates.{kept_key, kept_holdings, states_of};
+ghost use Rattle.cfg_kept.specs.KeyedStates.{HasNoRecords};
 ghost use Rattle.cfg_chain.specs.Answers.{Answered, RanOut};
 ghost use Rattle.cfg_chain.specs.Views.{chain_of};
 ghost use Rattle.cfg_chain.specs.profile.Plans.{key_of};
@@ -77,6 +78,7 @@ impl Loaded {
     pub(crate) fn trim(&mut self)
         ensures state { state_of self.new ≡ state_of self.old }
         ensures key { kept_key self.new.kept ≡ kept_key self.old.kept }
+        ensures records { IfSome self.new.kept.token HasNoRecords }
     {
         self.kept.clear_found();
         self.kept.trim();

@@ -258,7 +258,8 @@ fn with_found(
 // What is kept is the chain's, as when its name was added. A lock's type does not say so: where it is another's,
 // nothing is kept.
 fn fit(chain: &DefaultCredentialsChain, loaded: &mut Loaded) -> Result<(), OutOfMemory>
-    ensures { OnOk result (kept_key loaded.new.kept ≡ key_of chain.now.core) }
+    ensures fits { OnOk result (kept_key loaded.new.kept ≡ key_of chain.now.core) }
+    ensures stays { kept_key loaded.old.kept ≡ key_of chain.now.core → loaded.new ≡ loaded.old }
 {
     if !loaded.kept.fits(chain.token_key()) {
         loaded.kept = chain.new_kept()?;

@@ -55,7 +55,9 @@ impl<T: FileToken> Finding<T> {
         alloc: Global,
         reading: Instant,
     ) -> Result<Option<Handed<T>>, OutOfMemory>
-        ensures { IfOk result (λ h. IfSome h (λ x. Some x.token ≡ hit_of T.rules (token_in x.finding.load) reading)) }
+        ensures token { IfOk result (λ h. IfSome h (λ x. Some x.token ≡ hit_of T.rules (token_in x.finding.load) reading)) }
+        ensures load { IfOk result (λ h. IfSome h (λ x. x.finding.load ≡ self.now.load)) }
+        ensures last { IfOk result (λ h. IfSome h (λ x. x.finding.last ≡ self.now.last)) }
     {
         match hit(alloc, self.token(), reading)? {
             Some(token) => {

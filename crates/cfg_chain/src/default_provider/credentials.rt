@@ -1,9 +1,10 @@
 //! The default chain of credentials providers.
 ghost use Rattle.std.specs.Option.{option_copied};
-ghost use Rattle.std.specs.Prelude.{◌≡◌, IfOk, OnErr, Some, option_map};
+ghost use Rattle.std.specs.Prelude.{◌≡◌, [], IfOk, IfSome, OnErr, Some, option_map};
 ghost use Rattle.cfg_base.specs.Text.{characters};
 ghost use Rattle.cfg_kept.specs.Kinds.{no_states, place_states};
 ghost use Rattle.cfg_kept.specs.KeptStates.{kept_key, states_of};
+ghost use Rattle.cfg_kept.specs.KeyedStates.{HasNoLoads};
 ghost use Rattle.cfg_imds.specs.Clients.{client_rules};
 ghost use Rattle.cfg_sso.specs.Tokens.{HasKey};
 ghost use Rattle.cfg_region.specs.Sources.{region_source};
@@ -189,6 +190,8 @@ impl DefaultCredentialsChain {
     /// What the chain keeps between calls, with nothing kept. `OutOfMemory` where memory runs out.
     pub fn new_kept(&self) -> Result<Kept, OutOfMemory>
         ensures nothing { IfOk result (λ kept. states_of kept ≡ no_states) }
+        ensures loads { IfOk result (λ kept. IfSome kept.token HasNoLoads) }
+        ensures found { IfOk result (λ kept. kept.found.items ≡ []) }
         ensures key { IfOk result (λ kept. kept_key kept ≡ key_of self.now.core) }
     {
         self.core.new_kept()

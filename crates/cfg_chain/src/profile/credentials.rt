@@ -1,8 +1,9 @@
 //! The provider of a profile's credentials.
 ghost use Rattle.std.specs.Option.{option_copied};
-ghost use Rattle.std.specs.Prelude.{◌≡◌, IfOk, Some};
+ghost use Rattle.std.specs.Prelude.{◌≡◌, [], IfOk, IfSome, Some};
 ghost use Rattle.cfg_base.specs.Text.{characters};
 ghost use Rattle.cfg_kept.specs.KeptStates.{kept_key, states_of};
+ghost use Rattle.cfg_kept.specs.KeyedStates.{HasNoLoads};
 ghost use Rattle.cfg_kept.specs.Kinds.{no_states};
 ghost use Rattle.cfg_sso.specs.Tokens.{HasKey};
 ghost use Rattle.cfg_chain.specs.Answers.{Answered, RanOut};
@@ -51,6 +52,8 @@ impl ProfileFileCredentialsProvider {
     /// What the provider keeps between calls, with nothing kept. `OutOfMemory` where memory runs out.
     pub fn new_kept(&self) -> Result<Kept, OutOfMemory>
         ensures nothing { IfOk result (λ kept. states_of kept ≡ no_states) }
+        ensures loads { IfOk result (λ kept. IfSome kept.token HasNoLoads) }
+        ensures found { IfOk result (λ kept. kept.found.items ≡ []) }
         ensures key { IfOk result (λ kept. kept_key kept ≡ key_of (provider_of value self.now).configuration) }
     {
         self.core.new_kept()

@@ -1,7 +1,7 @@
 //! Sections of one pass after another.
 ghost use Rattle.std.specs.Prelude.{◌≡◌, true};
 
-use crate::gate::tokens::{read, scarce_token, token};
+use crate::gate::tokens::{kept_token, read, scarce_token, token};
 use crate::sections::settings;
 use cfg_gate::{Gate, GateAnswer, GateError, GatedToken, Pass, new_gate};
 use cfg_script::ScriptError;
@@ -125,6 +125,28 @@ const TABLE: &[(u64, &str, &str)] = &[
 fn sections_of_one_pass(rt: HostRuntime) -> Result<(), Fail> {
     for (allowance, script, want) in TABLE {
         let words = two_sections(&rt, rt.alloc(), token(rt.alloc())?, *allowance, script)?;
+        assert_eq!(rt; words.as_str(), *want);
+    }
+    Ok(())
+}
+
+// Each script's token is kept with the attempt at it, and its record is given up before the gate is made.
+const KEPT_TABLE: &[(&str, &str)] = &[
+    (
+        FILE,
+        "3600, asked 1, kept true, last None, found 0, seen 0, left 1; 3600, asked 2, kept true, last None, found 0, seen 0, left 0",
+    ),
+    (
+        REFRESHED,
+        "900, asked 3, kept true, last Some(700), found 0, seen 1, left 1; 900, asked 7, kept true, last Some(700), found 1, seen 2, left 0",
+    ),
+];
+
+#[test]
+fn a_gate_begins_with_what_its_token_keeps(rt: HostRuntime) -> Result<(), Fail> {
+    for (script, want) in KEPT_TABLE {
+        let token = kept_token(rt.alloc(), script)?;
+        let words = two_sections(&rt, rt.alloc(), token, 2, script)?;
         assert_eq!(rt; words.as_str(), *want);
     }
     Ok(())

@@ -3,10 +3,10 @@ ghost use Rattle.std.specs.Prelude.{◌≡◌, IfOk, true};
 ghost use Rattle.cfg_token.specs.SsoTokens.{is_sso};
 
 use crate::gate::scarce::Scarce;
-use crate::sections::session_key;
+use crate::sections::{session_key, settings};
 use cfg_gate::GatedToken;
 use cfg_script::{ScriptError, read_script};
-use cfg_token::{CachedSsoToken, TokenState};
+use cfg_token::{CachedSsoToken, TokenState, section};
 use cfg_types::{Env, OutOfMemory};
 use cfg_world::{ScriptDevices, World};
 use std::alloc::Global;
@@ -18,6 +18,22 @@ pub(crate) fn token(alloc: Global) -> Result<GatedToken<CachedSsoToken>, OutOfMe
 {
     let key = session_key(alloc)?;
     Ok(GatedToken::new(TokenState::new(alloc, key)))
+}
+
+/// The same after a section over a script, whose record was given up.
+pub(crate) fn kept_token(
+    alloc: Global,
+    script: &str,
+) -> Result<GatedToken<CachedSsoToken>, ScriptError>
+    ensures kind { IfOk result (λ t. is_sso t.state.key ≡ true) }
+    ensures loads { IfOk result (λ t. t.loads ≡ 0) }
+{
+    let key = session_key(alloc)?;
+    let (env, mut world) = read(alloc, script)?;
+    let mut state = TokenState::new(alloc, key);
+    let _answer = section(&mut state, &env, &settings(), &mut world);
+    state.trim();
+    Ok(GatedToken::new(state))
 }
 
 /// The same of a token for which memory runs out where its file is empty.
