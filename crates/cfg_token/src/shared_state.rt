@@ -221,6 +221,7 @@ impl<T: FileToken> SharedTokenState<T> {
         published.handed(self.alloc, reading)
     }
 
+    // What `make_after` gives where no published token is handed out: its contract is the same.
     fn make_locked<R: Wait, A: Asking>(
         &self,
         rt: &R,

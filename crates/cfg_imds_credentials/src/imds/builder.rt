@@ -12,7 +12,8 @@ use cfg_profile::ProviderConfig;
 use cfg_types::{OutOfMemory, Text, TryCopy};
 use std::alloc::Global;
 
-// The client that is asked: the one that was given, else the own one of the configuration.
+// The client that is asked: the one that was given, else the own one of the configuration. It is written out in each
+// crate whose provider has one: a client can hold a box, and a box that another crate's function makes says nothing.
 fn asked_by(
     alloc: Global,
     config: &ProviderConfig,
