@@ -12,7 +12,6 @@ use Rattle.cfg_kept.specs.Kinds.{Value, States}
 use Rattle.cfg_kept.specs.KeptInquiry.{KeptInquiry, Gives, lift}
 use Rattle.cfg_kept.specs.declared.keeper.Keeper.{Ghosts as Keeping}
 use Rattle.cfg_kept.specs.Holds.{Holdings, HoldsFollows}
-use Rattle.cfg_profile.specs.Configuration.{Configuration}
 use Rattle.cfg_exchange.specs.Classifiers.{Repeats}
 use Rattle.cfg_providers.specs.CustomSources.{Answer}
 use Rattle.cfg_providers.specs.EnvironmentKeys.{environment, by_environment}

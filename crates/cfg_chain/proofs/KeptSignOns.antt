@@ -5,24 +5,23 @@ use Rattle.cfg_types.specs.Environment.{Variables}
 use Rattle.cfg_types.specs.Replies.{role_in}
 use Rattle.cfg_types.specs.declared.settings.CallSettings.{CallSettings}
 use Rattle.cfg_world.specs.Fits.{Pair}
-use Rattle.cfg_world.specs.Inquiry.{Inquiry, Done, Reads, after}
+use Rattle.cfg_world.specs.Inquiry.{Inquiry, Done, Reads}
 use Rattle.cfg_world.specs.Leaves.{clock, moment_of, granted_of}
 use Rattle.cfg_token.specs.Decisions.{outlasts_buffer}
 use Rattle.cfg_token.specs.Readings.{IsHit}
 use Rattle.cfg_token.specs.Rules.{Rules}
-use Rattle.cfg_token.specs.Sections.{load, by_reading, section}
+use Rattle.cfg_token.specs.Sections.{by_reading, section}
 use Rattle.cfg_token.specs.SsoTokens.{sso_rules}
 use Rattle.cfg_token.specs.declared.sections.Sectioned.{Sectioned}
-use Rattle.cfg_token.specs.declared.sections.Sectioned.TheVariants.{Hit, Load}
+use Rattle.cfg_token.specs.declared.sections.Sectioned.TheVariants.{Hit}
 use Rattle.cfg_token.specs.declared.token_key.TokenKey.{TokenKey}
 use Rattle.cfg_kept.specs.Beginnings.{IsPrefix}
 use Rattle.cfg_kept.specs.Kinds.{Value}
 use Rattle.cfg_kept.specs.SectionParts.{found_at}
 use Rattle.cfg_kept.specs.SsoHoldings.{sso_spot}
 use Rattle.cfg_profile.specs.Configuration.{Configuration}
-use Rattle.cfg_providers.specs.CustomSources.{Answer}
-use Rattle.cfg_sso.specs.InNoWay.{IsGranted, AreGranted, IsTokenInTime, NothingInTheWay}
-use Rattle.cfg_sso.specs.SsoCauses.{SsoCause, IsTokenPart}
+use Rattle.cfg_sso.specs.InNoWay.{IsGranted, AreGranted, IsTokenInTime}
+use Rattle.cfg_sso.specs.SsoCauses.{IsTokenPart}
 use Rattle.cfg_sso.specs.Tokens.{Token, sso_key}
 use Rattle.cfg_sso.specs.declared.config.SsoProviderConfig.{SsoProviderConfig}
 use Rattle.cfg_chain.specs.Valid.{GivesSignOn}

@@ -1,6 +1,6 @@
 -- Each error of a member is one of its line.
 use Rattle.std.specs.Option.{option_or}
-use Rattle.std.proofs.Common.{◌≡◌, ◌⊎◌, inl, inr, ℕ, List, [], ◌∷◌, ◌++◌, Bool, true, false, Option, Some, None, Result, Ok, Err, option_map, refl, ap, ◌∙◌, subst}
+use Rattle.std.proofs.Common.{◌≡◌, inl, inr, ℕ, List, [], ◌∷◌, ◌++◌, Bool, true, false, Option, Some, None, Result, Ok, Err, option_map, refl, ap, ◌∙◌, subst}
 use Rattle.std.specs.Prelude.{IfSome, codes, option_and_then, nat_eq, if◌then◌else◌}
 use Rattle.std.specs.List.{last_or}
 use Rattle.std.specs.Result.{result_err}
@@ -14,20 +14,17 @@ use Rattle.cfg_types.specs.Metadata.{is_dispatch_failure, error_reply}
 use Rattle.cfg_types.specs.Replies.{sts_in}
 use Rattle.cfg_types.specs.declared.document.InvalidJsonCredentials.{InvalidJsonCredentials}
 use Rattle.cfg_types.specs.declared.errors.ConfigCause.TheVariants as config
-use Rattle.cfg_types.specs.declared.errors.Class.{Class}
 use Rattle.cfg_types.specs.declared.errors.Class.TheVariants as class
 use Rattle.cfg_types.specs.declared.errors.CredentialsError as errors
 use Rattle.cfg_types.specs.declared.errors.CredentialsError.{CredentialsError}
 use Rattle.cfg_types.specs.declared.errors.CredentialsError.TheVariants.{CredentialsNotLoaded, InvalidConfiguration, ProviderError, ProviderTimedOut}
 use Rattle.cfg_types.specs.declared.errors.NotLoadedCause as reasons
-use Rattle.cfg_types.specs.declared.errors.NotLoadedCause.{NotLoadedCause}
 use Rattle.cfg_types.specs.declared.errors.NotLoadedCause.TheVariants.{MetadataDisabled, MetadataNoRole, MetadataUnreachable}
 use Rattle.cfg_types.specs.declared.errors.ProfileFileError.{ProfileFileError}
 use Rattle.cfg_types.specs.declared.errors.ProfileFileError.TheVariants as plan_error
 use Rattle.cfg_types.specs.declared.errors.ProviderAttempt.{ProviderAttempt}
 use Rattle.cfg_types.specs.declared.errors.ProviderCause as failures
 use Rattle.cfg_types.specs.declared.errors.ProviderCause.TheVariants as failure
-use Rattle.cfg_types.specs.declared.errors.UnhandledCause.{UnhandledCause}
 use Rattle.cfg_types.specs.declared.errors.UnhandledCause.TheVariants as unhandled
 use Rattle.cfg_types.specs.declared.errors.container.InvalidFullUriError.{InvalidFullUriError}
 use Rattle.cfg_types.specs.declared.errors.imds.ImdsError.{ImdsError}
@@ -51,7 +48,7 @@ use Rattle.cfg_world.specs.Held.{Held}
 use Rattle.cfg_world.specs.Leaves.{granted_of, http_of}
 use Rattle.cfg_exchange.specs.declared.container.ContainerUri.{ContainerUri}
 use Rattle.cfg_exchange.specs.declared.container.ContainerUri.TheVariants as uri
-use Rattle.cfg_exchange.specs.ContainerCauses.{file_read, bytes_fault, held_fault, token_fault_by, full_fault, address_fault, last_answer, fault_of_answer}
+use Rattle.cfg_exchange.specs.ContainerCauses.{file_read, held_fault, token_fault_by, full_fault, address_fault, last_answer, fault_of_answer}
 use Rattle.cfg_exchange.specs.Containers.{token_file, token_text, said_keys, reply_keys, sent_keys, answer_keys}
 use Rattle.cfg_exchange.specs.Documents.{or_no_document, document, body_document}
 use Rattle.cfg_exchange.specs.HeaderValues.{is_header_value}
@@ -62,10 +59,9 @@ use Rattle.cfg_imds.specs.Fetches.{entry_text}
 use Rattle.cfg_kept.specs.ChainParts.{AreParts}
 use Rattle.cfg_kept.specs.Chains.{attempt}
 use Rattle.cfg_kept.specs.Kinds.{Value}
-use Rattle.cfg_kept.specs.RoleDocuments.{refused_role, said_role, get_document, role_document}
+use Rattle.cfg_kept.specs.RoleDocuments.{said_role, get_document, role_document}
 use Rattle.cfg_imds_credentials.specs.Causes.{first_text, why_document, why_role_by, why_role, why_listed_by, why_by_role, why_nothing, retrieved_in, AnswersBy}
-use Rattle.cfg_imds_credentials.specs.Metadata.{listing_path, role_path, get_error, absence, listing_error_by, listing_error, or_found}
-use Rattle.cfg_imds_credentials.specs.Settings.{MetadataSetting}
+use Rattle.cfg_imds_credentials.specs.Metadata.{listing_path, role_path, get_error, listing_error_by, listing_error, or_found}
 use Rattle.cfg_providers.specs.CustomSources.{Answer}
 use Rattle.cfg_providers.specs.EnvironmentCauses.{not_unicode, unreadable_variable, missing_variable}
 use Rattle.cfg_providers.specs.EnvironmentKeys.{not_set}

@@ -1,5 +1,5 @@
 -- Members of chains of credentials providers.
-use Rattle.std.specs.Prelude.{◌≡◌, ℕ, List, Option, Some, None, Ok, map}
+use Rattle.std.specs.Prelude.{◌≡◌, ℕ, List, Option, Some, None, Ok}
 use Rattle.cfg_types.specs.Keys.{Keys}
 use Rattle.cfg_types.specs.Environment.{Variables}
 use Rattle.cfg_exchange.specs.declared.container.ContainerUri.{ContainerUri}
@@ -9,7 +9,6 @@ use Rattle.cfg_kept.specs.Kinds.{States, place_states}
 use Rattle.cfg_kept.specs.KeptInquiry.{KeptInquiry, Gives, lift}
 use Rattle.cfg_imds_credentials.specs.Metadata.{metadata}
 use Rattle.cfg_imds_credentials.specs.Settings.{MetadataSetting}
-use Rattle.cfg_profile.specs.Configuration.{Configuration}
 use Rattle.cfg_providers.specs.ContainerSetups.{ContainerSetup, asks_container}
 use Rattle.cfg_providers.specs.CustomSources.{Answer}
 use Rattle.cfg_providers.specs.EnvironmentKeys.{by_environment}

@@ -1,11 +1,7 @@
 -- A member has one tree.
-use Rattle.std.proofs.Common.{◌≡◌, Option, sym, ap, ◌∙◌}
+use Rattle.std.proofs.Common.{◌≡◌, sym, ap, ◌∙◌}
 use Rattle.cfg_exchange.proofs.OnePlace.{one_place}
-use Rattle.cfg_imds.specs.Clients.{ClientRules}
-use Rattle.cfg_imds.specs.Setups.{configured}
-use Rattle.cfg_imds.proofs.OneEndpoint.{one_client}
 use Rattle.cfg_kept.specs.KeptInquiry.{KeptInquiry, lift}
-use Rattle.cfg_profile.specs.Configuration.{Configuration}
 use Rattle.cfg_providers.specs.ContainerSetups.{asks_container}
 use Rattle.cfg_providers.specs.CustomSources.{Answer}
 use Rattle.cfg_chain.specs.Settings.{setting}

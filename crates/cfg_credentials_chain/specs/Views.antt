@@ -8,7 +8,7 @@ use Rattle.cfg_exchange.specs.Classifiers.{Repeats}
 use Rattle.cfg_imds.specs.Setups.{asked_rules}
 use Rattle.cfg_imds_credentials.specs.declared.imds.credentials.ImdsCredentialsProvider.{ImdsCredentialsProvider}
 use Rattle.cfg_imds_credentials.specs.Settings.{MetadataSetting, setting}
-use Rattle.cfg_providers.specs.CustomSources.{Answer, named}
+use Rattle.cfg_providers.specs.CustomSources.{Answer}
 use Rattle.cfg_chain.specs.Views.{provider_by, chain_by}
 use Rattle.cfg_assume_role.specs.Bases.{base_by}
 use Rattle.cfg_credentials_chain.specs.declared.named.NamedMember.{NamedMember}

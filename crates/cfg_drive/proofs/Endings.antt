@@ -2,9 +2,9 @@
 use Rattle.std.proofs.Common.{◌≡◌, ◌≢◌, ℕ, ◌+◌, ◌<◌, ◌≤◌, List, [], ◌∷◌, ◌++◌, length, take, drop, Option, Some, None, refl, sym, ap, subst, ◌∙◌, append_assoc, length-append, arith}
 use Rattle.std.proofs.lemmas.List.{append-nil, take-append-drop, take-append-le, take_all}
 use Rattle.std.proofs.lemmas.List.Elements.{All-nil}
-use Rattle.std.specs.Prelude.{All, IfSome, codes}
+use Rattle.std.specs.Prelude.{IfSome, codes}
 use Rattle.std.specs.Io.KnownBytes.{Consumes, IsAtEnd, Keeps, prepend_known}
-use Rattle.cfg_drive.specs.Lines.{most_bytes, line_feed, HasNoEnd, IsLine, IsTooLong, IsUnended}
+use Rattle.cfg_drive.specs.Lines.{most_bytes, line_feed, HasNoEnd, IsTooLong, IsUnended}
 
 pub kept_refl : (a : Option (List ℕ)) → Keeps a a
 kept_refl None = tt

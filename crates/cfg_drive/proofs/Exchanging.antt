@@ -1,20 +1,18 @@
 -- Exchanges, one after another, and where they stop.
-use Rattle.std.proofs.Common.{◌≡◌, ℕ, ◌+◌, ◌≤◌, List, [], ◌∷◌, ◌++◌, length, map, inl, inr, Option, Some, None, Result, Ok, Err, refl, sym, ap, subst, ◌∙◌, append_assoc, length-append, arith}
+use Rattle.std.proofs.Common.{◌≡◌, ℕ, ◌+◌, ◌≤◌, List, [], ◌∷◌, ◌++◌, length, inl, inr, Option, Some, None, Result, Ok, Err, refl, sym, ap, subst, ◌∙◌, append_assoc, length-append, arith}
 use Rattle.std.proofs.lemmas.List.{append-nil, map-append}
 use Rattle.std.proofs.lemmas.List.Elements.{All-nil, All-push}
 use Rattle.std.proofs.lemmas.Grind.{flat_map-append}
 use Rattle.std.specs.Prelude.{All, IsErrAnd, MatchResult}
-use Rattle.std.specs.List.{flat_map}
 use Rattle.std.specs.Io.KnownBytes.{Appends, Consumes, Keeps}
 use Rattle.std.proofs.KnownBytes.{Appends-kept}
 use Rattle.cfg_world.specs.Faults.{Rose}
 use Rattle.cfg_world.specs.Fits.{Pair}
 use Rattle.cfg_world.specs.declared.ask.Question.{Question}
-use Rattle.cfg_kept.specs.Kinds.{Value, States, no_states}
+use Rattle.cfg_kept.specs.Kinds.{States, no_states}
 use Rattle.cfg_providers.specs.CustomSources.{Answer}
 use Rattle.cfg_chain.specs.Provides.{IsCall}
 use Rattle.cfg_chain.specs.Settings.{ChainSetting}
-use Rattle.cfg_chain.specs.declared.member.Member.{Member}
 use Rattle.cfg_lines.specs.Lines.{IsQuestionLine, IsAnswer}
 use Rattle.cfg_program.specs.Streams.{SourceSeen, SinkSeen, GrowsByPrefix}
 use Rattle.cfg_run.specs.CallSoFar.{CallSoFar}
@@ -23,8 +21,8 @@ use Rattle.cfg_drive.specs.declared.driven.Cause.{Cause}
 use Rattle.cfg_drive.specs.declared.driven.Cause.TheVariants as cause
 use Rattle.cfg_drive.specs.declared.driven.Stopped.{Stopped}
 use Rattle.cfg_drive.specs.declared.driven.Stopped.TheVariants as stopped
-use Rattle.cfg_drive.specs.Conversations.{Exchange, IsExchange, Exchanges, IsCallOver, IsOpenCall, AreAskedLines, asked_lines, said_lines, journal_of, ended}
-use Rattle.cfg_drive.specs.Breaks.{IsUnread, IsUnanswered, Answers, StopsAnswer, Puts, StopsPut, StopsCall, EndsCall, WritesPart, from}
+use Rattle.cfg_drive.specs.Conversations.{Exchange, IsExchange, Exchanges, IsOpenCall, AreAskedLines, asked_lines, said_lines, journal_of, ended}
+use Rattle.cfg_drive.specs.Breaks.{IsUnanswered, Answers, StopsAnswer, Puts, StopsPut, StopsCall, EndsCall, WritesPart, from}
 use Rattle.cfg_drive.proofs.Endings.{kept_refl, kept_trans}
 
 -- ---- known bytes

@@ -1,10 +1,10 @@
 -- The address of the instance metadata service can be asked.
-use Rattle.std.proofs.Common.{◌≡◌, ◌≢◌, ◌<◌, ℕ, zero, suc, List, [], ◌∷◌, ◌++◌, Bool, true, false, length, get_or, take, Option, Some, None, inl, refl, sym, ap, ◌∙◌, subst, arith}
+use Rattle.std.proofs.Common.{◌≡◌, ◌<◌, ℕ, zero, suc, List, [], ◌∷◌, Bool, true, false, length, get_or, take, inl, refl, ap, subst, arith}
 use Rattle.std.specs.Prelude.{codes, not, ◌&&◌, ◌||◌, ◌==◌}
 use Rattle.std.specs.List.{list_all}
 use Rattle.std.proofs.lemmas.List.Sums.{AllPass-from_list_all}
 use Rattle.http_uri.specs.ByteClasses.{is_scheme_byte, is_authority_byte}
-use Rattle.http_uri.specs.Grammar.{MayFollow, IsAuthority, IsAbsoluteForm, IsUriText}
+use Rattle.http_uri.specs.Grammar.{MayFollow, IsAuthority, IsAbsoluteForm}
 use Rattle.cfg_imds.specs.declared.endpoint.Endpoint.{Endpoint}
 use Rattle.cfg_imds.specs.declared.endpoint.Endpoint.TheVariants.{At, NoUri, NoMode}
 use Rattle.cfg_imds.specs.Endpoints.{HasHost, IsEndpointAt}

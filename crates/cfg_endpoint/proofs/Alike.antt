@@ -1,5 +1,5 @@
 -- One endpoint, with one clock, answers one list of questions in one way.
-use Rattle.std.proofs.Common.{◌≡◌, ℕ, List, [], ◌∷◌, ◌⊎◌, inl, inr, refl, sym, ap, ◌∙◌, subst}
+use Rattle.std.proofs.Common.{◌≡◌, ℕ, List, [], ◌∷◌, inl, inr, sym, ap, ◌∙◌, subst}
 use Rattle.cfg_base.specs.Moment.{Moment}
 use Rattle.cfg_types.specs.declared.reply.Reply.TheVariants as reply
 use Rattle.cfg_types.specs.declared.reply.http.HttpReply.{HttpReply}
@@ -13,7 +13,7 @@ use Rattle.cfg_world.specs.declared.ask.Answer.TheVariants as answer
 use Rattle.cfg_world.specs.Agreeing.{AnswerAlike}
 use Rattle.cfg_world.specs.Fits.{Pair}
 use Rattle.cfg_endpoint.specs.Endpoints.{EndpointState, IsGetReply}
-use Rattle.cfg_endpoint.specs.Serves.{IsReplied, AnswersAs, after_question, Serves}
+use Rattle.cfg_endpoint.specs.Serves.{AnswersAs, after_question, Serves}
 use Rattle.cfg_endpoint.specs.Devices.{QuestionKept, place_after, Keeps}
 
 abbrev by_http : HttpReply → Answer

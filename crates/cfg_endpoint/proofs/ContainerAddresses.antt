@@ -1,13 +1,12 @@
 -- The address of a local container's endpoint is allowed.
-use Rattle.std.proofs.Common.{◌≡◌, ◌≢◌, ◌<◌, ℕ, List, [], ◌∷◌, ◌++◌, Bool, true, false, length, get_or, take, Option, Some, None, inl, inr, refl, sym, ap, ◌∙◌, subst, arith}
+use Rattle.std.proofs.Common.{◌≡◌, ℕ, List, ◌++◌, get_or, take, Some, None, inl, inr, refl, sym, ap, ◌∙◌, arith}
 use Rattle.std.specs.Prelude.{codes}
 use Rattle.std.specs.Fmt.{decimal}
-use Rattle.std.specs.Str.{encode_utf8_all}
 use Rattle.std.specs.Str.Parse.{AllDigits, digits_value}
 use Rattle.std.proofs.lemmas.Fmt.{decimal_digit, decimal-digits_value}
 use Rattle.std.proofs.lemmas.List.Sums.{AllPass-from_list_all}
 use Rattle.http_uri.specs.ByteClasses.{is_scheme_byte, is_path_byte}
-use Rattle.http_uri.specs.Grammar.{IsAuthority, IsPathAndQuery, IsPathInput, IsAbsoluteForm}
+use Rattle.http_uri.specs.Grammar.{IsAuthority, IsPathAndQuery, IsAbsoluteForm}
 use Rattle.cfg_base.specs.Addresses.{IsIpv4Text}
 use Rattle.cfg_base.specs.declared.address.Address.TheVariants.{V4}
 use Rattle.cfg_exchange.specs.declared.container.ContainerUri.{ContainerUri}
@@ -15,7 +14,7 @@ use Rattle.cfg_exchange.specs.declared.container.ContainerUri.TheVariants as uri
 use Rattle.cfg_exchange.specs.declared.full_uri.FullUri.TheVariants.{AtAddress}
 use Rattle.cfg_exchange.specs.declared.target.Target.{Target}
 use Rattle.cfg_exchange.specs.Containers.{IsUriBy}
-use Rattle.cfg_exchange.specs.FullUris.{full_at, IsBracketed, IsBareHost, IsFullUri}
+use Rattle.cfg_exchange.specs.FullUris.{full_at, IsBracketed, IsFullUri}
 use Rattle.cfg_exchange.proofs.OnePlace.{one_full}
 use Rattle.cfg_endpoint.specs.Calls.{container_address}
 use Rattle.cfg_endpoint.proofs.Addresses.{is_plain, is_at, follows}

@@ -1,13 +1,11 @@
 -- Each call of the default chain that asks a container's endpoint gives what it serves.
-use Rattle.std.proofs.Common.{◌≡◌, ℕ, List, [], ◌∷◌, ◌++◌, Bool, true, false, Option, Some, None, refl, sym, ap, ◌∙◌, subst, append-nil}
+use Rattle.std.proofs.Common.{◌≡◌, List, [], ◌∷◌, ◌++◌, false, Option, Some, None, sym, ap, ◌∙◌, subst, append-nil}
 use Rattle.std.specs.Prelude.{Ok, codes, ◌-◌, ◌+◌, suc}
-use Rattle.std.specs.FinMap.{get}
 use Rattle.cfg_types.specs.Keys.{Keys}
 use Rattle.cfg_types.specs.Environment.{read_value, text_read, readable}
 use Rattle.cfg_types.specs.declared.reply.Reply.TheVariants as replied
 use Rattle.cfg_types.specs.declared.request.Request.TheVariants as request
 use Rattle.cfg_types.specs.declared.request.http.Http.{Http}
-use Rattle.cfg_world.specs.declared.ask.Question.{Question}
 use Rattle.cfg_world.specs.declared.ask.Question.TheVariants as question
 use Rattle.cfg_world.specs.declared.ask.Answer.{Answer as Given}
 use Rattle.cfg_world.specs.declared.ask.Answer.TheVariants as answer
@@ -22,13 +20,12 @@ use Rattle.cfg_kept.specs.KeptInquiry.{Runs, lift}
 use Rattle.cfg_kept.proofs.Splits.{lowered_run}
 use Rattle.cfg_base.specs.declared.address.Address.TheVariants.{V4}
 use Rattle.cfg_exchange.specs.declared.container.ContainerSettings.{ContainerSettings}
-use Rattle.cfg_exchange.specs.declared.container.ContainerUri.{ContainerUri}
 use Rattle.cfg_exchange.specs.declared.container.ContainerUri.TheVariants as uri
 use Rattle.cfg_exchange.specs.declared.full_uri.FullUri.TheVariants.{AtAddress}
 use Rattle.cfg_exchange.specs.declared.reading.ReplyKind.TheVariants as kind
 use Rattle.cfg_exchange.specs.declared.reading.Reading.TheVariants.{Fine}
 use Rattle.cfg_exchange.specs.Classifiers.{unless_fine, credentials_repeats, is_repeated}
-use Rattle.cfg_exchange.specs.Containers.{IsUriBy, document_keys, said_keys, reply_keys, answer_keys, credentials_request, attempt_limit, credentials_attempts, fetched_keys, container_target, with_token}
+use Rattle.cfg_exchange.specs.Containers.{IsUriBy, document_keys, said_keys, reply_keys, answer_keys, credentials_request, attempt_limit, credentials_attempts, fetched_keys, container_target}
 use Rattle.cfg_exchange.specs.Readings.{said_reading, document_reading}
 use Rattle.cfg_exchange.specs.Targets.{full_target}
 use Rattle.cfg_exchange.proofs.Pieces.{attempts_piece}
@@ -41,7 +38,7 @@ use Rattle.cfg_chain.specs.Settings.{ChainSetting, Setting, setting, container_s
 use Rattle.cfg_chain.proofs.Calls.{runs_call, some_is}
 use Rattle.cfg_endpoint.specs.declared.served.Served.{Served}
 use Rattle.cfg_endpoint.specs.Endpoints.{EndpointState, with_body, document_of}
-use Rattle.cfg_endpoint.specs.Made.{IsWritable, IsMade}
+use Rattle.cfg_endpoint.specs.Made.{IsWritable}
 use Rattle.cfg_endpoint.specs.Serves.{AnswersAs, Serves, after_question, after_questions}
 use Rattle.cfg_endpoint.specs.Devices.{DevicesState, start, Allows, Stands}
 use Rattle.cfg_endpoint.specs.Calls.{container_address, HasContainer, IsReadyFor, HasGone, endpoint_after, GoesOnByContainer}

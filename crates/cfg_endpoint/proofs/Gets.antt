@@ -1,8 +1,7 @@
 -- Gets from an endpoint, and the session token that is kept for them.
-use Rattle.std.proofs.Common.{◌≡◌, ◌≤◌, ◌<◌, ◌+◌, ◌-◌, ◌^◌, ◌≤ℤ◌, ℕ, pos, List, [], ◌∷◌, ◌++◌, Bool, true, false, Option, Some, None, refl, sym, ap, ◌∙◌, subst, append-nil, inl, inr, arith, tests, lt-ltb}
-use Rattle.std.specs.Prelude.{Result, Ok, Err, IfSome, nat_lt, ◌&&◌, if◌then◌else◌}
+use Rattle.std.proofs.Common.{◌≡◌, ◌≤◌, ◌<◌, ◌+◌, ◌-◌, ℕ, List, [], ◌∷◌, ◌++◌, Bool, true, false, Option, Some, None, refl, sym, ap, ◌∙◌, subst, append-nil, inl, inr, arith, lt-ltb}
+use Rattle.std.specs.Prelude.{Result, Ok, IfSome, if◌then◌else◌}
 use Rattle.std.specs.List.{AllByRecursion}
-use Rattle.cfg_base.specs.Moment.{Moment}
 use Rattle.cfg_base.specs.Text.{characters}
 use Rattle.cfg_types.specs.declared.errors.imds.ImdsError.{ImdsError}
 use Rattle.cfg_types.specs.declared.reply.Reply.TheVariants as replied
@@ -20,13 +19,13 @@ use Rattle.cfg_exchange.specs.declared.reading.ReplyKind.TheVariants as kind
 use Rattle.cfg_exchange.specs.declared.reading.Reading.TheVariants.{Fine}
 use Rattle.cfg_exchange.specs.Attempts.{Attempts}
 use Rattle.cfg_exchange.specs.Classifiers.{Repeats, unless_fine, is_repeated}
-use Rattle.cfg_exchange.specs.Readings.{token_reading, text_reading}
+use Rattle.cfg_exchange.specs.Readings.{text_reading}
 use Rattle.cfg_imds.specs.Clients.{ClientRules, place_of, settle, fetch}
 use Rattle.cfg_imds.specs.Fetches.{fetched, entry_fault, reply_fault}
 use Rattle.cfg_imds.specs.Requests.{Service, token_request, get_request}
 use Rattle.cfg_imds.specs.SettledParts.{Renewed, SettledBy, SettledPart}
 use Rattle.cfg_imds.specs.Settles.{Settled, has_time_left, renewal}
-use Rattle.cfg_imds.specs.Tokens.{Token, reply_token, read_token, later}
+use Rattle.cfg_imds.specs.Tokens.{Token, reply_token, read_token}
 use Rattle.cfg_imds.proofs.Shapes.{Fetched, settle_shape, fetch_shape}
 use Rattle.cfg_kept.specs.declared.place.Place.TheVariants.{Chain}
 use Rattle.cfg_kept.specs.Kinds.{Value, States, MetadataTokenAt, value_at, with_value, token_in}
@@ -36,7 +35,7 @@ use Rattle.cfg_kept.specs.MetadataHoldings.{token_holding}
 use Rattle.cfg_kept.proofs.Splits.{split_runs, lowered_run}
 use Rattle.cfg_imds_credentials.specs.Metadata.{token_and_text}
 use Rattle.cfg_endpoint.specs.Endpoints.{EndpointState, Accepts, gives_token, with_token, token_text, token_answer, token_reply, at_path, IsGetReply, after_token, after_request}
-use Rattle.cfg_endpoint.specs.Serves.{IsReplied, AnswersAs, after_question, Serves, after_questions}
+use Rattle.cfg_endpoint.specs.Serves.{AnswersAs, after_question, Serves, after_questions}
 use Rattle.cfg_endpoint.specs.Calls.{IsEarly, Fresh}
 use Rattle.cfg_endpoint.proofs.Stretches.{serves_split, after_both}
 use Rattle.cfg_endpoint.proofs.Replies.{token_fine, token_read}

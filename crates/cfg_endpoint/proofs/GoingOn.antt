@@ -1,16 +1,14 @@
 -- Each call of the default chain over an endpoint gives what it serves.
-use Rattle.std.proofs.Common.{◌≡◌, ◌≢◌, ◌≤◌, ◌<◌, ◌+◌, ◌*◌, ◌≤ℤ◌, ℕ, zero, suc, pos, List, [], ◌∷◌, ◌++◌, Bool, true, false, Option, Some, None, refl, sym, ap, ◌∙◌, subst, arith}
+use Rattle.std.proofs.Common.{◌≡◌, ◌≢◌, ◌≤◌, ◌<◌, ◌+◌, ◌*◌, ℕ, zero, suc, List, [], ◌∷◌, ◌++◌, true, false, Some, None, refl, sym, ap, ◌∙◌, subst, arith}
 use Rattle.std.specs.Prelude.{All, slice_get, unwrap_or, option_map, option_and_then, length, drop, ◌-◌, codes}
 use Rattle.std.specs.Option.{option_or}
 use Rattle.std.specs.FinMap.{get}
 use Rattle.std.specs.Str.{encode_utf8_all, all_scalars}
 use Rattle.cfg_base.specs.Moment.{Moment}
-use Rattle.cfg_types.specs.Keys.{Keys}
 use Rattle.cfg_world.specs.declared.devices.Devices.{Ghosts}
 use Rattle.cfg_world.specs.declared.ask.Question.{Question}
 use Rattle.cfg_world.specs.declared.ask.Question.TheVariants as question
 use Rattle.cfg_world.specs.declared.ask.Answer.{Answer as Given}
-use Rattle.cfg_world.specs.declared.ask.Answer.TheVariants as answer
 use Rattle.cfg_world.specs.Asked.{Same, StandsOn}
 use Rattle.cfg_world.specs.Epoch.{epoch}
 use Rattle.cfg_world.specs.Faults.{full_count}
@@ -18,7 +16,6 @@ use Rattle.cfg_world.specs.Fits.{Pair}
 use Rattle.cfg_world.specs.Held.{Held}
 use Rattle.cfg_world.specs.Leaves.{moment_of}
 use Rattle.cfg_world.specs.Script.{last_reading}
-use Rattle.cfg_kept.specs.declared.place.Place.TheVariants.{Chain}
 use Rattle.cfg_kept.specs.Kinds.{Value, States}
 use Rattle.cfg_kept.specs.Chains.{chain}
 use Rattle.cfg_kept.specs.KeptInquiry.{Runs}
@@ -28,7 +25,7 @@ use Rattle.cfg_imds.specs.Endpoints.{setting as setting_text, by_mode, mode_by, 
 use Rattle.cfg_imds.specs.Requests.{Service}
 use Rattle.cfg_imds.specs.Regions.{is_disabled, is_true_text}
 use Rattle.cfg_imds.specs.Paths.{is_path}
-use Rattle.cfg_imds_credentials.specs.Metadata.{role_path, metadata}
+use Rattle.cfg_imds_credentials.specs.Metadata.{role_path}
 use Rattle.cfg_profile.specs.Configuration.{Configuration}
 use Rattle.cfg_profile.specs.Sections.{property}
 use Rattle.cfg_profile.specs.Selected.{selected_name}
@@ -38,13 +35,13 @@ use Rattle.cfg_providers.specs.CustomSources.{Answer}
 use Rattle.cfg_chain.specs.declared.member.Member.TheVariants.{Ec2InstanceMetadata}
 use Rattle.cfg_chain.specs.Members.{member_tree, credentials_chain}
 use Rattle.cfg_chain.specs.Provides.{IsCall, Provides}
-use Rattle.cfg_chain.specs.Settings.{ChainSetting, Services, AreServices, Setting, setting, chain_metadata, given_or}
+use Rattle.cfg_chain.specs.Settings.{ChainSetting, Setting, setting, chain_metadata, given_or}
 use Rattle.cfg_chain.proofs.Calls.{runs_call, some_is}
 use Rattle.cfg_endpoint.specs.Endpoints.{EndpointState}
 use Rattle.cfg_endpoint.specs.Made.{IsWritable, IsMade, is_asked_for, service_address}
 use Rattle.cfg_endpoint.specs.Serves.{Serves, after_questions, requests_in}
 use Rattle.cfg_endpoint.specs.Devices.{DevicesState, QuestionKept, place_after, reading_at, Keeps, places_after, start, Allows, Stands}
-use Rattle.cfg_endpoint.specs.Calls.{HasNoSections, HasNothing, IsEarly, IsReadyFor, HasGone, endpoint_after, HasTokens, Fresh, metadata_expiry, metadata_keys, GivesMetadata, IsServed, GoesOn, Called, requests_of, AreCalls, EachGives}
+use Rattle.cfg_endpoint.specs.Calls.{HasNoSections, HasNothing, IsEarly, IsReadyFor, HasGone, endpoint_after, HasTokens, Fresh, metadata_expiry, metadata_keys, GivesMetadata, GoesOn, Called, requests_of, AreCalls, EachGives}
 use Rattle.cfg_endpoint.proofs.Addresses.{service_at}
 use Rattle.cfg_endpoint.proofs.Gets.{timely_split, IsTimely, AreTimely, IsUsual, Later, later_questions}
 use Rattle.cfg_endpoint.proofs.Makings.{asked_is}

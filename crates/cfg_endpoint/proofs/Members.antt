@@ -1,8 +1,8 @@
 -- The members of a chain that has nothing but the instance metadata service.
-use Rattle.std.proofs.Common.{◌≡◌, ◌<◌, ◌+◌, ℕ, List, [], ◌∷◌, ◌++◌, Bool, true, false, Option, Some, None, refl, sym, ap, ◌∙◌, subst, append-nil, arith}
-use Rattle.std.specs.Prelude.{Result, Ok, Err, codes, not, ◌&&◌, ◌||◌, is_none, option_map, option_and_then, if◌then◌else◌, ◌==◌}
+use Rattle.std.proofs.Common.{◌≡◌, ◌+◌, ℕ, List, [], ◌∷◌, ◌++◌, Bool, true, false, Option, Some, None, refl, sym, ap, ◌∙◌, subst, append-nil}
+use Rattle.std.specs.Prelude.{Result, Ok, Err, codes, not, ◌&&◌, ◌||◌, is_none, if◌then◌else◌, ◌==◌}
 use Rattle.std.specs.FinMap.{get, len}
-use Rattle.std.specs.Str.{encode_utf8_all, bytes_eq}
+use Rattle.std.specs.Str.{bytes_eq}
 use denote.Hole.Carrier as carrier
 use Rattle.cfg_types.specs.Keys.{Keys}
 use Rattle.cfg_types.specs.Classes.{is_not_loaded_answer}
@@ -15,30 +15,25 @@ use Rattle.cfg_types.specs.declared.errors.ProfileFileError.{ProfileFileError}
 use Rattle.cfg_types.specs.declared.errors.ProfileFileError.TheVariants.{NoProfilesDefined}
 use Rattle.cfg_types.specs.declared.errors.ProviderAttempt.{ProviderAttempt}
 use Rattle.cfg_world.specs.Fits.{Pair}
-use Rattle.cfg_world.specs.Inquiry as low
-use Rattle.cfg_world.specs.Inquiry.{Done, after, if_ok}
+use Rattle.cfg_world.specs.Inquiry.{after, if_ok}
 use Rattle.cfg_kept.specs.Chains.{passed, attempt, go_on, chain}
 use Rattle.cfg_kept.specs.Kinds.{Value, States}
-use Rattle.cfg_kept.specs.KeptInquiry.{KeptInquiry, Gives, Runs, lift, onwards}
+use Rattle.cfg_kept.specs.KeptInquiry.{Gives, Runs, lift, onwards}
 use Rattle.cfg_kept.proofs.Splits.{split_runs}
-use Rattle.cfg_exchange.specs.Containers.{token_by, token_file, token_text, auth_token, container_target, IsUriBy, IsContainerUri, with_token, container}
+use Rattle.cfg_exchange.specs.Containers.{token_by, token_text, auth_token, container_target, IsUriBy, IsContainerUri, with_token, container}
 use Rattle.cfg_exchange.specs.declared.container.ContainerUri.{ContainerUri}
 use Rattle.cfg_exchange.specs.declared.container.ContainerUri.TheVariants as uri
-use Rattle.cfg_imds.specs.Endpoints.{setting as endpoint_setting_of, endpoint_text, by_mode, mode_by, key_in, IsEndpoint, IsEndpointBy}
-use Rattle.cfg_profile.specs.Configuration.{Configuration}
-use Rattle.cfg_profile.specs.NamedSources.{IsPlan}
 use Rattle.cfg_profile.specs.Plans.{no_section, missing_profile, IsChainAt}
 use Rattle.cfg_base.specs.Gives.{◌>>=◌}
 use Rattle.cfg_base.specs.TextMap.{Named}
 use Rattle.cfg_profile.specs.SectionParts.{SectionParts}
-use Rattle.cfg_profile.specs.SectionSets.{SectionSets}
 use Rattle.cfg_profile.specs.Selected.{selected_name}
 use Rattle.cfg_profile.specs.declared.sections.ProfileSource.{ProfileSource}
 use Rattle.cfg_profile.specs.declared.sections.ProfileSource.TheVariants.{Sections, Refused}
 use Rattle.cfg_profile.proofs.PlanLaws.{the_plan}
 use Rattle.cfg_providers.specs.CustomSources.{Answer}
 use Rattle.cfg_providers.specs.EnvironmentKeys.{usable, is_not_unicode, environment}
-use Rattle.cfg_providers.specs.EnvironmentCauses.{is_missing, needs_older_secret, environment_is_passed_over}
+use Rattle.cfg_providers.specs.EnvironmentCauses.{is_missing, needs_older_secret}
 use Rattle.cfg_providers.specs.WebIdentities.{set_or_not, needed, identity_in, by_identity, no_policies, web_identity}
 use Rattle.cfg_providers.specs.declared.web_identity_token.WebIdentity.{WebIdentity}
 use Rattle.cfg_providers.proofs.EnvironmentFailures.{environment_not_loaded}
@@ -46,7 +41,7 @@ use Rattle.cfg_chain.specs.declared.member.Member.{Member}
 use Rattle.cfg_chain.specs.declared.member.Member.TheVariants.{Environment, Profile, WebIdentityToken, EcsContainer, Ec2InstanceMetadata}
 use Rattle.cfg_chain.specs.Members.{member_tree, credentials_chain}
 use Rattle.cfg_chain.specs.Settings.{Setting, names_of, container_settings}
-use Rattle.cfg_chain.specs.profile.Plans.{Planned, profile_plan, plan_in, plan, is_not_loaded_error, refusal}
+use Rattle.cfg_chain.specs.profile.Plans.{profile_plan, plan_in, plan, is_not_loaded_error, refusal}
 use Rattle.cfg_chain.specs.profile.Profiles.{follows_plan, profile}
 use Rattle.cfg_chain.proofs.PassedByTable.{planned_line}
 use Rattle.cfg_endpoint.specs.Calls.{HasNoSections}

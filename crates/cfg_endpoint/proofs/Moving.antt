@@ -1,24 +1,17 @@
 -- One question more to devices over an endpoint.
-use Rattle.std.proofs.Common.{◌≡◌, ◌≤ℤ◌, pos, ℕ, List, [], ◌∷◌, ◌++◌, Bool, true, false, Option, Some, None, refl, sym, ap, ◌∙◌, subst, arith}
-use Rattle.std.specs.Prelude.{slice_get, All, if◌then◌else◌}
-use Rattle.cfg_base.specs.Moment.{Moment}
-use Rattle.cfg_types.specs.declared.reply.Reply.TheVariants as reply
-use Rattle.cfg_types.specs.declared.reply.http.HttpReply.{HttpReply}
+use Rattle.std.proofs.Common.{◌≡◌, ℕ, List, [], ◌∷◌, ◌++◌, Bool, true, false, Some, refl, sym, ap, ◌∙◌, subst}
+use Rattle.std.specs.Prelude.{if◌then◌else◌}
 use Rattle.cfg_types.specs.declared.request.Request.{Request}
 use Rattle.cfg_types.specs.declared.request.Request.TheVariants as request
 use Rattle.cfg_world.specs.declared.ask.Question.{Question}
 use Rattle.cfg_world.specs.declared.ask.Question.TheVariants as question
 use Rattle.cfg_world.specs.declared.ask.Answer.{Answer}
-use Rattle.cfg_world.specs.declared.ask.Answer.TheVariants as answer
 use Rattle.cfg_world.specs.Fits.{Fits, Pair}
-use Rattle.cfg_world.specs.Faults.{Faults, Rises, Counted}
-use Rattle.cfg_world.specs.Asked.{Asked, entered}
-use Rattle.cfg_world.specs.Handed as handed
-use Rattle.cfg_world.specs.Handed.{Handed, HandedOut, otherwise}
-use Rattle.cfg_world.specs.Tallies.{faults_after}
-use Rattle.cfg_endpoint.specs.Endpoints.{EndpointState, IsServed, IsReply, gives_token, with_token, after_token, after_request}
+use Rattle.cfg_world.specs.Faults.{Counted}
+use Rattle.cfg_world.specs.Asked.{Asked}
+use Rattle.cfg_endpoint.specs.Endpoints.{EndpointState, gives_token, with_token, after_request}
 use Rattle.cfg_endpoint.specs.Serves.{AnswersAs, after_question, after_questions, Serves}
-use Rattle.cfg_endpoint.specs.Devices.{DevicesState, QuestionKept, place_after, Keeps, places_after, with_given, start, Allows, Stands, Moved, MovesBy, reading_at}
+use Rattle.cfg_endpoint.specs.Devices.{DevicesState, QuestionKept, place_after, Keeps, places_after, with_given, start, Allows, Stands, Moved}
 use Rattle.cfg_endpoint.proofs.Stretches.{serves_join, after_both, keeps_join, places_both}
 
 -- a question changes nothing of an endpoint but how many tokens were given

@@ -19,7 +19,7 @@ use Rattle.cfg_world.specs.Handed.{Handed, IsGiven, HandedOut, otherwise}
 use Rattle.cfg_world.specs.Script.{step}
 use Rattle.cfg_endpoint.specs.Endpoints.{EndpointState, IsServed, IsReply, after_request}
 use Rattle.cfg_endpoint.specs.Serves.{AnswersRequest, AnswersAs, after_question}
-use Rattle.cfg_endpoint.specs.Devices.{DevicesState, RequestKept, QuestionKept, place_after, Allows, Stands, Moved, RepliesBy, reading_at}
+use Rattle.cfg_endpoint.specs.Devices.{DevicesState, RequestKept, QuestionKept, place_after, Allows, Stands, RepliesBy, reading_at}
 use Rattle.cfg_endpoint.proofs.Moving.{asked_of}
 
 -- devices, from their parts

@@ -1,6 +1,6 @@
 -- How the replies of an endpoint read.
-use Rattle.std.proofs.Common.{◌≡◌, ◌≤◌, ◌<◌, ◌+◌, ◌-◌, ◌^◌, ◌≤ℤ◌, ◌+ℤ◌, ℕ, pos, List, [], ◌∷◌, ◌++◌, Bool, true, false, Option, Some, None, refl, sym, ap, ◌∙◌, subst, arith, le-leb}
-use Rattle.std.specs.Prelude.{Result, Ok, Err, nat_eq, nat_le, int_lt, ◌&&◌, ◌||◌, is_some, codes, if◌then◌else◌}
+use Rattle.std.proofs.Common.{◌≡◌, ◌≤◌, ◌<◌, ◌+◌, ◌-◌, ◌^◌, ◌+ℤ◌, ℕ, pos, List, [], ◌∷◌, Bool, true, false, Some, None, refl, sym, ap, ◌∙◌, arith, le-leb}
+use Rattle.std.specs.Prelude.{Ok, nat_eq, nat_le, int_lt, ◌&&◌, ◌||◌, if◌then◌else◌}
 use Rattle.std.specs.Char.{digit_value}
 use Rattle.std.specs.Fmt.{decimal}
 use Rattle.std.specs.List.{list_all}
@@ -11,9 +11,7 @@ use Rattle.std.proofs.lemmas.Str.{IsUtf8-from_ascii}
 use Rattle.std.proofs.lemmas.Str.Parse.{digit_from_value}
 use Rattle.std.proofs.lemmas.Int.{ints}
 use Rattle.cfg_base.specs.Moment.{Moment}
-use Rattle.cfg_base.specs.Text.{characters}
 use Rattle.cfg_base.proofs.TextLemmas.{encodes-chars}
-use Rattle.cfg_types.specs.declared.reply.http.HttpReply.{HttpReply}
 use Rattle.cfg_world.specs.Faults.{full_count}
 use Rattle.cfg_exchange.specs.declared.reading.Reading.TheVariants.{Fine}
 use Rattle.cfg_exchange.specs.HeaderValues.{is_header_byte, is_header_value}
@@ -21,11 +19,11 @@ use Rattle.cfg_exchange.specs.Lifetimes.{number, number_in, lifetime}
 use Rattle.cfg_exchange.specs.Readings.{token_reading, text_reading, fine_if}
 use Rattle.cfg_exchange.proofs.Utf8.{passes_utf8}
 use Rattle.cfg_imds.specs.Fetches.{reply_fault, text_fault}
-use Rattle.cfg_imds.specs.Tokens.{Token, reply_token, later, expiry_by, token_until}
+use Rattle.cfg_imds.specs.Tokens.{Token, reply_token}
 use Rattle.cfg_json.specs.Reading.{utf8_of}
 use Rattle.cfg_endpoint.specs.Endpoints.{token_text, token_reply, with_body}
 use Rattle.cfg_endpoint.specs.Calls.{IsEarly}
-use Rattle.cfg_endpoint.proofs.Numbers.{decimal_text, number_written, within}
+use Rattle.cfg_endpoint.proofs.Numbers.{decimal_text, number_written}
 
 small : (n : ℕ) → n ≤ full_count → n < 2 ^ 64
 small n h = omega (arith, h)

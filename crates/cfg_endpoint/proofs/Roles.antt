@@ -1,6 +1,6 @@
 -- The role that an endpoint lists, and its document.
-use Rattle.std.proofs.Common.{◌≡◌, ◌≢◌, ◌≤◌, ◌<◌, ◌+◌, ℕ, pos, List, [], ◌∷◌, ◌++◌, Bool, true, false, Option, Some, None, refl, sym, ap, ◌∙◌, subst, append-nil, append_assoc, arith}
-use Rattle.std.specs.Prelude.{Result, Ok, Err, IfSome, option_map, if◌then◌else◌}
+use Rattle.std.proofs.Common.{◌≡◌, ◌≢◌, ◌≤◌, ◌<◌, ◌+◌, ℕ, List, [], ◌∷◌, ◌++◌, Bool, true, false, Option, Some, None, refl, sym, ap, ◌∙◌, subst, arith}
+use Rattle.std.specs.Prelude.{Result, Ok, Err, option_map, if◌then◌else◌}
 use Rattle.std.specs.Option.{option_or}
 use Rattle.std.specs.Str.{encode_utf8_all, all_scalars, IsUtf8, bytes_eq}
 use Rattle.std.proofs.lemmas.List.{append_cancel_left}
@@ -17,10 +17,6 @@ use Rattle.cfg_types.specs.declared.errors.imds.ImdsError.{ImdsError}
 use Rattle.cfg_types.specs.declared.errors.imds.ImdsError.TheVariants.{Unexpected}
 use Rattle.cfg_types.specs.declared.errors.imds.UnexpectedCause.TheVariants.{Path}
 use Rattle.cfg_types.specs.declared.reply.Reply.TheVariants as replied
-use Rattle.cfg_types.specs.declared.reply.http.HttpReply.{HttpReply}
-use Rattle.cfg_json.specs.Documents.{Read}
-use Rattle.cfg_json.specs.declared.credentials.JsonCredentials.{JsonCredentials}
-use Rattle.cfg_json.specs.declared.credentials.JsonCredentials.TheVariants as says
 use Rattle.cfg_world.specs.declared.ask.Question.TheVariants as question
 use Rattle.cfg_world.specs.declared.ask.Answer.TheVariants as answer
 use Rattle.cfg_world.specs.Fits.{Pair}
@@ -38,7 +34,6 @@ use Rattle.cfg_exchange.specs.Readings.{text_reading}
 use Rattle.cfg_exchange.proofs.Utf8.{passes_utf8}
 use Rattle.cfg_imds.specs.Fetches.{reply_fault, entry_text, text_or}
 use Rattle.cfg_imds.specs.Paths.{is_path}
-use Rattle.cfg_imds.specs.Tokens.{Token}
 use Rattle.cfg_imds.proofs.Shapes.{asked_is, done_is}
 use Rattle.cfg_kept.specs.declared.place.Place.TheVariants.{Chain}
 use Rattle.cfg_kept.specs.Kinds.{Value, States, MetadataTokenAt, RetrievedAt, with_value}
@@ -51,7 +46,7 @@ use Rattle.cfg_imds_credentials.specs.Metadata.{unless_fault, token_and_text, me
 use Rattle.cfg_imds_credentials.specs.Settings.{MetadataSetting}
 use Rattle.cfg_imds_credentials.proofs.Given.{whole_part}
 use Rattle.cfg_endpoint.specs.declared.served.Served.{Served}
-use Rattle.cfg_endpoint.specs.Endpoints.{EndpointState, Accepts, with_body, without_body, at_path, document_of}
+use Rattle.cfg_endpoint.specs.Endpoints.{EndpointState, with_body, without_body, at_path, document_of}
 use Rattle.cfg_endpoint.specs.Made.{IsWritable}
 use Rattle.cfg_endpoint.specs.Serves.{Serves, after_question, after_questions}
 use Rattle.cfg_endpoint.specs.Calls.{Fresh, metadata_expiry, metadata_keys}

@@ -1,6 +1,6 @@
 -- Devices that allow the same lists start from the same endpoint, where it is a new one, and by the same readings.
-use Rattle.std.proofs.Common.{◌≡◌, ◌≤◌, ◌<◌, ◌+◌, ℕ, List, [], ◌∷◌, ◌++◌, Bool, true, false, None, ◌⊎◌, inl, inr, refl, sym, ap, ◌∙◌, subst, arith}
-use Rattle.std.specs.Prelude.{Result, Ok, Err, nat_lt, codes, if◌then◌else◌}
+use Rattle.std.proofs.Common.{◌≡◌, ◌<◌, ◌+◌, ℕ, List, [], ◌∷◌, Bool, true, false, None, inl, inr, refl, sym, ap, ◌∙◌, subst, arith}
+use Rattle.std.specs.Prelude.{Ok, nat_lt, codes, if◌then◌else◌}
 use Rattle.std.specs.Str.{encode_utf8_all, all_scalars}
 use borrow.Author.Tests.{ltb-true}
 use Rattle.cfg_base.specs.Moment.{Moment}
@@ -8,7 +8,6 @@ use Rattle.cfg_base.specs.Text.{characters}
 use Rattle.cfg_base.proofs.TextLemmas.{characters-encodes}
 use Rattle.cfg_types.specs.declared.reply.Reply.TheVariants as reply
 use Rattle.cfg_types.specs.declared.reply.http.HttpReply.{HttpReply}
-use Rattle.cfg_types.specs.declared.request.Request.{Request}
 use Rattle.cfg_types.specs.declared.request.Request.TheVariants as request
 use Rattle.cfg_types.specs.declared.settings.Timeouts.{Timeouts}
 use Rattle.cfg_types.specs.declared.request.http.MetadataGet.{MetadataGet}

@@ -1,5 +1,5 @@
 -- Stretches of a journal, one after the other.
-use Rattle.std.proofs.Common.{◌≡◌, ℕ, List, [], ◌∷◌, ◌++◌, refl, sym, ap, ◌∙◌, subst}
+use Rattle.std.proofs.Common.{◌≡◌, ℕ, List, [], ◌∷◌, ◌++◌, refl}
 use Rattle.cfg_base.specs.Moment.{Moment}
 use Rattle.cfg_world.specs.Fits.{Pair}
 use Rattle.cfg_endpoint.specs.Endpoints.{EndpointState}

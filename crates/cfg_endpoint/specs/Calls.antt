@@ -1,5 +1,5 @@
 -- What calls of the default chain over an endpoint give.
-use Rattle.std.specs.Prelude.{◌≡◌, ◌<◌, ◌≤◌, ◌+◌, ◌≤ℤ◌, ℕ, pos, List, [], ◌∷◌, ◌++◌, length, drop, All, Option, Some, None, IfSome, Ok, codes, if◌then◌else◌}
+use Rattle.std.specs.Prelude.{◌≡◌, ◌≤◌, ◌+◌, ◌≤ℤ◌, ℕ, pos, List, [], ◌∷◌, ◌++◌, length, drop, All, Some, None, IfSome, Ok, codes, if◌then◌else◌}
 use Rattle.std.specs.FinMap.{get}
 use Rattle.std.specs.Str.{bytes_eq}
 use Rattle.cfg_base.specs.Moment.{Moment}

@@ -1,5 +1,5 @@
 -- Which endpoints are made, and why none is.
-use Rattle.std.specs.Prelude.{◌≡◌, ◌≤◌, ◌⊎◌, ℕ, List, [], Bool, true, false, Result, Ok, Err, codes}
+use Rattle.std.specs.Prelude.{◌≡◌, ◌≤◌, ℕ, List, [], Bool, true, false, Result, Ok, Err, codes}
 use Rattle.std.specs.Str.{all_scalars, IsUtf8}
 use Rattle.cfg_base.specs.Moment.{Moment}
 use Rattle.cfg_base.specs.Text.{characters}

@@ -8,7 +8,7 @@ use Rattle.cfg_world.specs.declared.ask.Answer.{Answer as Answered}
 use Rattle.cfg_world.specs.declared.ask.Question.{Question}
 use Rattle.cfg_world.specs.Asked.{Same, StandsOn}
 use Rattle.cfg_world.specs.Fits.{Pair, Fits, EachFits}
-use Rattle.cfg_world.specs.Handed.{Handed, IsGiven, GivenFrom, Allows, Stands}
+use Rattle.cfg_world.specs.Handed.{Handed, IsGiven, Allows, Stands}
 use Rattle.cfg_world.proofs.Agreeing.{same_entry}
 use Rattle.cfg_world.proofs.Counts.{Same-refl, Same-trans}
 use Rattle.cfg_kept.specs.declared.kept.Kept.{Kept}

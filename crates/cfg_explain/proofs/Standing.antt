@@ -4,7 +4,7 @@ use Rattle.cfg_world.specs.declared.ask.Question.{Question}
 use Rattle.cfg_world.specs.Fits.{Pair}
 use Rattle.cfg_world.specs.Agreeing.{AnswerAlike}
 use Rattle.cfg_kept.specs.Kinds.{Value, States}
-use Rattle.cfg_kept.specs.KeptInquiry.{KeptInquiry, Gives, Puts, Finds, Leaves, Runs, Asks, Begins, leave}
+use Rattle.cfg_kept.specs.KeptInquiry.{KeptInquiry, Gives, Puts, Finds, Leaves, Runs, Begins, leave}
 use Rattle.cfg_kept.specs.Beginnings.{IsWhole, IsNext}
 use Rattle.cfg_kept.proofs.Beginnings.{one_beginning, begins_whole, one_next, next_no_end, next_entry}
 use Rattle.cfg_kept.proofs.Told.{run_begins}

@@ -1,5 +1,5 @@
 -- A section on the loads that it found.
-use Rattle.std.proofs.Common.{◌≡◌, ℕ, ◌+◌, length, length-append, Bool, true, false, List, [], ◌++◌, Option, Result, refl, sym, subst, ◌∙◌, ap}
+use Rattle.std.proofs.Common.{◌≡◌, ℕ, ◌+◌, length, length-append, true, false, List, [], Option, Result, refl, sym, subst, ◌∙◌, ap}
 use Rattle.std.specs.Prelude.{IfSome}
 use Rattle.cfg_base.specs.Moment.{Moment}
 use Rattle.cfg_types.specs.Environment.{Variables}
@@ -7,16 +7,15 @@ use Rattle.cfg_types.specs.declared.settings.CallSettings.{CallSettings}
 use Rattle.cfg_world.specs.declared.asking.Asking.{Ghosts}
 use Rattle.cfg_world.specs.Fits.{Pair}
 use Rattle.cfg_world.specs.Inquiry.{Reads}
-use Rattle.cfg_world.specs.Follows.{Ends, Breaks}
 use Rattle.cfg_world.proofs.Inquiries.{breaks_here}
 use Rattle.cfg_token.specs.declared.token_key.TokenKey.{TokenKey}
 use Rattle.cfg_token.specs.declared.sections.Sectioned.{Sectioned}
 use Rattle.cfg_token.specs.declared.sections.Sectioned.TheVariants.{Hit, Load}
 use Rattle.cfg_token.specs.Rules.{Rules}
-use Rattle.cfg_token.specs.Sections.{section, answer_of}
-use Rattle.cfg_token.specs.Histories.{TokenLoad, History, IsHistory, IsTokenLoad, record_of, with_section, token_in, kept_in, last_in, load_in}
+use Rattle.cfg_token.specs.Sections.{section}
+use Rattle.cfg_token.specs.Histories.{TokenLoad, History, IsHistory, IsTokenLoad, with_section, token_in, kept_in, last_in, load_in}
 use Rattle.cfg_token.specs.SectionCalls.{is_memory, Answers, Interrupted}
-use Rattle.cfg_gate.specs.GatedSections.{loads_of, Finds, EndsTurn, BreaksTurn, AnswersTurn}
+use Rattle.cfg_gate.specs.GatedSections.{loads_of, EndsTurn, BreaksTurn, AnswersTurn}
 
 loads_made : {T E : Type 0} (h : History T E) (part : List Pair) (made : Sectioned T E) → length (with_section h part made).records ≡ length h.records + loads_of made
 loads_made h part (Hit token) = length-append h.records []

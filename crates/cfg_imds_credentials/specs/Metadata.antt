@@ -1,5 +1,5 @@
 -- The tree of a provider of metadata credentials.
-use Rattle.std.specs.Prelude.{ℕ, List, ◌∷◌, [], ◌++◌, nat_eq, Option, Some, None, option_map, Result, Ok, Err, codes, if◌then◌else◌}
+use Rattle.std.specs.Prelude.{ℕ, List, ◌∷◌, [], ◌++◌, nat_eq, Option, Some, None, Result, Ok, Err, codes, if◌then◌else◌}
 use Rattle.std.specs.Str.{encode_utf8_all}
 use Rattle.cfg_types.specs.Keys.{Keys}
 use Rattle.cfg_types.specs.Metadata.{is_dispatch_failure, error_reply}

@@ -9,11 +9,11 @@ use Rattle.cfg_world.specs.Fits.{Pair}
 use Rattle.cfg_kept.specs.Kinds.{Value, States, with_value}
 use Rattle.cfg_kept.specs.KeptInquiry.{KeptInquiry, Gives, Puts, Finds, Leaves, Runs, Asks, found_by, kept_after}
 use Rattle.cfg_kept.proofs.Agreeing.{same_found, same_first}
-use Rattle.cfg_kept.proofs.Beginnings.{one_next, next_no_end}
+use Rattle.cfg_kept.proofs.Beginnings.{one_next}
 use Rattle.cfg_kept.proofs.Told.{told_back}
 use Rattle.cfg_meta.specs.AnswerRules.{AnswerRules, passed_over, attempt_of}
 use Rattle.cfg_meta.specs.MemberParts.{Keeping, IsMemberPart, IsMemberQuestion, GoesThrough, AreMemberParts}
-use Rattle.cfg_meta.specs.NextQuestions.{HasEnded, IsNextOf, AsksOne}
+use Rattle.cfg_meta.specs.NextQuestions.{HasEnded, AsksOne}
 use Rattle.cfg_meta.proofs.OneCall.{one_member, alike_parts, not_both}
 
 head_is : {A : Type 0} {x y : A} {xs ys : List A} → x ∷ xs ≡ y ∷ ys → x ≡ y

@@ -37,7 +37,7 @@ use Rattle.cfg_providers.specs.declared.web_identity_token.WebIdentity.{WebIdent
 use Rattle.cfg_providers.specs.CustomSources.{Answer}
 use Rattle.cfg_providers.specs.SessionNames.{session_name}
 use Rattle.cfg_providers.specs.WebIdentities as identities
-use Rattle.std.proofs.Common.{◌≡◌, ℕ, zero, suc, List, [], ◌∷◌, Bool, true, false, Option, Some, None, Result, Ok, Err, refl}
+use Rattle.std.proofs.Common.{◌≡◌, ℕ, zero, suc, List, Bool, true, false, Option, Some, None, Result, Ok, Err, refl}
 use Rattle.std.specs.Prelude.{◌-◌, codes, if◌then◌else◌}
 use Rattle.cfg_types.specs.Environment.{Variables}
 use Rattle.cfg_world.specs.Fits.{Pair}

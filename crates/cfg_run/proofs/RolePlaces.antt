@@ -1,5 +1,5 @@
 -- A call that asks for a role of the selected profile: what is left of it.
-use Rattle.std.proofs.Common.{◌≡◌, zero, List, [], ◌∷◌, ◌++◌, length, drop, Option, Some, None, IfSome, Ok, Err, option_to_list, inl, inr, refl, sym, ◌∙◌, ap, subst, append_assoc, append-nil}
+use Rattle.std.proofs.Common.{◌≡◌, List, [], ◌∷◌, ◌++◌, length, drop, Option, Some, None, Ok, Err, inl, inr, refl, sym, ◌∙◌, ap, subst, append_assoc, append-nil}
 use denote.Hole.Carrier as carrier
 use Rattle.cfg_types.specs.Keys.{Keys}
 use Rattle.cfg_types.specs.declared.errors.CredentialsError as errors
@@ -10,7 +10,7 @@ use Rattle.cfg_world.specs.declared.ask.Question.{Question}
 use Rattle.cfg_world.specs.Fits.{Pair}
 use Rattle.cfg_world.specs.Inquiry as low
 use Rattle.cfg_world.specs.Inquiry.{Inquiry, Done, Ask}
-use Rattle.cfg_world.specs.Leaves.{assuming, clock, granted_of}
+use Rattle.cfg_world.specs.Leaves.{assuming}
 use Rattle.cfg_world.proofs.Inquiries.{split_after}
 use Rattle.cfg_kept.specs.Chains.{chain, passed, attempt, go_on}
 use Rattle.cfg_kept.specs.Kinds.{Value, States}
@@ -20,7 +20,7 @@ use Rattle.cfg_kept.proofs.Trees.{runs_then, asks_then, asks_first, lift_runs, l
 use Rattle.cfg_profile.specs.declared.chain.ProfileChain.{ProfileChain}
 use Rattle.cfg_profile.specs.declared.chain.RoleArn.{RoleArn}
 use Rattle.cfg_profile.specs.Settings.{settings_of}
-use Rattle.cfg_providers.specs.AssumeRole.{role_session, request, granted, in_role, exchange, assumes, assumes_roles}
+use Rattle.cfg_providers.specs.AssumeRole.{role_session, in_role, exchange, assumes, assumes_roles}
 use Rattle.cfg_providers.specs.CustomSources.{Answer}
 use Rattle.cfg_providers.specs.SessionNames.{session_name}
 use Rattle.cfg_chain.specs.declared.member.Member.{Member}
@@ -32,9 +32,9 @@ use Rattle.cfg_chain.specs.profile.Bases.{based}
 use Rattle.cfg_chain.specs.profile.Plans.{plan}
 use Rattle.cfg_chain.specs.profile.Profiles.{marked, assumed, follows_planned, follows_plan, profile}
 use Rattle.cfg_run.specs.Roles.{signer_in, roles_in, asked_before, marked_roles}
-use Rattle.cfg_run.proofs.NeverForRole.{NeverForRole, begins_without, runs_without, none_there, IsBehind, is_behind}
+use Rattle.cfg_run.proofs.NeverForRole.{NeverForRole, begins_without, runs_without, none_there, is_behind}
 use Rattle.cfg_run.proofs.BasesWithoutRoles.{based_without}
-use Rattle.cfg_run.proofs.RoleParts.{RestOf, rest_of, done_reads, begun_unmarked, begun_marked, leads_marked}
+use Rattle.cfg_run.proofs.RoleParts.{rest_of, done_reads, begun_unmarked, begun_marked, leads_marked}
 
 -- ---- a tree that asks alone
 

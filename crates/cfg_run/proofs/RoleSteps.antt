@@ -1,8 +1,7 @@
 -- A poll behind a question for a role: what is left is walked, and what it comes to is what the call comes to.
-use Rattle.std.proofs.Common.{◌≡◌, ◌⊎◌, ℕ, List, [], ◌∷◌, ◌++◌, length, drop, map, Option, Some, None, IfSome, IsSome, Ok, option_to_list, inl, inr, refl, sym, ◌∙◌, ap, subst, append_assoc, append-nil}
+use Rattle.std.proofs.Common.{◌≡◌, ◌⊎◌, List, [], ◌∷◌, ◌++◌, length, drop, map, Option, Some, None, IfSome, IsSome, Ok, option_to_list, inl, inr, refl, sym, ◌∙◌, ap, subst, append_assoc, append-nil}
 use Rattle.std.specs.declared.alloc.Global.{Global}
 use Rattle.std.specs.declared.dyn_box.DynBox.{DynBox}
-use Rattle.cfg_types.specs.Keys.{Keys}
 use Rattle.cfg_types.specs.declared.settings.CallSettings.{CallSettings}
 use Rattle.cfg_world.specs.declared.ask.Question.{Question}
 use Rattle.cfg_world.specs.Fits.{Pair}
@@ -25,17 +24,14 @@ use Rattle.cfg_chain.specs.profile.Profiles.{profile}
 use Rattle.cfg_chain.specs.Provides.{IsCall}
 use Rattle.cfg_chain.proofs.Calls.{is_call}
 use Rattle.cfg_run.specs.declared.last_role.LastRole.{LastRole}
-use Rattle.cfg_run.specs.declared.next.Next.{Next}
-use Rattle.cfg_run.specs.declared.next.Next.TheVariants.{Asks as AsksQuestion, Gives}
 use Rattle.cfg_run.specs.CallSoFar.{CallSoFar}
 use Rattle.cfg_run.specs.Places.{IsInProfile, IsInMember}
 use Rattle.cfg_run.specs.Planned.{names_in}
-use Rattle.cfg_run.specs.RegionRuns as region
-use Rattle.cfg_run.specs.Roles.{signer_in, roles_in, IsForRole, IsAtRole, AreLeft, marked_roles}
-use Rattle.cfg_run.specs.Runs.{IsWaitingCall, IsUnderWay, IsUnderWayAt, ComesNext}
+use Rattle.cfg_run.specs.Roles.{IsAtRole, AreLeft, marked_roles}
+use Rattle.cfg_run.specs.Runs.{IsWaitingCall, IsUnderWay, IsUnderWayAt}
 use Rattle.cfg_run.proofs.NeverForRole.{runs_without, is_behind}
 use Rattle.cfg_run.proofs.ReplaySteps.{some_is, no_question}
-use Rattle.cfg_run.proofs.RolePlaces.{LeftOfProfile, left_of_profile, answer_stays, chain_runs, chain_asks, profile_asker, environment_without}
+use Rattle.cfg_run.proofs.RolePlaces.{left_of_profile, answer_stays, chain_runs, chain_asks, profile_asker, environment_without}
 use Rattle.cfg_run.proofs.TreeSteps.{asks_begins}
 
 -- ---- where a question of the profile is shown

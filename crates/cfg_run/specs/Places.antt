@@ -1,6 +1,5 @@
 -- Where a call is that asks for the roles of the selected profile, and what a walk from there comes to.
-use Rattle.std.specs.Prelude.{◌≡◌, List, ◌++◌, map, Option, Some, None, IfSome, Result}
-use Rattle.cfg_types.specs.Keys.{Keys}
+use Rattle.std.specs.Prelude.{◌≡◌, List, ◌++◌, map, Option, Some, None, IfSome}
 use Rattle.cfg_types.specs.declared.errors.CredentialsError.{CredentialsError}
 use Rattle.cfg_token.specs.declared.token_key.TokenKey.{TokenKey}
 use Rattle.cfg_world.specs.declared.ask.Question.{Question}

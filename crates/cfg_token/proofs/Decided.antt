@@ -1,5 +1,5 @@
 -- The token of a load is the decision on its own receipts.
-use Rattle.std.proofs.Common.{◌≡◌, ℕ, zero, suc, Bool, true, false, not, ◌&&◌, cond, List, [], ◌∷◌, ◌++◌, Option, Some, None, Result, Ok, Err, slice_get, take, append-nil, refl, sym, ◌∙◌, ap, subst}
+use Rattle.std.proofs.Common.{◌≡◌, ℕ, zero, suc, Bool, true, false, not, cond, List, [], ◌∷◌, Option, Some, None, Result, Ok, Err, slice_get, take, append-nil, refl, sym, subst}
 use Rattle.std.specs.Prelude.{IfOk}
 use Rattle.cfg_base.specs.Moment.{Moment}
 use Rattle.cfg_types.specs.Environment.{Variables}
@@ -8,26 +8,24 @@ use Rattle.cfg_world.specs.declared.ask.Answer.{Answer}
 use Rattle.cfg_world.specs.declared.ask.Answer.TheVariants as answer
 use Rattle.cfg_world.specs.declared.ask.Question.TheVariants as question
 use Rattle.cfg_world.specs.Fits.{Pair}
-use Rattle.cfg_world.specs.Inquiry.{Inquiry, Done, Ask, Reads, after}
+use Rattle.cfg_world.specs.Inquiry.{Done, after}
 use Rattle.cfg_world.specs.Leaves.{clock, moment_of}
 use Rattle.cfg_token.specs.declared.decision.Decision.{Decision}
 use Rattle.cfg_token.specs.declared.decision.Decision.TheVariants.{Use, Refresh, Refuse}
 use Rattle.cfg_token.specs.declared.file_token.Renewal.{Renewal}
 use Rattle.cfg_token.specs.declared.file_token.Renewal.TheVariants.{Granted, Passed, Refused}
 use Rattle.cfg_token.specs.declared.file_token.Unsaved.TheVariants.{NoText, NotWritten}
-use Rattle.cfg_token.specs.declared.loading.Loaded.{Loaded}
 use Rattle.cfg_token.specs.declared.sections.Sectioned.{Sectioned}
 use Rattle.cfg_token.specs.declared.sections.Sectioned.TheVariants.{Hit, Load}
 use Rattle.cfg_token.specs.declared.token_key.TokenKey.{TokenKey}
 use Rattle.cfg_token.specs.Rules.{Rules}
 use Rattle.cfg_token.specs.Moments.{is_before}
-use Rattle.cfg_token.specs.Decisions.{is_expired, outlasts_buffer, decision}
+use Rattle.cfg_token.specs.Decisions.{outlasts_buffer, decision}
 use Rattle.cfg_token.specs.Sections
 use Rattle.cfg_token.specs.Sections.{ok_of, noted_or}
-use Rattle.cfg_token.specs.LoadParts.{AsksForFile, RefreshesFile, IsRenewed, IsDecided, HandsOut, last_before}
+use Rattle.cfg_token.specs.LoadParts.{AsksForFile, RefreshesFile, IsRenewed, IsDecided, HandsOut}
 use Rattle.cfg_token.specs.Histories.{FinishedLoad, IsLoad, Machine, noted_by}
-use Rattle.cfg_token.proofs.Outcomes.{Gives, gives_reads, gives_after, gives_more}
-use Rattle.cfg_token.proofs.Readings.{gives_all}
+use Rattle.cfg_token.proofs.Outcomes.{Gives, gives_reads, gives_after}
 
 -- what a load says by these receipts
 pub record Says {T E : Type 0} (t : Rules T E) (last : Option Moment) (receipts : List Pair) (outcome : Result T E) : Type 0 where

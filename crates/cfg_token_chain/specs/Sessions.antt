@@ -5,8 +5,6 @@ use Rattle.cfg_types.specs.declared.errors.ProfileFileError.TheVariants.{Invalid
 use Rattle.cfg_types.specs.declared.errors.token.TokenCause.TheVariants.{NoSession}
 use Rattle.cfg_types.specs.declared.errors.token.TokenError.{TokenError}
 use Rattle.cfg_types.specs.declared.errors.token.TokenError.TheVariants.{TokenNotLoaded, InvalidConfiguration}
-use Rattle.cfg_profile.specs.declared.chain.BaseProvider.{BaseProvider}
-use Rattle.cfg_profile.specs.declared.chain.BaseProvider.TheVariants as base
 use Rattle.cfg_profile.specs.declared.chain.ProfileChain.{ProfileChain}
 use Rattle.cfg_profile.specs.declared.sections.ProfileSource.{ProfileSource}
 use Rattle.cfg_profile.specs.declared.sections.ProfileSource.TheVariants.{Sections, Refused}

@@ -1,5 +1,5 @@
 -- The chain stays, and so does all where memory ran out.
-use Rattle.std.proofs.Common.{◌≡◌, IfOk, sym, ap, subst}
+use Rattle.std.proofs.Common.{IfOk, sym, ap, subst}
 use Rattle.cfg_chain.specs.Settings.{ChainSetting}
 use Rattle.cfg_chain.specs.Views.{chain_of}
 use Rattle.cfg_run.specs.Runs.{IsUnderWay, ComesTo}

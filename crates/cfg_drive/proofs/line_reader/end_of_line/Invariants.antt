@@ -1,5 +1,5 @@
 -- No line ends in the bytes before it.
-use Rattle.std.proofs.Common.{◌≤◌, length, take}
+use Rattle.std.proofs.Common.{take}
 use Rattle.cfg_drive.specs.Lines.{HasNoEnd}
 use Rattle.cfg_drive.proofs.line_reader.end_of_line.Given as goal
 

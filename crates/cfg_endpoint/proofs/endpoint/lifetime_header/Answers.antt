@@ -1,7 +1,6 @@
 -- The characters of a number's text.
-use Rattle.std.proofs.Common.{ap, sym, ◌∙◌}
+use Rattle.std.proofs.Common.{ap, ◌∙◌}
 use Rattle.cfg_base.specs.Text.{characters}
-use Rattle.cfg_exchange.specs.Lifetimes.{lifetime_header as header_name}
 use Rattle.cfg_endpoint.proofs.Numbers.{decimal_text}
 use Rattle.cfg_endpoint.proofs.endpoint.lifetime_header.Goals as goal
 

@@ -1,8 +1,7 @@
 -- A `&str` is UTF-8.
-use Rattle.std.proofs.Common.{true, ap, sym, ◌∙◌}
+use Rattle.std.proofs.Common.{ap, ◌∙◌}
 use Rattle.std.specs.Str.{all_scalars}
 use Rattle.std.proofs.lemmas.Str.{scalars-chars}
-use Rattle.cfg_base.specs.Text.{characters}
 use Rattle.cfg_base.proofs.TextLemmas.{characters-chars}
 use Rattle.cfg_endpoint.proofs.Makings.{if_ok}
 use Rattle.cfg_endpoint.proofs.endpoint.text_of.Goals as goal

@@ -1,6 +1,5 @@
 -- A session token has one number.
-use Rattle.std.proofs.Common.{◌≡◌, ◌≤◌, ◌<◌, ap, sym, ◌∙◌, subst, arith}
-use Rattle.cfg_world.specs.Faults.{full_count}
+use Rattle.std.proofs.Common.{◌≤◌, ◌<◌, sym, ◌∙◌, subst}
 use Rattle.cfg_endpoint.proofs.Numbers.{one_number, within, no_truth}
 use Rattle.cfg_endpoint.proofs.tokens.is_accepted.Goals as goal
 

@@ -1,5 +1,5 @@
 -- Written digits are read back.
-use Rattle.std.proofs.Common.{ap, sym, ◌∙◌}
+use Rattle.std.proofs.Common.{ap, ◌∙◌}
 use Rattle.cfg_exchange.specs.Lifetimes.{number}
 use Rattle.cfg_endpoint.proofs.Numbers.{number_written, written_utf8}
 use Rattle.cfg_endpoint.proofs.tokens.read_number.Goals as goal

@@ -1,4 +1,4 @@
-use Rattle.std.proofs.Common.{◌≡◌, length, ap, arith}
+use Rattle.std.proofs.Common.{length, ap, arith}
 use Rattle.cfg_gate.proofs.FoundSections.{with_numbers}
 use Rattle.cfg_gate.proofs.sections.counted_section.Goals as goal
 

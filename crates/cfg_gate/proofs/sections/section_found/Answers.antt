@@ -1,4 +1,3 @@
-use Rattle.std.proofs.Common.{◌≡◌}
 use Rattle.cfg_gate.proofs.FoundSections.{answers_turn, asks_nothing}
 use Rattle.cfg_gate.proofs.sections.section_found.Goals as goal
 

@@ -1,5 +1,5 @@
 -- The receipt is the last one for a role, or is for none.
-use Rattle.std.proofs.Common.{rules, ◌≡◌, ◌<◌, length}
+use Rattle.std.proofs.Common.{rules, ◌<◌, length}
 use Rattle.cfg_run.proofs.LastRoles.{stays_last, number_below, later_role, signer_told}
 use Rattle.cfg_run.proofs.last_role.behind.Goals as goal
 

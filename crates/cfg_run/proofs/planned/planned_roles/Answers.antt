@@ -1,5 +1,5 @@
 -- The plan is made by the names of the chain's sources.
-use Rattle.std.proofs.Common.{List, map, sym, ap, ◌∙◌}
+use Rattle.std.proofs.Common.{map, sym, ap, ◌∙◌}
 use Rattle.cfg_chain.specs.Views.{of_box}
 use Rattle.cfg_chain.specs.profile.Plans.{plan}
 use Rattle.cfg_providers.specs.CustomSources.{NamedAnswer, named}

@@ -1,7 +1,5 @@
 -- The plan's key is the configuration's.
 use Rattle.std.proofs.Common.{ap, ◌∙◌}
-use Rattle.cfg_types.specs.Environment.{Variables}
-use Rattle.cfg_exchange.specs.Containers.{IsContainerUri}
 use Rattle.cfg_chain.specs.profile.Plans.{key_of_settled}
 use Rattle.cfg_chain.proofs.OnePlan.{settled_key}
 use Rattle.cfg_chain.proofs.settled.Settled.of.Goals as goal

@@ -1,9 +1,7 @@
 -- Each provider follows its member's tree.
-use Rattle.std.proofs.Common.{map, option_map, inr, refl, sym, ap, Ok}
-use Rattle.cfg_imds.specs.Clients.{client_rules}
+use Rattle.std.proofs.Common.{inr, refl, sym, ap, Ok}
 use Rattle.cfg_kept.proofs.HoldingSteps.{holds_said}
 use Rattle.cfg_imds_credentials.specs.Metadata.{metadata}
-use Rattle.cfg_providers.specs.CustomSources.{named}
 use Rattle.cfg_providers.specs.EnvironmentKeys.{by_environment}
 use Rattle.cfg_providers.specs.Processes.{credential_process}
 use Rattle.cfg_providers.specs.WebIdentities.{web_identity}

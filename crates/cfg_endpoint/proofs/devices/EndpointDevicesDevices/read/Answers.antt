@@ -1,7 +1,7 @@
 -- No file is there.
 use Rattle.cfg_base.specs.Text.{characters}
 use Rattle.cfg_world.specs.declared.ask.Answer.TheVariants as answer
-use Rattle.cfg_world.specs.Asked.{answer_of, written_answer}
+use Rattle.cfg_world.specs.Asked.{answer_of}
 use Rattle.cfg_endpoint.proofs.Questions.{other_asked, other_read}
 use Rattle.cfg_endpoint.proofs.devices.EndpointDevicesDevices.read.Goals as goal
 

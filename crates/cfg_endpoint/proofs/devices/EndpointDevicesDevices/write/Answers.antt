@@ -1,7 +1,6 @@
 -- No file is written.
 use Rattle.cfg_base.specs.Text.{characters}
-use Rattle.cfg_world.specs.declared.ask.Answer.TheVariants as answer
-use Rattle.cfg_world.specs.Asked.{answer_of, written_answer}
+use Rattle.cfg_world.specs.Asked.{written_answer}
 use Rattle.cfg_endpoint.proofs.Questions.{other_asked, other_write}
 use Rattle.cfg_endpoint.proofs.devices.EndpointDevicesDevices.write.Goals as goal
 

@@ -1,4 +1,3 @@
-use Rattle.std.proofs.Common.{◌≡◌}
 use Rattle.cfg_gate.proofs.gate.Pass.section.Goals as goal
 
 pub returns-clause-turn : goal.returns-clause-turn

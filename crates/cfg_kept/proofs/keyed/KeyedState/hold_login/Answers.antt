@@ -1,5 +1,5 @@
 -- Memory ran out before anything was found: the state is as it was.
-use Rattle.std.proofs.Common.{◌≡◌, Option, Some, refl, sym, ◌∙◌, subst, rules}
+use Rattle.std.proofs.Common.{◌≡◌, Option, Some, refl, subst, rules}
 use Rattle.cfg_kept.specs.declared.keyed.EitherState.{EitherState}
 use Rattle.cfg_kept.specs.declared.keyed.EitherState.TheVariants.{Login}
 use Rattle.cfg_kept.specs.KeyedStates.{HoldsLogin}

@@ -1,5 +1,5 @@
 -- The run stands on the walk over what was asked.
-use Rattle.std.proofs.Common.{◌++◌, length, option_to_list, refl, sym, ap, ◌∙◌, subst}
+use Rattle.std.proofs.Common.{◌++◌, option_to_list, refl, sym, ap, ◌∙◌, subst}
 use Rattle.cfg_chain.specs.Settings.{ChainSetting}
 use Rattle.cfg_chain.specs.Views.{chain_of}
 use Rattle.cfg_run.specs.CallSoFar.{CallSoFar}
