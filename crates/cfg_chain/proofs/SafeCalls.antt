@@ -44,6 +44,8 @@ use Rattle.cfg_chain.specs.Members.{member_tree, credentials_chain, default_memb
 use Rattle.cfg_meta.specs.CredentialsAnswers.{is_not_loaded}
 use Rattle.cfg_chain.specs.SharedCalls.{ProvidesFound, InterruptedFound}
 use Rattle.cfg_chain.specs.SafeCalls.{ChainAsksSafely}
+use Rattle.cfg_chain.specs.BegunCalls.{IsBegunCall}
+use Rattle.cfg_chain.specs.Provides.{IsCall}
 use Rattle.cfg_chain.specs.profile.Bases.{by_container, unknown_source, without_role, built_in_source, source_or, named_source, profile_session, signed_on, base_tree, in_base, based}
 use Rattle.cfg_chain.specs.profile.Plans.{Planned, plan, refusal}
 use Rattle.cfg_chain.specs.profile.Profiles.{assumed, follows_planned, follows_plan, profile}
@@ -199,6 +201,15 @@ module _ (s : Setting) (names : IsContainerUri s.configuration.environment s.con
   profile_without found journal out h loaded = passed_without Profile found journal out h loaded
 
 -- ---- a call
+
+module _ (over : ChainSetting) (old new : States) (found : List Value) (part : List Pair) where
+  pub begun : IsBegunCall over old new found part → ChainAsksSafely over part
+  begun h = chain_safely (setting over h.services) h.names.container (Some old) (Some new) found part h.begins
+
+  pub ended : (out : Answer) → IsCall over old new found part out → ChainAsksSafely over part
+  ended out h =
+      let s = setting over h.services in
+      chain_safely s h.names.container None None found part (run_begins (default_chain s) None None found part out (reads_resolved s found part out h.resolves))
 
 module _ {D : Type 0} (d : Ghosts D) (over : ChainSetting) (found : List Value) (before later : Held D) where
   abbrev Grew : Type 0

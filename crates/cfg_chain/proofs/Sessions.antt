@@ -30,6 +30,8 @@ use Rattle.cfg_login.proofs.OtherSpots.{begins_elsewhere}
 use Rattle.cfg_chain.specs.declared.member.Member.TheVariants.{Environment, Profile}
 use Rattle.cfg_chain.specs.Settings.{Setting, ChainSetting, Services, names_of, setting}
 use Rattle.cfg_chain.specs.Members.{member_tree, credentials_chain, default_members, default_chain}
+use Rattle.cfg_chain.specs.BegunCalls.{IsBegunCall}
+use Rattle.cfg_chain.specs.Provides.{IsCall}
 use Rattle.cfg_chain.specs.SharedCalls.{ProvidesFound, InterruptedFound}
 use Rattle.cfg_chain.specs.Resolves.{Resolves}
 use Rattle.cfg_chain.specs.Sessions.{IsSession, PlansNoSession, PlansSession, BeginsUnexpired, GoesOn, HasGoneOn, HandsOn, PassesBySessions, ReadsSession, IsOfEnvironment, ChainReadsSession, StopsBehind, StopsWithin, StopsInSession}
@@ -303,6 +305,13 @@ module _ (over : ChainSetting) (services : Services) where
   ]
 
 -- ---- a call
+
+module _ (over : ChainSetting) (old new : States) (found : List Value) (part : List Pair) (fits : EachFits part) where
+  pub begun : IsBegunCall over old new found part → StopsInSession over found part
+  begun h = chain_begun_in over h.services (Some old) (Some new) found part fits h.begins
+
+  pub ended : (out : Answer) → IsCall over old new found part out → ChainReadsSession over found part out
+  ended out h = chain_reads over h.services found part out fits h.resolves
 
 module _ {D : Type 0} (d : Ghosts D) (over : ChainSetting) (found : List Value) (before later : Held D) where
   abbrev Stopped : Type 0

@@ -27,6 +27,8 @@ use Rattle.cfg_chain.specs.declared.member.Member.{Member}
 use Rattle.cfg_chain.specs.declared.member.Member.TheVariants.{Environment, Profile, WebIdentityToken, EcsContainer, Ec2InstanceMetadata}
 use Rattle.cfg_chain.specs.Settings.{Setting, ChainSetting, Services, container_settings, chain_metadata, names_of, setting}
 use Rattle.cfg_chain.specs.Members.{member_tree, credentials_chain, default_chain}
+use Rattle.cfg_chain.specs.BegunCalls.{IsBegunCall}
+use Rattle.cfg_chain.specs.Provides.{IsCall}
 use Rattle.cfg_chain.specs.SharedCalls.{ProvidesFound, InterruptedFound}
 use Rattle.cfg_chain.specs.SignOns.{IsSignOn, PlansSignOn, AsksOnce, SignsOn}
 use Rattle.cfg_chain.specs.profile.Provides.{ProvidesByProfile, InterruptedProfile}
@@ -233,6 +235,15 @@ module _ (over : ChainSetting) (services : Services) (old new : Option States) (
       ]
 
 -- ---- a call
+
+module _ (over : ChainSetting) (old new : States) (found : List Value) (part : List Pair) where
+  pub begun : IsBegunCall over old new found part → SignsOn over found part
+  begun h = chain_signs over h.services (Some old) (Some new) found part h.begins
+
+  pub ended : (out : Answer) → IsCall over old new found part out → SignsOn over found part
+  ended out h =
+      let s = setting over h.services in
+      chain_signs over h.services None None found part (run_begins (default_chain s) None None found part out (reads_resolved s found part out h.resolves))
 
 module _ {D : Type 0} (d : Ghosts D) (over : ChainSetting) (found : List Value) (before later : Held D) where
   abbrev Signs : Type 0

@@ -4,7 +4,7 @@ ghost use Rattle.cfg_types.specs.Classes.{is_memory};
 ghost use Rattle.cfg_types.specs.declared.errors.CredentialsError.{CredentialsError};
 ghost use Rattle.cfg_types.specs.declared.errors.CredentialsError.TheVariants.{ProviderTimedOut};
 ghost use Rattle.cfg_types.specs.declared.errors.ProviderAttempt.{ProviderAttempt};
-ghost use Rattle.cfg_world.specs.Fits.{Pair};
+ghost use Rattle.cfg_world.specs.Fits.{Pair, EachFits};
 ghost use Rattle.cfg_world.specs.Agreeing.{AnswerAlike};
 ghost use Rattle.cfg_world.specs.Held.{Held};
 ghost use Rattle.cfg_world.specs.declared.script.DeviceLists.{DeviceLists as Lists};
@@ -197,8 +197,8 @@ pub fn a_call_tells_who_answered<D: Devices>()
 
 /// A call sends no `GetRoleCredentials`; or the selected profile's plan begins with a role of IAM Identity Center, and
 /// the call sends one, with the token that the part before it gave, which ends after the last reading of the clock in
-/// this part. It holds of the default chain and of the provider of a profile, and of a call for which memory ran out,
-/// too.
+/// this part. It holds of the default chain and of the provider of a profile, of a call for which memory ran out, and of
+/// the part of any call that has begun or came to its end: of a run, or of a journal that is looked at afterwards.
 pub fn a_call_sends_no_expired_token<D: Devices>()
     ensures answered { (over : ChainSetting) (found : List Value) (before later : Held D) (out : Answer) →
         ProvidesFound ⟦<D as Devices>⟧ over found before later out → Gains before.journal later.journal (SignsOn over found) }
@@ -208,13 +208,18 @@ pub fn a_call_sends_no_expired_token<D: Devices>()
         ProvidesByProfile ⟦<D as Devices>⟧ over old new found before later out → Gains before.journal later.journal (SignsOn over found) }
     ensures profile_interrupted { (over : ChainSetting) (old new : States) (found : List Value) (before later : Held D) →
         InterruptedProfile ⟦<D as Devices>⟧ over old new found before later → Gains before.journal later.journal (SignsOn over found) }
+    ensures begun { (over : ChainSetting) (old new : States) (found : List Value) (part : List Pair) →
+        IsBegunCall over old new found part → SignsOn over found part }
+    ensures ended { (over : ChainSetting) (old new : States) (found : List Value) (part : List Pair) (out : Answer) →
+        IsCall over old new found part out → SignsOn over found part }
 {}
 
 /// A call looks at no sign-in session; or the selected profile's plan begins with one, and the call's journal is the
 /// part of this session and what comes of it: credentials that the part gives end after its last reading of the clock,
 /// and the roles are assumed with them; an error is told as that of the base. Or the environment answered, and nothing
 /// was asked. Of the provider of a profile the same holds without the environment. A call for which memory ran out
-/// may also have stopped within the session's part, or before anything was asked.
+/// may also have stopped within the session's part, or before anything was asked; so may one that has
+/// begun. It holds of the part of any call that came to its end.
 pub fn a_call_reads_no_expired_session<D: Devices>()
     ensures answered { (over : ChainSetting) (found : List Value) (before later : Held D) (out : Answer) →
         ProvidesFound ⟦<D as Devices>⟧ over found before later out →
@@ -226,17 +231,25 @@ pub fn a_call_reads_no_expired_session<D: Devices>()
         Gains before.journal later.journal (λ part. ReadsSession over found part out) }
     ensures profile_interrupted { (over : ChainSetting) (old new : States) (found : List Value) (before later : Held D) →
         InterruptedProfile ⟦<D as Devices>⟧ over old new found before later → Gains before.journal later.journal (StopsInSession over found) }
+    ensures begun { (over : ChainSetting) (old new : States) (found : List Value) (part : List Pair) → EachFits part →
+        IsBegunCall over old new found part → StopsInSession over found part }
+    ensures ended { (over : ChainSetting) (old new : States) (found : List Value) (part : List Pair) (out : Answer) → EachFits part →
+        IsCall over old new found part out → ChainReadsSession over found part out }
 {}
 
 /// All `Http` requests of a call stand in the part of one container, which the chain's own member asks, or a
 /// source that the profile names. Each goes to the agent of Amazon ECS, or to the target of the full address that
 /// the variable holds: HTTPS, an allowed address, or a name that has allowed addresses alone by a look-up in that
-/// part. It holds of a call for which memory ran out, too.
+/// part. It holds of a call for which memory ran out, and of the part of any call that has begun or came to its end.
 pub fn a_call_asks_safe_targets<D: Devices>()
     ensures answered { (over : ChainSetting) (found : List Value) (before later : Held D) (out : Answer) →
         ProvidesFound ⟦<D as Devices>⟧ over found before later out → Gains before.journal later.journal (ChainAsksSafely over) }
     ensures interrupted { (over : ChainSetting) (found : List Value) (before later : Held D) →
         InterruptedFound ⟦<D as Devices>⟧ over found before later → Gains before.journal later.journal (ChainAsksSafely over) }
+    ensures begun { (over : ChainSetting) (old new : States) (found : List Value) (part : List Pair) →
+        IsBegunCall over old new found part → ChainAsksSafely over part }
+    ensures ended { (over : ChainSetting) (old new : States) (found : List Value) (part : List Pair) (out : Answer) →
+        IsCall over old new found part out → ChainAsksSafely over part }
 {}
 
 /// The same of a call of the provider of a profile's credentials: a source that the profile names asks the
