@@ -1,4 +1,5 @@
 //! What builders build, by scripts: a chain in its region, and a provider of a profile.
+use crate::own::source_of;
 use crate::setup::{Configured, answer_words, answered, read_configuration};
 use cfg_chain::{DefaultCredentialsChain, ProfileFileCredentialsProvider};
 use cfg_profile::{ProfileSource, ProviderConfig};
@@ -9,7 +10,7 @@ use std::alloc::{AllocError, Global};
 use std::test::Fail;
 
 const PROFILES: &str =
-    r#""profiles":[["default",[["role_arn","r"],["source_profile","keys"],["role_session_name","s"],["region","p"]]],["b",[["role_arn","b"],["source_profile","keys"],["role_session_name","s"],["region","q"]]],["c",[["role_arn","c"],["source_profile","keys"],["role_session_name","s"]]],["keys",[["aws_access_key_id","K"],["aws_secret_access_key","S"]]]]"#;
+    r#""profiles":[["default",[["role_arn","r"],["source_profile","keys"],["role_session_name","s"],["region","p"]]],["b",[["role_arn","b"],["source_profile","keys"],["role_session_name","s"],["region","q"]]],["c",[["role_arn","c"],["source_profile","keys"],["role_session_name","s"]]],["keys",[["aws_access_key_id","K"],["aws_secret_access_key","S"]]],["own",[["role_arn","o"],["credential_source","mine"],["role_session_name","s"]]]]"#;
 
 const METADATA: &str =
     r#""imds-token":[[200,[["x-aws-ec2-metadata-token-ttl-seconds","21600"]],"t"]],"imds-get":[[200,[],"m"]]"#;
@@ -22,7 +23,7 @@ fn script_of(alloc: Global, variables: &str) -> Result<String, AllocError> {
     )
 }
 
-// The kind of a question; of an exchange for a role, the role and the region.
+// The kind of a question; of an exchange for a role, the role, who signs it, and the region.
 fn word_of(alloc: Global, entry: &Entry) -> Result<String, AllocError> {
     match entry.question() {
         Question::Now => String::from_str(alloc, " now"),
@@ -37,8 +38,9 @@ fn request_word(alloc: Global, request: &Request) -> Result<String, AllocError> 
         Request::MetadataGet(_) => String::from_str(alloc, " imds-get"),
         Request::AssumeRole(call) => {
             let role = call.role_arn.as_str();
+            let signer = call.signer.access_key_id();
             let region = &call.settings.region;
-            format!(in alloc; " {role} in {region:?}")
+            format!(in alloc; " {role} by {signer} in {region:?}")
         }
         _ => String::from_str(alloc, " other"),
     }
@@ -100,18 +102,26 @@ fn regions_of_chains(rt: HostRuntime) -> Result<(), Fail> {
     let without = r#"["AWS_PROFILE","c"]"#;
     let off = r#"["AWS_PROFILE","c"],["AWS_EC2_METADATA_DISABLED","true"]"#;
     let table: &[(&str, u8, &str)] = &[
-        ("", 0, r#" r in Some("p")"#),
-        (variable, 0, r#" r in Some("e")"#),
-        (without, 0, r#" now imds-token now imds-get c in Some("m")"#),
-        (off, 0, " c in None"),
-        (variable, 1, r#" r in Some("given")"#),
-        (without, 2, r#" c in Some("given")"#),
-        (variable, 3, r#" r in Some("e")"#),
-        (without, 3, " c in None"),
-        (without, 4, r#" b in Some("q")"#),
-        (variable, 5, " r in None"),
-        (variable, 6, r#" b in Some("given")"#),
-        (without, 7, r#" now imds-token now imds-get c in Some("m")"#),
+        ("", 0, r#" r by K in Some("p")"#),
+        (variable, 0, r#" r by K in Some("e")"#),
+        (
+            without,
+            0,
+            r#" now imds-token now imds-get c by K in Some("m")"#,
+        ),
+        (off, 0, " c by K in None"),
+        (variable, 1, r#" r by K in Some("given")"#),
+        (without, 2, r#" c by K in Some("given")"#),
+        (variable, 3, r#" r by K in Some("e")"#),
+        (without, 3, " c by K in None"),
+        (without, 4, r#" b by K in Some("q")"#),
+        (variable, 5, " r by K in None"),
+        (variable, 6, r#" b by K in Some("given")"#),
+        (
+            without,
+            7,
+            r#" now imds-token now imds-get c by K in Some("m")"#,
+        ),
     ];
     for (variables, call, want) in table {
         let script = script_of(rt.alloc(), variables)?;
@@ -135,6 +145,14 @@ fn provider_by(
         1 => builder.profile_name("b")?.configure(config)?.build(),
         2 => builder.configure(config)?.profiles(refused).build(),
         3 => builder.configure(config)?.profile_name("gone")?.build(),
+        4 => builder.configure(config)?.profile_name("own")?.build(),
+        5 => {
+            let builder = builder.configure(config)?.profile_name("own")?;
+            let builder = builder.with_custom_provider("mine", source_of(alloc, "OTHER")?)?;
+            builder
+                .with_custom_provider("Mine", source_of(alloc, "OWN")?)?
+                .build()
+        }
         _ => builder.build(),
     }
 }
@@ -156,8 +174,9 @@ fn provided(alloc: Global, configured: Configured, call: u8) -> Result<String, O
 fn providers_of_a_profile(rt: HostRuntime) -> Result<(), Fail> {
     let granted =
         r#"Credentials { provider_name: "AssumeRoleProvider", access_key_id: "X", secret_access_key: "** redacted **", expires_after: 9 s 0 ns } SX Some("TX") [CredentialsProfile]"#;
-    let by_selected = format!(in rt.alloc(); "{granted} r in None")?;
-    let by_name = format!(in rt.alloc(); "{granted} b in None")?;
+    let by_selected = format!(in rt.alloc(); "{granted} r by K in None")?;
+    let by_name = format!(in rt.alloc(); "{granted} b by K in None")?;
+    let by_own = format!(in rt.alloc(); "{granted} o by OWN in None")?;
     let table: &[(u8, &str)] = &[
         (0, by_selected.as_str()),
         (1, by_name.as_str()),
@@ -169,7 +188,12 @@ fn providers_of_a_profile(rt: HostRuntime) -> Result<(), Fail> {
             3,
             r#"CredentialsNotLoaded(Profile(MissingProfile { profile: "gone", message: "could not find source profile gone referenced from the root profile" }))"#,
         ),
-        (4, "CredentialsNotLoaded(Profile(NoProfilesDefined))"),
+        (
+            4,
+            r#"InvalidConfiguration(Profile(UnknownProvider { name: "mine" }))"#,
+        ),
+        (5, by_own.as_str()),
+        (6, "CredentialsNotLoaded(Profile(NoProfilesDefined))"),
     ];
     let script = script_of(rt.alloc(), r#"["AWS_REGION","e"]"#)?;
     for (call, want) in table {
