@@ -3,7 +3,7 @@ use Rattle.std.specs.Prelude.{ℕ, ◌+◌, ◌-◌, ◌*◌, nat_lt, List, [], 
 use Rattle.std.specs.Str.{all_ascii_digits}
 use Rattle.cfg_program.specs.Lines.{digit_zero}
 use Rattle.cfg_program.specs.declared.commands.Command.{Command}
-use Rattle.cfg_program.specs.declared.commands.Command.TheVariants.{Resolve, Cached, Region, Token, Explain, Audit, Endpoint, Local, Generate}
+use Rattle.cfg_program.specs.declared.commands.Command.TheVariants.{Help, Version, Resolve, Cached, Region, Token, Explain, Audit, Endpoint, Local, Generate}
 use Rattle.cfg_program.specs.declared.causes.Below.TheVariants as below
 
 -- the number that decimal digits write behind those of n
