@@ -58,43 +58,47 @@ fn words_by(alloc: Global, setup: Setup) -> Result<String, OutOfMemory> {
     two_words(alloc, &chain, &mut world)
 }
 
+const NONE: &str =
+    r#"TokenNotLoaded(Chain(ProviderChainError { attempts: [ProviderAttempt { name: "Profile", error: TokenNotLoaded(NoSession) }] }))"#;
+
+const LOOPED: &str =
+    r#"InvalidConfiguration(CredentialLoop { profiles: ["default", "b"], next: "default" })"#;
+
+const MISSING: &str =
+    r#"InvalidConfiguration(MissingSsoSession { profile: "default", sso_session: "other" })"#;
+
+const PATHS: &[(&str, &str, &str)] = &[
+    (
+        r#"["default",[["sso_session","abc"]]]"#,
+        "=t now read now",
+        "=t now",
+    ),
+    (
+        r#"["default",[["role_arn","r"],["source_profile","b"]]],["b",[["sso_session","abc"]]]"#,
+        "=t now read now",
+        "=t now",
+    ),
+    (
+        r#"["default",[["aws_access_key_id","k"],["aws_secret_access_key","s"]]]"#,
+        NONE,
+        NONE,
+    ),
+    (
+        r#"["default",[["sso_account_id","1"],["sso_role_name","r"],["sso_region","x"],["sso_start_url","u"]]]"#,
+        NONE,
+        NONE,
+    ),
+    (r#"["default",[["sso_session","other"]]]"#, MISSING, MISSING),
+    (
+        r#"["default",[["role_arn","r"],["source_profile","b"]]],["b",[["role_arn","r"],["source_profile","default"]]]"#,
+        LOOPED,
+        LOOPED,
+    ),
+];
+
 #[test]
 fn paths_of_profiles(rt: HostRuntime) -> Result<(), Fail> {
-    let none =
-        r#"TokenNotLoaded(Chain(ProviderChainError { attempts: [ProviderAttempt { name: "Profile", error: TokenNotLoaded(NoSession) }] }))"#;
-    let looped =
-        r#"InvalidConfiguration(CredentialLoop { profiles: ["default", "b"], next: "default" })"#;
-    let missing =
-        r#"InvalidConfiguration(MissingSsoSession { profile: "default", sso_session: "other" })"#;
-    let table: &[(&str, &str, &str)] = &[
-        (
-            r#"["default",[["sso_session","abc"]]]"#,
-            "=t now read now",
-            "=t now",
-        ),
-        (
-            r#"["default",[["role_arn","r"],["source_profile","b"]]],["b",[["sso_session","abc"]]]"#,
-            "=t now read now",
-            "=t now",
-        ),
-        (
-            r#"["default",[["aws_access_key_id","k"],["aws_secret_access_key","s"]]]"#,
-            none,
-            none,
-        ),
-        (
-            r#"["default",[["sso_account_id","1"],["sso_role_name","r"],["sso_region","x"],["sso_start_url","u"]]]"#,
-            none,
-            none,
-        ),
-        (r#"["default",[["sso_session","other"]]]"#, missing, missing),
-        (
-            r#"["default",[["role_arn","r"],["source_profile","b"]]],["b",[["role_arn","r"],["source_profile","default"]]]"#,
-            looped,
-            looped,
-        ),
-    ];
-    for (profiles, first, second) in table {
+    for (profiles, first, second) in PATHS {
         let script = format!(in rt.alloc();
             r#"{{"variables":[["HOME","/home/u"],["AWS_REGION","x"]],"profiles":[{profiles}],{SESSIONS},{FILES}}}"#
         )?;
