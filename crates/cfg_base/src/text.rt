@@ -60,13 +60,6 @@ impl Text {
     {
         self.inner.as_str() == text
     }
-
-    /// The text as a `String`, without a copy.
-    pub fn into_string(self) -> String
-        ensures { characters (string_bytes result) ≡ self }
-    {
-        self.inner
-    }
 }
 
 impl fmt::Debug for Text {

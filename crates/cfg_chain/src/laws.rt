@@ -218,8 +218,8 @@ pub fn a_call_sends_no_expired_token<D: Devices>()
 /// part of this session and what comes of it: credentials that the part gives end after its last reading of the clock,
 /// and the roles are assumed with them; an error is told as that of the base. Or the environment answered, and nothing
 /// was asked. Of the provider of a profile the same holds without the environment. A call for which memory ran out
-/// may also have stopped within the session's part, or before anything was asked; so may one that has
-/// begun. It holds of the part of any call that came to its end.
+/// may also have stopped within the session's part, or before anything was asked; so may one that has begun. It holds
+/// of the part of any call that came to its end, where each answer fits its question.
 pub fn a_call_reads_no_expired_session<D: Devices>()
     ensures answered { (over : ChainSetting) (found : List Value) (before later : Held D) (out : Answer) →
         ProvidesFound ⟦<D as Devices>⟧ over found before later out →

@@ -260,6 +260,7 @@ fn with_found(
 fn fit(chain: &DefaultCredentialsChain, loaded: &mut Loaded) -> Result<(), OutOfMemory>
     ensures fits { OnOk result (kept_key loaded.new.kept ≡ key_of chain.now.core) }
     ensures stays { kept_key loaded.old.kept ≡ key_of chain.now.core → loaded.new ≡ loaded.old }
+    ensures failed { OnErr result (loaded.new ≡ loaded.old) }
 {
     if !loaded.kept.fits(chain.token_key()) {
         loaded.kept = chain.new_kept()?;

@@ -8,7 +8,7 @@ use cfg_script::{Script, ScriptProfiles, ServiceConfig};
 use cfg_types::{Request, Text};
 use cfg_world::{DeviceLists, Question};
 
-/// How many items each list of the devices has.
+/// How many items each list of the devices has. The fields are those of `DeviceLists`, a number for each list.
 pub(crate) struct Counts {
     files: usize,
     unwritable: usize,

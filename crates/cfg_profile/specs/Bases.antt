@@ -45,8 +45,3 @@ base_by_source sessions section None = base_by_file sessions section (text_prope
 -- the first of these that applies: a named source, web identity, single sign-on, a login session, a process, static keys
 unfoldable pub base : Named SectionParts → SectionParts → Result BaseProvider ProfileFileError
 base sessions section = base_by_source sessions section (text_property section (codes "credential_source"))
-
--- the keys of a base, where it is keys
-abbrev pub keys_in : BaseProvider → Option Keys
-keys_in (AccessKey keys) = Some keys
-keys_in _ = None

@@ -1,6 +1,5 @@
 //! What a profile gives credentials by.
 ghost use Rattle.std.specs.Prelude.{◌≡◌};
-ghost use Rattle.cfg_profile.specs.Bases.{keys_in};
 
 use cfg_types::{CommandWithSensitiveArgs, Credentials, Seq, Text};
 
@@ -91,18 +90,6 @@ impl Drop for BaseProvider {
             BaseProvider::LoginSession {
                 login_session_arn: _,
             } => {}
-        }
-    }
-}
-
-impl BaseProvider {
-    /// The static keys, where they are the base; none for every other base.
-    pub fn into_keys(self) -> Option<Credentials>
-        ensures { result ≡ keys_in self }
-    {
-        match self {
-            BaseProvider::AccessKey(keys) => Some(keys),
-            _ => None,
         }
     }
 }

@@ -103,7 +103,7 @@ impl DeviceLists {
     }
 }
 
-// How far each list was read.
+// How far each list was read. The fields are those of `DeviceLists`, but for files and paths, which are looked up.
 struct Places {
     clock: usize,
     jitter: usize,

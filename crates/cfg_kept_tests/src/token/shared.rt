@@ -73,6 +73,11 @@ const SCRIPTS: &[(&str, &str)] = &[
         r#"{"variables":[["HOME","/home/u"]],"clock":[0,0,3299,3300],"files":[["/home/u/.aws/sso/cache/a9993e364706816aba3e25717850c26c9cd0d89d.json","{\"accessToken\":\"t\",\"expiresAt\":\"1970-01-01T01:00:00Z\"}"]]}"#,
         "Ok(CachedSsoToken { secrets: \"** redacted **\", expires_at: 3600 s 0 ns }) 3 false None\nOk(CachedSsoToken { secrets: \"** redacted **\", expires_at: 3600 s 0 ns }) 4 true None\nOk(CachedSsoToken { secrets: \"** redacted **\", expires_at: 3600 s 0 ns }) 7 true None\nSso { session: \"abc\", region: \"us-east-1\", start_url: \"u\" } 1 true",
     ),
+    // A granted refresh: whoever is handed the published token is told of the attempt.
+    (
+        r#"{"variables":[["HOME","/home/u"]],"clock":[700,700,701,702],"files":[["/home/u/.aws/sso/cache/a9993e364706816aba3e25717850c26c9cd0d89d.json","{\"accessToken\":\"t\",\"expiresAt\":\"1970-01-01T00:15:00Z\",\"clientId\":\"i\",\"clientSecret\":\"s\",\"refreshToken\":\"r\",\"registrationExpiresAt\":\"1970-01-02T00:00:00Z\"}"]],"replies":{"create-token":[{"access":"t2","refresh":"r2","expires_in":3600}]}}"#,
+        "Ok(CachedSsoToken { secrets: \"** redacted **\", expires_at: 4300 s 0 ns }) 5 false None\nOk(CachedSsoToken { secrets: \"** redacted **\", expires_at: 4300 s 0 ns }) 6 true Some(Instant { seconds: 700, nanos: 0 })\nOk(CachedSsoToken { secrets: \"** redacted **\", expires_at: 4300 s 0 ns }) 7 true Some(Instant { seconds: 700, nanos: 0 })\nSso { session: \"abc\", region: \"us-east-1\", start_url: \"u\" } 0 true",
+    ),
     // Loads that fail, a refused refresh among them, leave no token and the last attempt.
     (
         r#"{"variables":[["HOME","/home/u"]],"clock":[1000,1000,1029],"files":[["/home/u/.aws/sso/cache/a9993e364706816aba3e25717850c26c9cd0d89d.json","{\"accessToken\":\"t\",\"expiresAt\":\"1970-01-01T00:15:00Z\",\"clientId\":\"i\",\"clientSecret\":\"s\",\"refreshToken\":\"r\",\"registrationExpiresAt\":\"1970-01-02T00:00:00Z\"}"]],"replies":{"create-token":[{"refused":"Other","message":"m"}]}}"#,

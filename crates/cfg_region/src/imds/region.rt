@@ -155,8 +155,8 @@ fn region_got(
     }
 }
 
-// The client that is asked: the one that was given, else the own one of the configuration. It is written out in each
-// crate whose provider has one: a client can hold a box, and a box that another crate's function makes says nothing.
+// The client that is asked: the one that was given, else the own one of the configuration. Each crate whose provider
+// has one writes it out: a function that hands on what may hold a box, as a client may, has to make it itself.
 fn asked_by(
     alloc: Global,
     config: &ProviderConfig,
