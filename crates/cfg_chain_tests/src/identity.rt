@@ -495,7 +495,7 @@ const KEPT: &[Case] = &[
     ),
 ];
 
-fn hold(rt: &impl Abort, alloc: Global, cases: &[Case]) -> Result<(), Fail> {
+fn assert_cases(rt: &impl Abort, alloc: Global, cases: &[Case]) -> Result<(), Fail> {
     for ((buffer, life), script, steps, want) in cases {
         let words = steps_of(alloc, settings(*buffer, *life), script, steps)?;
         assert_eq!(rt; words.as_str(), *want, "{script}");
@@ -505,25 +505,25 @@ fn hold(rt: &impl Abort, alloc: Global, cases: &[Case]) -> Result<(), Fail> {
 
 #[test]
 fn buffers_before_an_end(rt: HostRuntime) -> Result<(), Fail> {
-    hold(&rt, rt.alloc(), BUFFERS)
+    assert_cases(&rt, rt.alloc(), BUFFERS)
 }
 
 #[test]
 fn lives_of_what_is_held(rt: HostRuntime) -> Result<(), Fail> {
-    hold(&rt, rt.alloc(), LIVES)
+    assert_cases(&rt, rt.alloc(), LIVES)
 }
 
 #[test]
 fn names_of_a_cache(rt: HostRuntime) -> Result<(), Fail> {
-    hold(&rt, rt.alloc(), NAMES)
+    assert_cases(&rt, rt.alloc(), NAMES)
 }
 
 #[test]
 fn errors_between_loads(rt: HostRuntime) -> Result<(), Fail> {
-    hold(&rt, rt.alloc(), ERRORS)
+    assert_cases(&rt, rt.alloc(), ERRORS)
 }
 
 #[test]
 fn kept_values_under_names(rt: HostRuntime) -> Result<(), Fail> {
-    hold(&rt, rt.alloc(), KEPT)
+    assert_cases(&rt, rt.alloc(), KEPT)
 }
