@@ -11,10 +11,9 @@ ghost use Rattle.cfg_program.specs.Calls.{AnswersFrom, MakesCall, MakesCalls};
 ghost use Rattle.cfg_program.specs.Cached.{CachedAnswers, IsCachedCall};
 
 use crate::causes::Below;
-use crate::configuration::configuration;
 use crate::lines::LineForm;
 use crate::outcome::{Answered, tell};
-use crate::resolve::chain_over;
+use crate::resolve::{ScriptedCalls, chain_of_script};
 use cfg_chain::DefaultCredentialsChain;
 use cfg_identity::{CacheSettings, Loaded};
 use cfg_providers::CustomSource;
@@ -43,18 +42,11 @@ pub fn cached(
     requires { AllFit (lists_of (plain script)) }
     ensures { IfOk result (λ a. CachedAnswers (named_sources value custom.items) (plain script) a.is_ok a.lines.items) }
 {
-    let Script {
-        variables,
-        profiles,
-        selected,
-        region,
-        sleep,
-        service,
-        calls,
+    let ScriptedCalls {
+        chain,
         devices,
-    } = script;
-    let config = configuration(alloc, variables, profiles, selected, sleep, service)?;
-    let chain = chain_over(alloc, config, region, custom)?;
+        calls,
+    } = chain_of_script(alloc, script, custom)?;
     cached_over(alloc, &chain, devices, calls)
 }
 

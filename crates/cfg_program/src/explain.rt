@@ -10,10 +10,9 @@ ghost use Rattle.cfg_program.specs.Calls.{IsFresh};
 ghost use Rattle.cfg_program.specs.Explained.{entry_line, entry_lines, AreMembers, IsExplained, Explains, ExplainAnswers};
 
 use crate::causes::Below;
-use crate::configuration::configuration;
 use crate::lines::{LineForm, write_number, write_word};
 use crate::outcome::{Answered, tell};
-use crate::resolve::chain_over;
+use crate::resolve::{ScriptedCalls, chain_of_script};
 use cfg_chain::DefaultCredentialsChain;
 use cfg_explain::{kind_of, owners};
 use cfg_providers::CustomSource;
@@ -33,18 +32,11 @@ pub fn explain(
     requires { AllFit (lists_of (plain script)) }
     ensures { IfOk result (λ a. ExplainAnswers (named_sources value custom.items) (plain script) a.is_ok a.lines.items) }
 {
-    let Script {
-        variables,
-        profiles,
-        selected,
-        region,
-        sleep,
-        service,
-        calls: _,
+    let ScriptedCalls {
+        chain,
         devices,
-    } = script;
-    let config = configuration(alloc, variables, profiles, selected, sleep, service)?;
-    let chain = chain_over(alloc, config, region, custom)?;
+        calls: _,
+    } = chain_of_script(alloc, script, custom)?;
     explain_over(alloc, &chain, devices)
 }
 

@@ -9,7 +9,7 @@ ghost use Rattle.cfg_chain.specs.profile.Plans.{key_of};
 ghost use Rattle.cfg_script.specs.Script.{plain};
 ghost use Rattle.cfg_script.specs.Devices.{lists_of};
 ghost use Rattle.cfg_program.specs.Why.{told_as};
-ghost use Rattle.cfg_program.specs.Calls.{region_of, in_region, IsMade, MakesCall, MakesCalls, AnswersOver, Answers};
+ghost use Rattle.cfg_program.specs.Calls.{region_of, in_region, configuration_of, IsMade, MakesCall, MakesCalls, AnswersOver, Answers};
 
 use crate::configuration::{configuration, region_named};
 use crate::lines::LineForm;
@@ -24,6 +24,17 @@ use cfg_types::{OutOfMemory, Outcome};
 use cfg_world::{DeviceLists, Devices, ScriptDevices, World};
 use std::alloc::Global;
 
+/// What a script has for calls of a chain.
+#[derive(Drop)]
+pub(crate) struct ScriptedCalls {
+    /// The chain that is called.
+    pub(crate) chain: DefaultCredentialsChain,
+    /// What its devices answer.
+    pub(crate) devices: DeviceLists,
+    /// How many calls are made.
+    pub(crate) calls: u64,
+}
+
 /// Makes the calls that the script describes: over the chain with the script's configuration and the
 /// caller's own sources, and over the devices with the script's answers. Their lines have this form. `OutOfMemory`
 /// where memory runs out.
@@ -35,6 +46,25 @@ pub fn resolve(
 ) -> Result<Answered, OutOfMemory>
     requires { AllFit (lists_of (plain script)) }
     ensures { IfOk result (λ a. Answers (named_sources value custom.items) form (plain script) a.is_ok a.lines.items) }
+{
+    let ScriptedCalls {
+        chain,
+        devices,
+        calls,
+    } = chain_of_script(alloc, script, custom)?;
+    answer_over(alloc, &chain, devices, calls, form)
+}
+
+/// The default chain with the script's configuration and the caller's own sources, and the script's answers and number
+/// of calls. Nothing is asked. `OutOfMemory` where memory runs out.
+pub(crate) fn chain_of_script(
+    alloc: Global,
+    script: Script,
+    custom: Vec<CustomSource>,
+) -> Result<ScriptedCalls, OutOfMemory>
+    ensures chain { IfOk result (λ s. chain_of value repeated s.chain ≡ with_sources (configuration_of (plain script)) (named_sources value custom.items)) }
+    ensures devices { IfOk result (λ s. s.devices ≡ lists_of (plain script)) }
+    ensures calls { IfOk result (λ s. s.calls ≡ script.calls) }
 {
     let Script {
         variables,
@@ -48,7 +78,11 @@ pub fn resolve(
     } = script;
     let config = configuration(alloc, variables, profiles, selected, sleep, service)?;
     let chain = chain_over(alloc, config, region, custom)?;
-    answer_over(alloc, &chain, devices, calls, form)
+    Ok(ScriptedCalls {
+        chain,
+        devices,
+        calls,
+    })
 }
 
 /// The default chain of this configuration, in the region of this name, or in none, with these sources. Nothing is
