@@ -110,9 +110,7 @@ fn run_with<R: AllocGlobal + Threads + Wait + Sync + Files + Clock, S: Source, K
     let mut world = World::new(alloc, LocalDevices::new(alloc, rt));
     let ended = match shared_command_of(arguments) {
         Some(_) => run_shared(rt, alloc, arguments, source, sink, custom),
-        None => run(
-            alloc, arguments, source, sink, variables, &mut world, custom,
-        ),
+        None => run(arguments, source, sink, variables, &mut world, custom),
     };
     Ok(ended)
 }

@@ -1,6 +1,6 @@
 //! The program `caller`: a caller of the default chain, as one is written. It makes three calls over devices of
 //! its own, and writes a line for each: whose credentials the call gave, what it asked, and what an error comes
-//! of.
+//! of. Behind them stands a line for each other use.
 #![tactic(auto)]
 
 mod calls;
@@ -12,18 +12,18 @@ mod lines;
 mod receipts;
 mod region;
 mod source;
-#[cfg(test)]
-mod tests;
 mod threads;
+mod uses;
 
 use calls::report;
 use std::process::ExitCode;
+use uses::uses;
 
 fn main(rt: HostRuntime) -> ExitCode {
-    let Ok(lines) = report(rt.alloc()) else {
+    let (Ok(calls), Ok(uses)) = (report(rt.alloc()), uses(&rt, rt.alloc())) else {
         return ExitCode::FAILURE;
     };
-    match rt.print(lines.as_str()) {
+    match print!(rt; "{calls}{uses}") {
         Ok(()) => ExitCode::SUCCESS,
         Err(_) => ExitCode::FAILURE,
     }

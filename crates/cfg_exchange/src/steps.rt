@@ -4,6 +4,6 @@ pub use crate::container::{
     ContainerSettings, ContainerUri, DEFAULT_CONNECT_TIMEOUT, DEFAULT_READ_TIMEOUT,
     container_credentials, container_uri, follow_container,
 };
-pub use crate::full_uri::{FullUri, read_full_uri};
+pub use crate::full_uri::FullUri;
 pub use crate::lifetime::number;
 pub use crate::reading::is_success;

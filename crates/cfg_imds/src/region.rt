@@ -48,7 +48,7 @@ fn region_of_text(
 
 /// The region of the machine: the text at `/latest/meta-data/placement/region`, as it stands. None where
 /// metadata is switched off, and nothing is asked then; none, too, after each error but that memory ran
-/// out, which is a stop. What is kept is as [`follow_get`] leaves it, and as it was where metadata
+/// out, which is a stop. What is kept is as [`crate::imds::Client::get`] leaves it, and as it was where metadata
 /// is switched off. After a stop it is as it was, or as a settle or a get that came to its end left it.
 #[tactic(auto, using(crate::proofs::Located::located_steps), unfolding(crate::specs::Regions::region))]
 pub fn follow_region<A: Asking>(

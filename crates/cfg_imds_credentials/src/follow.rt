@@ -153,7 +153,6 @@ fn answer_refusal<P: Keeper, A: Asking>(
 /// those that stand there.
 #[tactic(auto, using(cfg_kept::proofs::HoldingSteps::holding_steps), unfolding(crate::specs::Metadata::metadata))]
 pub fn follow_metadata<P: Keeper, A: Asking>(
-    alloc: Global,
     disabled: bool,
     client: &Client,
     role: &Option<Text>,
@@ -165,6 +164,7 @@ pub fn follow_metadata<P: Keeper, A: Asking>(
         asking.old (P.holdings keeper.old) asking.new (P.holdings keeper.new) result }
     ensures key { P.key_held keeper.new ≡ P.key_held keeper.old }
 {
+    let alloc = client.alloc();
     match retrieve_unless_disabled(alloc, disabled, client, role, place, keeper, asking)? {
         Ok(retrieved) => keep_retrieved(alloc, place, retrieved, keeper, asking),
         Err(error) => answer_refusal(alloc, place, error, keeper, asking),

@@ -57,7 +57,6 @@ use std::alloc::Global;
 /// `local` alone asks the world, whose journal gains its questions; without it `env` is left aside, and the world stays
 /// as it was.
 pub fn run<S: Source, K: Sink, D: Devices>(
-    alloc: Global,
     arguments: &[String],
     source: &mut S,
     sink: &mut K,
@@ -79,6 +78,7 @@ pub fn run<S: Source, K: Sink, D: Devices>(
         (command_named (map (λ a. string_bytes a) arguments.now)) world.old world.new result }
     ensures comes { IsTrue (comes result) }
 {
+    let alloc = *env.allocator();
     match command_of(arguments) {
         None => Status::UnknownCommand,
         Some(Command::Help) => tell(sink, HELP),

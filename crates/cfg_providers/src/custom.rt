@@ -42,9 +42,8 @@ pub struct CustomSource {
     pub provider: CustomProvider,
 }
 
-/// The last of these sources that has the name, ASCII case of letters apart. Every other byte counts,
-/// blanks too.
-pub fn custom_source<'a>(sources: &'a [CustomSource], name: &Text) -> Option<&'a CustomSource>
+// The last of these sources that has the name.
+fn custom_source<'a>(sources: &'a [CustomSource], name: &Text) -> Option<&'a CustomSource>
     ensures { option_map (λ s. (named value s.now).1) result ≡ last_named name.now (map (named value) sources.now) }
 {
     let mut found = None;
@@ -56,8 +55,9 @@ pub fn custom_source<'a>(sources: &'a [CustomSource], name: &Text) -> Option<&'a
     found
 }
 
-/// What the source of this name answers, where there is one, by the rule of [`custom_source`]. None
-/// where there is none. An error is the source's own, or `OutOfMemory` where memory runs out.
+/// What the last of these sources that has the name answers, ASCII case of letters apart. Every other byte
+/// counts, blanks too. None where no source has it. An error is the source's own, or `OutOfMemory` where
+/// memory runs out.
 pub fn provide_by_name(
     sources: &[CustomSource],
     name: &Text,

@@ -3,7 +3,7 @@
 
 pub use crate::assume_role::follow_role_chain;
 pub use crate::credential_process::follow_credential_process;
-pub use crate::custom::{answer_of, custom_source, names_of, provide_by_name};
+pub use crate::custom::{answer_of, names_of, provide_by_name};
 pub use crate::environment::credentials::{environment_credentials, follow_environment};
 pub use crate::session_name::session_name;
 pub use crate::sts::reply_credentials;

@@ -339,7 +339,7 @@ fn ask_metadata<P: Keeper, A: Asking>(
     ensures key { P.key_held keeper.new ≡ P.key_held keeper.old }
 {
     let disabled = is_disabled(call.config.env());
-    follow_metadata(call.alloc, disabled, client, &None, place, keeper, asking)
+    follow_metadata(disabled, client, &None, place, keeper, asking)
 }
 
 /// A container's credentials, at the address that the variables name. There is a resolver, 2 seconds to

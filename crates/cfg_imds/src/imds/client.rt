@@ -221,6 +221,11 @@ impl Client {
         }
     }
 
+    /// The allocator that the client takes memory from.
+    pub fn alloc(&self) -> Global {
+        self.alloc
+    }
+
     /// A builder of a client, as [`Builder::new`] says. `OutOfMemory` where memory runs out.
     pub fn builder(alloc: Global) -> Result<Builder, OutOfMemory>
         ensures { IfOk result (λ b. setup_of repeated b ≡ default_setup) }

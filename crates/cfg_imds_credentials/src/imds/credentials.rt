@@ -94,7 +94,6 @@ impl ImdsCredentialsProvider {
         ensures key { P.key_held keeper.new ≡ P.key_held keeper.old }
     {
         follow_metadata(
-            self.alloc,
             self.disabled,
             client,
             &self.role,

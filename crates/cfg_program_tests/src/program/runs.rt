@@ -53,7 +53,6 @@ fn run_over<S: Source>(
     let variables = variables(alloc)?;
     let custom = vec![in alloc; own_source(alloc, "Own")?]?;
     let status = run(
-        alloc,
         words.as_slice(),
         source,
         &mut sink,
